@@ -1,0 +1,5 @@
+.PHONY: test
+
+# The gate, as CI runs it.
+test:
+	.ci/run

@@ -1,0 +1,35 @@
+-- The number and the values that document 01 gives to each case of an answer. Every promise about an answer goes through these definitions.
+use Prim.Native.Nat.{ℕ}
+use Rattle.model.specs.declared.Refusal.{Refusal}
+use Rattle.model.specs.declared.Refusal.the-variants.{Directory, LabelRow, RegisterRecord, StateRecord, NodeRecord, NodeUse, Depth, Shape, ChildLabel, AssignFlow, GotoFlow, FallFlow, NoPort, Area, CycleCount}
+use Rattle.model.specs.declared.Answer.{Answer}
+use Rattle.model.specs.declared.Answer.the-variants.{Accepted, Refused}
+
+-- 01, 'When the box says no': the table's first column
+abbrev pub numberOf : Refusal → ℕ
+numberOf Directory = 1
+numberOf LabelRow = 2
+numberOf RegisterRecord = 3
+numberOf StateRecord = 4
+numberOf NodeRecord = 5
+numberOf NodeUse = 6
+numberOf Depth = 7
+numberOf Shape = 8
+numberOf ChildLabel = 9
+numberOf AssignFlow = 10
+numberOf GotoFlow = 11
+numberOf FallFlow = 12
+numberOf NoPort = 13
+numberOf Area = 14
+numberOf CycleCount = 15
+
+-- what the host is given
+pub record Numbers : Type 0 where
+  pub number : ℕ
+  pub place : ℕ
+  pub count : ℕ
+
+-- "An acceptance is number 0, place 0." "On a refusal every count answered .. is 0."
+abbrev pub numbersOf : Answer → Numbers
+numbersOf (Accepted count) = record { number = 0; place = 0; count = count }
+numbersOf (Refused refusal place) = record { number = numberOf refusal; place = place; count = 0 }

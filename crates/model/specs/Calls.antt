@@ -1,0 +1,112 @@
+-- 01, 'A cycle' and 'When the box says no': the four calls. For each, one function from everything lent and given to the answer and every byte of the
+-- areas afterwards, refusals included. The contracts of the exported functions are equations with these.
+use Prim.Native.Nat.{ℕ, _*_}
+use mathlib.Core.Bool.{Bool, true, false, _&&_, cond}
+use mathlib.Core.List.{List}
+use lib.Dec.{leb, ltb, eqb}
+use lib.ListN.{length, set}
+use Rattle.model.specs.declared.Found.{Found}
+use Rattle.model.specs.declared.Found.the-variants.{At, Nowhere}
+use Rattle.model.specs.declared.Refusal.the-variants.{NoPort, Area, CycleCount}
+use Rattle.model.specs.declared.Answer.{Answer}
+use Rattle.model.specs.declared.Answer.the-variants.{Accepted, Refused}
+use Rattle.model.specs.Limits.{cyclesMax, wordLength}
+use Rattle.model.specs.Indices.{lowestFailing}
+use Rattle.model.specs.Image.{Design, designOf}
+use Rattle.model.specs.States.{isPort}
+use Rattle.model.specs.Verdict.{verdict, refusedAt, atZeroUnless, _before_}
+use Rattle.model.specs.Values.{wordsOf, bytesOf}
+use Rattle.model.specs.Machine.{Areas, resetAreas, targetSound, afterCycles}
+
+-- the bytes of the two areas that the host lends
+pub record Lent : Type 0 where
+  pub registers : List ℕ
+  pub targets : List ℕ
+
+-- what a call leaves: its answer, and every byte of the two areas
+pub record Left : Type 0 where
+  pub answer : Answer
+  pub lent : Lent
+
+-- On an acceptance the areas are as the call makes them. On a refusal "No lent byte changes."
+abbrev pub leaves : Answer → Lent → Lent → Left
+leaves (Accepted count) lent made = record { answer = Accepted count; lent = made }
+leaves (Refused refusal place) lent made = record { answer = Refused refusal place; lent = lent }
+
+module _ (d : Design) where
+  -- "registers, 4 bytes each, and targets, one byte per state"
+  abbrev pub registerAreaKept : List ℕ → Bool
+  registerAreaKept registers = eqb (length registers) (wordLength * length (d .registers))
+
+  abbrev pub targetAreaKept : List ℕ → Bool
+  targetAreaKept targets = eqb (length targets) (length (d .states))
+
+  unfoldable pub registerAreaAnswer : List ℕ → Answer
+  registerAreaAnswer registers = refusedAt Area (atZeroUnless (registerAreaKept registers))
+
+  -- refusal 14: "a wrong length comes first, with place 0 .. then an unsound target, at the lowest state"
+  unfoldable pub lengthAnswer : Lent → Answer
+  lengthAnswer lent = refusedAt Area (atZeroUnless (registerAreaKept (lent .registers) && targetAreaKept (lent .targets)))
+
+  unfoldable pub targetsAnswer : Lent → Answer
+  targetsAnswer lent = refusedAt Area (lowestFailing (targetSound d (lent .targets)) (length (d .states)))
+
+  -- refusal 13: "port write: no such register, or inner"; "the place is the register number given"
+  unfoldable pub isWritable : ℕ → Bool
+  isWritable r = ltb r (length (d .registers)) && isPort d r
+
+  unfoldable pub portAnswer : ℕ → Answer
+  portAnswer r = refusedAt NoPort (cond (isWritable r) Nowhere (At r))
+
+  -- the values of lent areas, and the bytes of values
+  unfoldable pub areasOf : Lent → Areas
+  areasOf lent = record { registers = wordsOf (length (d .registers)) (lent .registers); targets = lent .targets }
+
+unfoldable pub lentOf : Areas → Lent
+lentOf areas = record { registers = bytesOf (areas .registers); targets = areas .targets }
+
+-- refusal 15: "more than 1,000,000 cycles"
+unfoldable pub cyclesAnswer : ℕ → Answer
+cyclesAnswer n = refusedAt CycleCount (atZeroUnless (leb n cyclesMax))
+
+-- check: "every call makes the image checks 1 to 12 first"
+unfoldable pub check : List ℕ → Answer
+check image = verdict image
+
+module _ (image : List ℕ) (lent : Lent) where
+  -- "A call that overwrites whole areas .. judges only their lengths."
+  unfoldable pub resetAnswer : Answer
+  resetAnswer = verdict image before lengthAnswer (designOf image) lent
+
+  unfoldable pub reset : Left
+  reset = leaves resetAnswer lent (lentOf (resetAreas (designOf image)))
+
+  -- "Run answers the cycles done, always the number requested"
+  unfoldable pub runAnswer : ℕ → Answer
+  runAnswer n =
+      verdict image
+      before lengthAnswer (designOf image) lent
+      before targetsAnswer (designOf image) lent
+      before cyclesAnswer n
+      before Accepted n
+
+  unfoldable pub run : ℕ → Left
+  run n = leaves (runAnswer n) lent (lentOf (afterCycles (designOf image) n (areasOf (designOf image) lent)))
+
+-- port write: "it takes the register area only"
+pub record LeftRegisters : Type 0 where
+  pub answer : Answer
+  pub registers : List ℕ
+
+abbrev pub leavesRegisters : Answer → List ℕ → List ℕ → LeftRegisters
+leavesRegisters (Accepted count) registers made = record { answer = Accepted count; registers = made }
+leavesRegisters (Refused refusal place) registers made = record { answer = Refused refusal place; registers = registers }
+
+module _ (image registers : List ℕ) (r v : ℕ) where
+  -- "port write judges 14 before 13"
+  unfoldable pub writePortAnswer : Answer
+  writePortAnswer = verdict image before registerAreaAnswer (designOf image) registers before portAnswer (designOf image) r
+
+  -- "An accepted port write sets its register to its value and changes nothing else."
+  unfoldable pub writePort : LeftRegisters
+  writePort = leavesRegisters writePortAnswer registers (bytesOf (set (wordsOf (length (designOf image .registers)) registers) r v))

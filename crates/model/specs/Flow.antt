@@ -1,0 +1,56 @@
+-- 01, 'Shape and flow', the flow rules: refusals 10 to 12, "one pass where the lowest node counts".
+use Prim.Native.Nat.{ℕ}
+use mathlib.Core.Bool.{Bool, true, false, cond}
+use mathlib.Core.List.{List, [], _∷_, _++_, map}
+use lib.Dec.{ltb}
+use lib.ListN.{length}
+use Rattle.model.specs.declared.Refusal.{Refusal}
+use Rattle.model.specs.declared.Refusal.the-variants.{AssignFlow, GotoFlow, FallFlow}
+use Rattle.model.specs.declared.Answer.{Answer}
+use Rattle.model.specs.declared.Answer.the-variants.{Accepted, Refused}
+use Rattle.model.specs.Indices.{joinBelow}
+use Rattle.model.specs.Image.{Design}
+use Rattle.model.specs.Lattice.{allFlowTo, registerLabel, stateLabel}
+use Rattle.model.specs.Trees.{Expr, Cmd, skip, assign, sequence, fall, goto, branch, bodyOf, registersRead}
+
+-- the refusal at a node, unless its rule holds
+abbrev pub refusedUnless : Bool → Refusal → ℕ → List Answer
+refusedUnless true refusal n = []
+refusedUnless false refusal n = Refused refusal n ∷ []
+
+module _ (d : Design) where
+  -- the labels of the registers that an expression reads
+  unfoldable pub labelsRead : Expr → List ℕ
+  labelsRead e = map (registerLabel d) (registersRead e)
+
+  -- Every flow fault of a command of state s, in the order in which the body is written. 01: "The context of a node is its state's label and the
+  -- labels of all registers read in the conditions of the ifs around it."
+  module _ (s : ℕ) where
+    unfoldable pub flowFaults : List ℕ → Cmd → List Answer
+    flowFaults context (skip n) = []
+    -- "Assign: the context and each register read flow to the label written."
+    flowFaults context (assign n r e) = refusedUnless (allFlowTo (d .rows) (context ++ labelsRead e) (registerLabel d r)) AssignFlow n
+    flowFaults context (sequence n p q) = flowFaults context p ++ flowFaults context q
+    -- "Fall: the context flows to the own state's label."
+    flowFaults context (fall n) = refusedUnless (allFlowTo (d .rows) context (stateLabel d s)) FallFlow n
+    -- "Goto: the context flows to the named state's label."
+    flowFaults context (goto n t) = refusedUnless (allFlowTo (d .rows) context (stateLabel d t)) GotoFlow n
+    flowFaults context (branch n e p q) = flowFaults (context ++ labelsRead e) p ++ flowFaults (context ++ labelsRead e) q
+
+    -- those of the whole body, whose context is the state's label
+    unfoldable pub stateFlowFaults : List Answer
+    stateFlowFaults = flowFaults (stateLabel d s ∷ []) (bodyOf d s)
+
+-- the refusal at the lower place
+unfoldable pub nearer : Answer → Answer → Answer
+nearer (Accepted count) other = other
+nearer (Refused refusal i) (Accepted count) = Refused refusal i
+nearer (Refused refusal i) (Refused other j) = cond (ltb j i) (Refused other j) (Refused refusal i)
+
+-- "10 to 12 are one pass where the lowest node counts"
+unfoldable pub nearest : List Answer → Answer
+nearest [] = Accepted 0
+nearest (answer ∷ more) = nearer answer (nearest more)
+
+unfoldable pub flowAnswer : Design → Answer
+flowAnswer d = nearest (joinBelow (stateFlowFaults d) (length (d .states)))

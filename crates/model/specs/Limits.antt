@@ -1,0 +1,62 @@
+-- The limits of a design table, each named once. 01: "The limits belong to the design table and are named there once."
+-- The code's associated constants of `Design` are tied to these names by proved functions.
+use Prim.Native.Nat.{ℕ, _^_}
+
+-- 01, 'The image': the directory is bytes 0 to 19
+abbrev pub directoryLength : ℕ
+directoryLength = 20
+
+-- record lengths in bytes
+abbrev pub labelLength : ℕ
+labelLength = 2
+
+abbrev pub registerLength : ℕ
+registerLength = 6
+
+abbrev pub stateLength : ℕ
+stateLength = 4
+
+abbrev pub nodeLength : ℕ
+nodeLength = 8
+
+-- the least and the greatest count of each section's records
+abbrev pub labelsMin : ℕ
+labelsMin = 1
+
+abbrev pub labelsMax : ℕ
+labelsMax = 16
+
+abbrev pub registersMax : ℕ
+registersMax = 64
+
+abbrev pub statesMin : ℕ
+statesMin = 1
+
+abbrev pub statesMax : ℕ
+statesMax = 64
+
+abbrev pub commandsMax : ℕ
+commandsMax = 1024
+
+abbrev pub expressionsMax : ℕ
+expressionsMax = 2048
+
+-- 01: "Commands and expressions nest to a depth of 64"
+abbrev pub depthMax : ℕ
+depthMax = 64
+
+-- 01, 'When the box says no': "an expression's place is 1,024 plus its number"
+abbrev pub expressionPlace : ℕ
+expressionPlace = 1024
+
+-- refusal 15: "more than 1,000,000 cycles"
+abbrev pub cyclesMax : ℕ
+cyclesMax = 1000000
+
+-- 01: "Values are 32 bits": the number of values
+abbrev pub valueCount : ℕ
+valueCount = 2 ^ 32
+
+-- the bytes that a register takes in its area
+abbrev pub wordLength : ℕ
+wordLength = 4

@@ -1,0 +1,106 @@
+-- 01, 'A cycle': evaluation, execution, reset, a goto, and one cycle with its walk.
+use Prim.Native.Nat.{ℕ, zero, suc}
+use mathlib.Core.Bool.{Bool, true, false, _&&_, _||_, not, cond}
+use mathlib.Core.List.{List, [], _∷_, map}
+use lib.Dec.{ltb, eqb}
+use lib.ListN.{length, getD, set}
+use Rattle.model.specs.declared.Ending.{Ending}
+use Rattle.model.specs.declared.Ending.the-variants.{Goto, Fall}
+use Rattle.model.specs.declared.Outcome.{Outcome}
+use Rattle.model.specs.declared.Outcome.the-variants.{Continued, Transferred}
+use Rattle.model.specs.Indices.{tabulate}
+use Rattle.model.specs.Image.{Design, Register}
+use Rattle.model.specs.States.{parent, isChild, hasChild, defaultTarget, within}
+use Rattle.model.specs.Trees.{Expr, constant, register, binary, Cmd, skip, assign, sequence, fall, goto, branch, bodyOf}
+use Rattle.model.specs.Values.{apply}
+
+-- the value of an expression
+unfoldable pub eval : List ℕ → Expr → ℕ
+eval values (constant v) = v
+eval values (register r) = getD values r 0
+eval values (binary o p q) = apply o (eval values p) (eval values q)
+
+-- what a command leaves: the registers, and what it came to
+pub record Executed : Type 0 where
+  pub registers : List ℕ
+  pub outcome : Outcome
+
+-- the second part runs where the first did not transfer
+abbrev pub unlessTransferred : Outcome → Executed → Executed → Executed
+unlessTransferred Continued first second = second
+unlessTransferred (Transferred ending) first second = first
+
+-- "A body ends by a goto, with the state it names, or by a fall, and that ending is held inside the outcome of the command."
+unfoldable pub exec : List ℕ → Cmd → Executed
+exec values (skip n) = record { registers = values; outcome = Continued }
+-- "An assignment shows at the next read."
+exec values (assign n r e) = record { registers = set values r (eval values e); outcome = Continued }
+exec values (sequence n p q) =
+    let first = exec values p in
+    let second = exec (first .registers) q in
+    unlessTransferred (first .outcome) first second
+exec values (fall n) = record { registers = values; outcome = Transferred Fall }
+exec values (goto n t) = record { registers = values; outcome = Transferred (Goto t) }
+-- "An if takes its first branch when the value is not 0"
+exec values (branch n e p q) =
+    let isZero = eqb (eval values e) 0 in
+    let taken = exec values p in
+    let other = exec values q in
+    cond isZero other taken
+
+-- "The state is two lent areas: registers .. and targets, one byte per state": their values
+pub record Areas : Type 0 where
+  pub registers : List ℕ
+  pub targets : List ℕ
+
+-- a cycle's effect, and "The walk is the list of states whose commands ran."
+pub record Cycle : Type 0 where
+  pub after : Areas
+  pub walk : List ℕ
+
+module _ (d : Design) where
+  -- "Reset writes the reset values and default children."
+  unfoldable pub resetAreas : Areas
+  resetAreas = record { registers = map (λ (r : Register). r .reset) (d .registers); targets = tabulate (defaultTarget d) (length (d .states)) }
+
+  -- "A target is a child of its state; a childless state's is its own number."
+  unfoldable pub targetSound : List ℕ → ℕ → Bool
+  targetSound targets s = isChild d s (getD targets s 0) || (not (hasChild d s) && eqb (getD targets s 0) s)
+
+  -- "sets s and all its descendants to default children"
+  unfoldable pub cleared : ℕ → List ℕ → List ℕ
+  cleared s targets = tabulate (λ q. cond (within d s q) (defaultTarget d q) (getD targets q 0)) (length targets)
+
+  -- "A goto to s sets s and all its descendants to default children, then the parent's target to s"
+  unfoldable pub goneTo : ℕ → List ℕ → List ℕ
+  goneTo s targets = set (cleared s targets) (parent d s) s
+
+  -- What follows the body of s, by how it ended; `fell` is the cycle that goes on with the target's command. "A fall runs the target's command.
+  -- A goto .. ends the cycle." A body that did not transfer, which no accepted design has, ends it too.
+  unfoldable pub afterBody : Outcome → ℕ → Areas → Cycle → Cycle
+  afterBody Continued s areas fell = record { after = areas; walk = s ∷ [] }
+  afterBody (Transferred (Goto t)) s areas fell = record { after = record { registers = areas .registers; targets = goneTo t (areas .targets) }; walk = s ∷ [] }
+  afterBody (Transferred Fall) s areas fell = record { after = fell .after; walk = s ∷ fell .walk }
+
+  -- The command of s runs, and what follows it. A target has a higher number than its state, so no more bodies run than there are states.
+  unfoldable pub runFrom : ℕ → ℕ → Areas → Cycle
+  runFrom zero s areas = record { after = areas; walk = [] }
+  runFrom (suc bodies) s areas =
+      let executed = exec (areas .registers) (bodyOf d s) in
+      let left : Areas = record { registers = executed .registers; targets = areas .targets } in
+      let fell = runFrom bodies (getD (areas .targets) s 0) left in
+      afterBody (executed .outcome) s left fell
+
+  -- "A cycle runs the root's command."
+  unfoldable pub cycle : Areas → Cycle
+  cycle areas = runFrom (length (d .states)) 0 areas
+
+  -- n cycles, "each by the step rules from the areas before it"
+  unfoldable pub cycles : ℕ → Areas → List Cycle
+  cycles zero areas = []
+  cycles (suc n) areas = let first = cycle areas in first ∷ cycles n (first .after)
+
+  -- "the areas after the last are what the call leaves"
+  unfoldable pub afterCycles : ℕ → Areas → Areas
+  afterCycles zero areas = areas
+  afterCycles (suc n) areas = afterCycles n (cycle areas .after)

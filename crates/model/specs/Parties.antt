@@ -1,0 +1,149 @@
+-- 01, 'What a party sees': lists of calls, what remains of them at a level, the view, and demand 3 as one statement about whole lists.
+-- The calls are made by the very definitions that the exported functions' contracts cite.
+use Prim.Native.Nat.{ℕ, zero, suc, _*_, _<_}
+use mathlib.Core.Path.{_≡_}
+use mathlib.Core.Bool.{Bool, true, false, cond}
+use mathlib.Core.List.{List, [], _∷_, _++_, map}
+use lib.ListN.{length, getD}
+use Rattle.model.specs.declared.Answer.{Answer}
+use Rattle.model.specs.declared.Answer.the-variants.{Accepted, Refused}
+use Rattle.model.specs.Limits.{wordLength}
+use Rattle.model.specs.Indices.{joinBelow, tabulate}
+use Rattle.model.specs.Image.{Design, designOf}
+use Rattle.model.specs.Lattice.{flowsTo, registerLabel, stateLabel}
+use Rattle.model.specs.Verdict.{verdict}
+use Rattle.model.specs.Values.{wordsOf, bytesOf}
+use Rattle.model.specs.Machine.{Cycle, cycles}
+use Rattle.model.specs.Calls.{Lent, Left, LeftRegisters, areasOf, reset, writePort, run}
+
+-- "lists of three calls: reset, port write and run", "with any register numbers, values and cycle counts"
+pub data Call : Type 0 where
+  resets : Call
+  writes : ℕ → ℕ → Call
+  runs : ℕ → Call
+
+-- what a call leaves, made on the areas as they are lent
+abbrev pub withTargets : LeftRegisters → List ℕ → Left
+withTargets left targets = record { answer = left .answer; lent = record { registers = left .registers; targets = targets } }
+
+unfoldable pub perform : List ℕ → Lent → Call → Left
+perform image lent resets = reset image lent
+perform image lent (writes r v) = withTargets (writePort image (lent .registers) r v) (lent .targets)
+perform image lent (runs n) = run image lent n
+
+-- What an accepted call does, for the comparison: a run of n counts as n cycles. A refused call does nothing.
+pub data Event : Type 0 where
+  wasReset : Event
+  wasWritten : ℕ → ℕ → Event
+  cycled : Cycle → Event
+
+unfoldable pub eventsOf : Answer → List ℕ → Lent → Call → List Event
+eventsOf (Refused refusal place) image lent call = []
+eventsOf (Accepted count) image lent resets = wasReset ∷ []
+eventsOf (Accepted count) image lent (writes r v) = wasWritten r v ∷ []
+eventsOf (Accepted count) image lent (runs n) = map cycled (cycles (designOf image) n (areasOf (designOf image) lent))
+
+-- "Each call finds both areas as they were left"
+unfoldable pub events : List ℕ → Lent → List Call → List Event
+events image lent [] = []
+events image lent (call ∷ more) =
+    let left = perform image lent call in
+    eventsOf (left .answer) image lent call ++ events image (left .lent) more
+
+-- the areas at the end of a list
+unfoldable pub atEnd : List ℕ → Lent → List Call → Lent
+atEnd image lent [] = lent
+atEnd image lent (call ∷ more) = atEnd image (perform image lent call .lent) more
+
+-- what one cycle shows to a party
+pub record Seen : Type 0 where
+  pub values : List ℕ
+  pub walk : List ℕ
+
+-- what remains of a list for the comparison
+pub data Remaining : Type 0 where
+  aReset : Remaining
+  aWrite : ℕ → ℕ → Remaining
+  aCycle : Remaining
+
+-- What the party at a level sees.
+module _ (d : Design) (level : ℕ) where
+  -- "at or below the level"
+  abbrev pub registerSeen : ℕ → Bool
+  registerSeen r = flowsTo (d .rows) (registerLabel d r) level
+
+  abbrev pub stateSeen : ℕ → Bool
+  stateSeen s = flowsTo (d .rows) (stateLabel d s) level
+
+  -- "the values of all registers at or below the level"
+  unfoldable pub valuesSeen : List ℕ → List ℕ
+  valuesSeen values = joinBelow (λ r. cond (registerSeen r) (getD values r 0 ∷ []) []) (length (d .registers))
+
+  -- the "walk without the states not at or below the level"
+  unfoldable pub walkSeen : List ℕ → List ℕ
+  walkSeen [] = []
+  walkSeen (s ∷ more) = cond (stateSeen s) (s ∷ walkSeen more) (walkSeen more)
+
+  -- "for each cycle in order, the values .. after it, and its walk .."
+  unfoldable pub view : List Event → List Seen
+  view [] = []
+  view (wasReset ∷ more) = view more
+  view (wasWritten r v ∷ more) = view more
+  view (cycled c ∷ more) = record { values = valuesSeen (c .after .registers); walk = walkSeen (c .walk) } ∷ view more
+
+  -- "with refused calls and port writes to registers not at or below the level struck out, the same resets, port writes (register and value) and cycles
+  -- remain"
+  unfoldable pub remaining : List Event → List Remaining
+  remaining [] = []
+  remaining (wasReset ∷ more) = aReset ∷ remaining more
+  remaining (wasWritten r v ∷ more) = cond (registerSeen r) (aWrite r v ∷ remaining more) (remaining more)
+  remaining (cycled c ∷ more) = aCycle ∷ remaining more
+
+  -- registers that are not seen take any values
+  unfoldable pub givenUnseen : (ℕ → ℕ) → List ℕ → List ℕ
+  givenUnseen given values = tabulate (λ r. cond (registerSeen r) (getD values r 0) (given r)) (length (d .registers))
+
+-- "each has its own two areas of the right lengths"
+pub record RightLengths (d : Design) (lent : Lent) : Type 0 where
+  pub registers : length (lent .registers) ≡ wordLength * length (d .registers)
+  pub targets : length (lent .targets) ≡ length (d .states)
+
+-- One use of the box: two areas, the values given to registers, and a list of calls of any length.
+pub record Use (d : Design) : Type 0 where
+  pub lent : Lent
+  pub lengths : RightLengths d lent
+  pub given : ℕ → ℕ
+  pub calls : List Call
+
+module _ (image : List ℕ) (level : ℕ) (u : Use (designOf image)) where
+  -- "Each starts with a reset; then the registers not at or below the level are given any values"
+  unfoldable pub start : Lent
+  start =
+      let d = designOf image in
+      let left = reset image (u .lent) .lent in
+      record { registers = bytesOf (givenUnseen d level (u .given) (wordsOf (length (d .registers)) (left .registers))); targets = left .targets }
+
+  -- "then come the calls of the list"
+  unfoldable pub history : List Event
+  history = events image start (u .calls)
+
+  unfoldable pub remains : List Remaining
+  remains = remaining (designOf image) level history
+
+  unfoldable pub views : List Seen
+  views = view (designOf image) level history
+
+  unfoldable pub seenAtEnd : List ℕ
+  seenAtEnd = valuesSeen (designOf image) level (wordsOf (length (designOf image .registers)) (atEnd image start (u .calls) .registers))
+
+-- Demand 3: "Both lists use one accepted image"; "Matching lists have equal views, and equal registers at or below the level at their end."
+-- "a level is one of the labels"
+abbrev pub Independent : Type 0
+Independent =
+    (image : List ℕ)
+    → verdict image ≡ Accepted 0
+    → (level : ℕ)
+    → level < length (designOf image .rows)
+    → (one other : Use (designOf image))
+    → remains image level one ≡ remains image level other
+    → (views image level one ≡ views image level other) × (seenAtEnd image level one ≡ seenAtEnd image level other)

@@ -1,0 +1,60 @@
+-- 01, the last paragraph of 'The image': the tree of states. And refusals 3, 4 and 9, which judge a register or a state by its record.
+use Prim.Native.Nat.{ℕ, zero, suc}
+use mathlib.Core.Bool.{Bool, true, false, _&&_, _||_, not}
+use lib.Dec.{leb, ltb, eqb}
+use lib.ListN.{length}
+use Rattle.model.specs.declared.Found.{Found}
+use Rattle.model.specs.declared.Found.the-variants.{At, Nowhere}
+use Rattle.model.specs.Indices.{lowest, someBelow, recursively}
+use Rattle.model.specs.Image.{Design, registerAt, stateAt}
+use Rattle.model.specs.Lattice.{flowsTo, stateLabel}
+
+-- what was found, else s
+abbrev pub foundOr : ℕ → Found → ℕ
+foundOr s (At q) = q
+foundOr s Nowhere = s
+
+module _ (d : Design) where
+  abbrev pub parent : ℕ → ℕ
+  parent s = stateAt d s .parent
+
+  -- "kind (0 inner, 1 port)"
+  abbrev pub isPort : ℕ → Bool
+  isPort r = eqb (registerAt d r .kind) 1
+
+  -- refusal 3: "register label or kind"
+  unfoldable pub registerKept : ℕ → Bool
+  registerKept r = ltb (registerAt d r .label) (length (d .rows)) && leb (registerAt d r .kind) 1
+
+  -- "State 0 is the root: parent 0, label 0. Any other parent has a lower number than its child."
+  unfoldable pub parentKept : ℕ → Bool
+  parentKept zero = eqb (parent 0) 0 && eqb (stateLabel d 0) 0
+  parentKept (suc s) = ltb (parent (suc s)) (suc s)
+
+  -- refusal 4: "state's parent, label or command number"
+  unfoldable pub stateKept : ℕ → Bool
+  stateKept s = parentKept s && ltb (stateLabel d s) (length (d .rows)) && ltb (stateAt d s .command) (length (d .commands))
+
+  -- refusal 9: "Every child's label is at or above its parent's." The root is nobody's child.
+  unfoldable pub childLabelKept : ℕ → Bool
+  childLabelKept zero = true
+  childLabelKept (suc s) = flowsTo (d .rows) (stateLabel d (parent (suc s))) (stateLabel d (suc s))
+
+  -- state q is a child of s
+  unfoldable pub isChild : ℕ → ℕ → Bool
+  isChild s q = not (eqb q 0) && ltb q (length (d .states)) && eqb (parent q) s
+
+  unfoldable pub hasChild : ℕ → Bool
+  hasChild s = someBelow (isChild s) (length (d .states))
+
+  -- "The default child is the lowest-numbered child"; "a childless state's [target] is its own number"
+  unfoldable pub defaultTarget : ℕ → ℕ
+  defaultTarget s = foundOr s (lowest (isChild s) (length (d .states)))
+
+  -- "Siblings share a parent; the root is nobody's sibling." A state counts here as its own sibling, as a goto may name it.
+  unfoldable pub siblingOrSelf : ℕ → ℕ → Bool
+  siblingOrSelf s t = not (eqb s 0) && not (eqb t 0) && eqb (parent s) (parent t)
+
+  -- state q is s or a descendant of s: q is s, or q is a child of such a state
+  unfoldable pub within : ℕ → ℕ → Bool
+  within s = recursively false (λ q above. eqb q s || (not (eqb q 0) && above (parent q)))
