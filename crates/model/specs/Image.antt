@@ -1,6 +1,6 @@
 -- 01, 'The image': bytes to sections, sections to records. Nothing else in the definitions knows where a byte stands.
 -- An image is the list of its bytes; a field is little-endian; past the end every byte reads as 0.
-use Prim.Native.Nat.{ℕ, zero, suc, _+_, _*_, _/_, _%_}
+use Prim.Native.Nat.{ℕ, zero, suc, _+_, _*_, _/_, _%_, _<_}
 use mathlib.Core.Bool.{Bool, _&&_}
 use mathlib.Core.List.{List, [], _∷_}
 use lib.Dec.{leb, eqb}
@@ -10,6 +10,10 @@ use Rattle.model.specs.Limits.{directoryLength, labelLength, registerLen
 -- "fields little-endian"
 abbrev pub byteAt : List ℕ → ℕ → ℕ
 byteAt bytes i = getD bytes i 0
+
+-- An image is a list of bytes. The definitions read any list of numbers; a slice of the code holds bytes.
+abbrev pub AreBytes : List ℕ → Type 0
+AreBytes bytes = (i : ℕ) → byteAt bytes i < 256
 
 abbrev pub word16At : List ℕ → ℕ → ℕ
 word16At bytes i = byteAt bytes i + 256 * byteAt bytes (i + 1)

@@ -10,6 +10,7 @@ pub mod Nodes
 pub mod Shape
 pub mod Flow
 pub mod Answers
+pub mod Rules
 pub mod Verdict
 pub mod Values
 pub mod Machine

@@ -58,6 +58,11 @@ pub record Cycle : Type 0 where
   pub after : Areas
   pub walk : List ℕ
 
+-- the areas after the last of some cycles, which began from the areas given
+unfoldable pub afterLast : Areas → List Cycle → Areas
+afterLast areas [] = areas
+afterLast areas (c ∷ more) = afterLast (c .after) more
+
 module _ (d : Design) where
   -- "Reset writes the reset values and default children."
   unfoldable pub resetAreas : Areas
@@ -102,5 +107,4 @@ module _ (d : Design) where
 
   -- "the areas after the last are what the call leaves"
   unfoldable pub afterCycles : ℕ → Areas → Areas
-  afterCycles zero areas = areas
-  afterCycles (suc n) areas = afterCycles n (cycle areas .after)
+  afterCycles n areas = afterLast areas (cycles n areas)

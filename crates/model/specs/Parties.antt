@@ -9,7 +9,7 @@ use Rattle.model.specs.declared.Answer.{Answer}
 use Rattle.model.specs.declared.Answer.the-variants.{Accepted, Refused}
 use Rattle.model.specs.Limits.{wordLength}
 use Rattle.model.specs.Indices.{joinBelow, tabulate}
-use Rattle.model.specs.Image.{Design, designOf}
+use Rattle.model.specs.Image.{Design, AreBytes, designOf}
 use Rattle.model.specs.Lattice.{flowsTo, registerLabel, stateLabel}
 use Rattle.model.specs.Verdict.{verdict}
 use Rattle.model.specs.Values.{wordsOf, bytesOf}
@@ -141,6 +141,7 @@ module _ (image : List ℕ) (level : ℕ) (u : Use (designOf image)) where
 abbrev pub Independent : Type 0
 Independent =
     (image : List ℕ)
+    → AreBytes image
     → verdict image ≡ Accepted 0
     → (level : ℕ)
     → level < length (designOf image .rows)

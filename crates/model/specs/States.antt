@@ -51,9 +51,9 @@ module _ (d : Design) where
   unfoldable pub defaultTarget : ℕ → ℕ
   defaultTarget s = foundOr s (lowest (isChild s) (length (d .states)))
 
-  -- "Siblings share a parent; the root is nobody's sibling." A state counts here as its own sibling, as a goto may name it.
+  -- "Siblings share a parent; the root is nobody's sibling." State t is s or a sibling of s: a child of the parent of s, which is not the root.
   unfoldable pub siblingOrSelf : ℕ → ℕ → Bool
-  siblingOrSelf s t = not (eqb s 0) && not (eqb t 0) && eqb (parent s) (parent t)
+  siblingOrSelf s t = not (eqb s 0) && isChild (parent s) t
 
   -- state q is s or a descendant of s: q is s, or q is a child of such a state
   unfoldable pub within : ℕ → ℕ → Bool

@@ -1,0 +1,3 @@
+-- The theorems about the meaning alone: the proved cases of document 01, and the laws of its definitions.
+pub mod Designs
+pub mod Cases

@@ -1,0 +1,104 @@
+-- The rules of document 01 as plain propositions. `Keeps` is what "keeps the rules" means; that the verdict accepts exactly the images that keep them is
+-- the law `verdict-exact` of `proofs/Exact.antt`.
+use Prim.Native.Nat.{ℕ, _≤_, _<_, _^_}
+use mathlib.Core.Path.{_≡_}
+use mathlib.Core.Bool.{Bool, true, false}
+use mathlib.Core.List.{List, [], _∷_, _++_}
+use lib.ListN.{length, getD}
+use Rattle.model.specs.Limits.{depthMax}
+use Rattle.model.specs.Indices.{occurrences}
+use Rattle.model.specs.Image.{Design, Node, registerAt, stateAt, commandAt, expressionAt, directoryKept, designOf}
+use Rattle.model.specs.Lattice.{flowsTo, allFlowTo, registerLabel, stateLabel}
+use Rattle.model.specs.States.{parent, hasChild, siblingOrSelf}
+use Rattle.model.specs.Kinds.{CommandKind, skips, assigns, sequences, falls, goes, branches, unknownCommand, ExpressionKind, constants, reads, unknownExpression, operates, commandKind, expressionKind}
+use Rattle.model.specs.Trees.{Cmd, skip, assign, sequence, fall, goto, branch, exprOf, cmdOf, bodyOf, exprDepth, cmdDepth}
+use Rattle.model.specs.Nodes.{commandUses, expressionUses}
+use Rattle.model.specs.Shape.{transfers}
+use Rattle.model.specs.Flow.{labelsRead}
+
+-- "i flows to j"
+abbrev pub FlowsTo : List ℕ → ℕ → ℕ → Type 0
+FlowsTo rows i j = flowsTo rows i j ≡ true
+
+-- k is a least common label above i and j
+pub record LeastAbove (rows : List ℕ) (i j k : ℕ) : Type 0 where
+  pub label : k < length rows
+  pub above-first : FlowsTo rows i k
+  pub above-second : FlowsTo rows j k
+  pub below-others : (m : ℕ) → m < length rows → FlowsTo rows i m → FlowsTo rows j m → FlowsTo rows k m
+
+-- "The label rows are a lattice with label 0 least"
+pub record IsLattice (rows : List ℕ) : Type 0 where
+  pub inside : (i : ℕ) → i < length rows → getD rows i 0 < 2 ^ length rows
+  pub reflexive : (i : ℕ) → i < length rows → FlowsTo rows i i
+  pub antisymmetric : (i j : ℕ) → i < length rows → j < length rows → FlowsTo rows i j → FlowsTo rows j i → i ≡ j
+  pub transitive : (i j k : ℕ) → i < length rows → j < length rows → k < length rows → FlowsTo rows i j → FlowsTo rows j k → FlowsTo rows i k
+  pub least : (j : ℕ) → j < length rows → FlowsTo rows 0 j
+  pub join : (i j : ℕ) → i < length rows → j < length rows → (k : ℕ) × LeastAbove rows i j k
+
+module _ (d : Design) where
+  pub record RegisterKeeps (r : ℕ) : Type 0 where
+    pub label : registerLabel d r < length (d .rows)
+    pub kind : registerAt d r .kind ≤ 1
+
+  pub record StateKeeps (s : ℕ) : Type 0 where
+    pub root-parent : s ≡ 0 → parent d s ≡ 0
+    pub root-label : s ≡ 0 → stateLabel d s ≡ 0
+    pub parent-below : (s ≡ 0 → ⊥) → parent d s < s
+    pub label : stateLabel d s < length (d .rows)
+    pub command : stateAt d s .command < length (d .commands)
+
+  -- what a node of each kind holds
+  abbrev pub CommandHolds : ℕ → CommandKind → Node → Type 0
+  CommandHolds n skips x = (x .item ≡ 0) × (x .a ≡ 0) × (x .b ≡ 0) × (x .c ≡ 0)
+  CommandHolds n assigns x = (x .item < length (d .registers)) × (x .a < length (d .expressions)) × (x .b ≡ 0) × (x .c ≡ 0)
+  CommandHolds n sequences x = (x .item ≡ 0) × (x .a < n) × (x .b < n) × (x .c ≡ 0)
+  CommandHolds n falls x = (x .item ≡ 0) × (x .a ≡ 0) × (x .b ≡ 0) × (x .c ≡ 0)
+  CommandHolds n goes x = (x .item < length (d .states)) × (x .a ≡ 0) × (x .b ≡ 0) × (x .c ≡ 0)
+  CommandHolds n branches x = (x .item ≡ 0) × (x .a < length (d .expressions)) × (x .b < n) × (x .c < n)
+  CommandHolds n unknownCommand x = ⊥
+
+  abbrev pub ExpressionHolds : ℕ → ExpressionKind → Node → Type 0
+  ExpressionHolds n constants x = (x .item ≡ 0) × (x .a ≡ 0)
+  ExpressionHolds n reads x = (x .item < length (d .registers)) × (x .a ≡ 0) × (x .b ≡ 0) × (x .c ≡ 0)
+  ExpressionHolds n (operates o) x = (x .item ≡ 0) × (x .a < n) × (x .b < n) × (x .c ≡ 0)
+  ExpressionHolds n unknownExpression x = ⊥
+
+  -- the shape rules of a command of state s
+  abbrev pub Shaped : ℕ → Cmd → Type 0
+  Shaped s (skip n) = Unit {0}
+  Shaped s (assign n r e) = Unit {0}
+  Shaped s (sequence n p q) = (transfers p ≡ false) × Shaped s p × Shaped s q
+  Shaped s (fall n) = hasChild d s ≡ true
+  Shaped s (goto n t) = siblingOrSelf d s t ≡ true
+  Shaped s (branch n e p q) = (transfers p ≡ transfers q) × Shaped s p × Shaped s q
+
+  -- the flow rules of a command of state s in a context
+  abbrev pub Flows : ℕ → List ℕ → Cmd → Type 0
+  Flows s context (skip n) = Unit {0}
+  Flows s context (assign n r e) = allFlowTo (d .rows) (context ++ labelsRead d e) (registerLabel d r) ≡ true
+  Flows s context (sequence n p q) = Flows s context p × Flows s context q
+  Flows s context (fall n) = allFlowTo (d .rows) context (stateLabel d s) ≡ true
+  Flows s context (goto n t) = allFlowTo (d .rows) context (stateLabel d t) ≡ true
+  Flows s context (branch n e p q) = Flows s (context ++ labelsRead d e) p × Flows s (context ++ labelsRead d e) q
+
+  -- the rules behind refusals 2 to 12
+  pub record DesignKeeps : Type 0 where
+    pub lattice : IsLattice (d .rows)
+    pub registers : (r : ℕ) → r < length (d .registers) → RegisterKeeps r
+    pub states : (s : ℕ) → s < length (d .states) → StateKeeps s
+    pub commands : (n : ℕ) → n < length (d .commands) → CommandHolds n (commandKind (commandAt d n .kind)) (commandAt d n)
+    pub expressions : (n : ℕ) → n < length (d .expressions) → ExpressionHolds n (expressionKind (expressionAt d n .kind)) (expressionAt d n)
+    pub commands-used : (n : ℕ) → n < length (d .commands) → occurrences n (commandUses d) ≡ 1
+    pub expressions-used : (n : ℕ) → n < length (d .expressions) → occurrences n (expressionUses d) ≡ 1
+    pub commands-depth : (n : ℕ) → n < length (d .commands) → cmdDepth (cmdOf d n) ≤ depthMax
+    pub expressions-depth : (n : ℕ) → n < length (d .expressions) → exprDepth (exprOf d n) ≤ depthMax
+    pub transferring : (s : ℕ) → s < length (d .states) → transfers (bodyOf d s) ≡ true
+    pub shaped : (s : ℕ) → s < length (d .states) → Shaped s (bodyOf d s)
+    pub child-labels : (s : ℕ) → s < length (d .states) → (s ≡ 0 → ⊥) → FlowsTo (d .rows) (stateLabel d (parent d s)) (stateLabel d s)
+    pub flowing : (s : ℕ) → s < length (d .states) → Flows s (stateLabel d s ∷ []) (bodyOf d s)
+
+-- an image keeps the rules
+pub record Keeps (image : List ℕ) : Type 0 where
+  pub directory : directoryKept image ≡ true
+  pub design : DesignKeeps (designOf image)
