@@ -1,0 +1,38 @@
+-- What holds of the areas in every run from reset, and what the list of calls needs to know of a relation between two runs.
+-- `Lists.antt` carries any such relation through whole lists of calls; `Cycle.antt` gives the one that holds.
+use Prim.Native.Nat.{ℕ, _<_}
+use mathlib.Core.Path.{_≡_}
+use mathlib.Core.Bool.{Bool, true, false, cond}
+use mathlib.Core.List.{List, map}
+use lib.ListN.{length, getD, set}
+use Rattle.model.specs.Limits.{valueCount}
+use Rattle.model.specs.Indices.{tabulate}
+use Rattle.model.specs.Image.{Design, Register}
+use Rattle.model.specs.Machine.{Areas, Cycle, resetAreas, targetSound, cycle}
+use Rattle.model.specs.Parties.{registerSeen, valuesSeen, walkSeen, givenUnseen}
+
+-- areas that an accepted run may have: the right lengths, 32-bit values, sound targets
+pub record Good (d : Design) (areas : Areas) : Type 0 where
+  pub registers-length : length (areas .registers) ≡ length (d .registers)
+  pub targets-length : length (areas .targets) ≡ length (d .states)
+  pub bounded : (r : ℕ) → getD (areas .registers) r 0 < valueCount
+  pub sound : (s : ℕ) → s < length (d .states) → targetSound d (areas .targets) s ≡ true
+
+-- the areas with a value in a register
+abbrev pub withRegister : ℕ → ℕ → Areas → Areas
+withRegister r v areas = record { registers = set (areas .registers) r v; targets = areas .targets }
+
+-- the areas after reset, with any values in the registers that are not seen
+abbrev pub startAreas : Design → ℕ → (ℕ → ℕ) → Areas
+startAreas d level given = record { registers = givenUnseen d level given (resetAreas d .registers); targets = resetAreas d .targets }
+
+-- A relation between the areas of two runs that no step of a list of calls can break, and that shows the level the same.
+pub record Bisimulation (d : Design) (level : ℕ) (Related : Areas → Areas → Type 0) : Type 0 where
+  pub good : (a b : Areas) → Related a b → Good d a
+  pub values : (a b : Areas) → Related a b → valuesSeen d level (a .registers) ≡ valuesSeen d level (b .registers)
+  pub starts : (given₁ given₂ : ℕ → ℕ) → ((r : ℕ) → given₁ r < valueCount) → ((r : ℕ) → given₂ r < valueCount) → Related (startAreas d level given₁) (startAreas d level given₂)
+  pub resets : Related (resetAreas d) (resetAreas d)
+  pub cycles : (a b : Areas) → Related a b → Related (cycle d a .after) (cycle d b .after)
+  pub walks : (a b : Areas) → Related a b → walkSeen d level (cycle d a .walk) ≡ walkSeen d level (cycle d b .walk)
+  pub writes-seen : (a b : Areas) → Related a b → (r v : ℕ) → v < valueCount → Related (withRegister r v a) (withRegister r v b)
+  pub writes-unseen : (a b : Areas) → Related a b → (r v : ℕ) → v < valueCount → registerSeen d level r ≡ false → Related (withRegister r v a) b

@@ -1,0 +1,3 @@
+-- Laws of the definitions, by file of specs/. Users cite the laws and do not unfold.
+pub mod Booleans
+pub mod Indices
