@@ -26,13 +26,17 @@ withRegister r v areas = record { registers = set (areas .registers) r v; target
 abbrev pub startAreas : Design → ℕ → (ℕ → ℕ) → Areas
 startAreas d level given = record { registers = givenUnseen d level given (resetAreas d .registers); targets = resetAreas d .targets }
 
--- A relation between the areas of two runs that no step of a list of calls can break, and that shows the level the same.
-pub record Bisimulation (d : Design) (level : ℕ) (Related : Areas → Areas → Type 0) : Type 0 where
-  pub good : (a b : Areas) → Related a b → Good d a
-  pub values : (a b : Areas) → Related a b → valuesSeen d level (a .registers) ≡ valuesSeen d level (b .registers)
-  pub starts : (given₁ given₂ : ℕ → ℕ) → ((r : ℕ) → given₁ r < valueCount) → ((r : ℕ) → given₂ r < valueCount) → Related (startAreas d level given₁) (startAreas d level given₂)
-  pub resets : Related (resetAreas d) (resetAreas d)
-  pub cycles : (a b : Areas) → Related a b → Related (cycle d a .after) (cycle d b .after)
-  pub walks : (a b : Areas) → Related a b → walkSeen d level (cycle d a .walk) ≡ walkSeen d level (cycle d b .walk)
+-- A relation between the areas of two runs, one of each of two designs, that no step of a list of calls can break, and that shows the level the same.
+pub record Bisimulation (d₁ d₂ : Design) (level : ℕ) (Related : Areas → Areas → Type 0) : Type 0 where
+  pub good : (a b : Areas) → Related a b → Good d₁ a
+  pub values : (a b : Areas) → Related a b → valuesSeen d₁ level (a .registers) ≡ valuesSeen d₂ level (b .registers)
+  pub starts :
+      (given₁ given₂ : ℕ → ℕ)
+      → ((r : ℕ) → given₁ r < valueCount)
+      → ((r : ℕ) → given₂ r < valueCount)
+      → Related (startAreas d₁ level given₁) (startAreas d₂ level given₂)
+  pub resets : Related (resetAreas d₁) (resetAreas d₂)
+  pub cycles : (a b : Areas) → Related a b → Related (cycle d₁ a .after) (cycle d₂ b .after)
+  pub walks : (a b : Areas) → Related a b → walkSeen d₁ level (cycle d₁ a .walk) ≡ walkSeen d₂ level (cycle d₂ b .walk)
   pub writes-seen : (a b : Areas) → Related a b → (r v : ℕ) → v < valueCount → Related (withRegister r v a) (withRegister r v b)
-  pub writes-unseen : (a b : Areas) → Related a b → (r v : ℕ) → v < valueCount → registerSeen d level r ≡ false → Related (withRegister r v a) b
+  pub writes-unseen : (a b : Areas) → Related a b → (r v : ℕ) → v < valueCount → registerSeen d₁ level r ≡ false → Related (withRegister r v a) b
