@@ -25,6 +25,10 @@ pub and-both : (a b : Bool) → a ≡ true → b ≡ true → (a && b) ≡ true
 and-both true b p q = q
 and-both false b p q = absurd (false≢true p)
 
+pub and-false : (a b : Bool) → a ≡ false → (a && b) ≡ false
+and-false true b p = absurd (true≢false p)
+and-false false b p = refl
+
 pub or-cases : (a b : Bool) → (a || b) ≡ true → (a ≡ true) ⊎ (b ≡ true)
 or-cases true b e = inl refl
 or-cases false b e = inr e

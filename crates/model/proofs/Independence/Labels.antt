@@ -1,0 +1,107 @@
+-- Labels at a level: what flows to a label that is seen is seen. Only the transitivity of "flows to" is used, so labels that cannot be compared are
+-- covered by themselves.
+use Prim.Native.Nat.{ℕ, suc, _<_, _≤_}
+use mathlib.Core.Path.{_≡_, refl, sym, _∙_, ap}
+use mathlib.Core.Bool.{Bool, true, false, _&&_}
+use mathlib.Core.List.{List, [], _∷_, _++_, map}
+use native.Mathlib.Omega.{arith}
+use native.Mathlib.Decide.{decLt}
+use lib.ListN.{length, getD, List·getD-eq-default}
+use Rattle.model.specs.Image.{Design, Register, State}
+use Rattle.model.specs.Lattice.{flowsTo, allFlowTo, registerLabel, stateLabel}
+use Rattle.model.specs.Trees.{Expr, constant, register, binary, registersRead}
+use Rattle.model.specs.Flow.{labelsRead}
+use Rattle.model.specs.Rules.{FlowsTo, IsLattice, DesignKeeps, RegisterKeeps, StateKeeps}
+use Rattle.model.proofs.Laws.Booleans.{and-first, and-second, and-both, false-unless-true, true-or-false}
+
+-- every label of a list is one of the labels
+abbrev pub AreLabels : List ℕ → List ℕ → Type 0
+AreLabels rows [] = Unit {0}
+AreLabels rows (l ∷ more) = (l < length rows) × AreLabels rows more
+
+pub labels-append : (rows xs ys : List ℕ) → AreLabels rows xs → AreLabels rows ys → AreLabels rows (xs ++ ys)
+labels-append rows [] ys h k = k
+labels-append rows (x ∷ xs) ys h k = (h .0, labels-append rows xs ys (h .1) k)
+
+-- ---- the labels of a list all flow to a label
+pub all-flow-append : (rows xs ys : List ℕ) (l : ℕ) → allFlowTo rows xs l ≡ true → allFlowTo rows ys l ≡ true → allFlowTo rows (xs ++ ys) l ≡ true
+unfolding allFlowTo
+all-flow-append rows [] ys l h k = k
+all-flow-append rows (x ∷ xs) ys l h k =
+    and-both
+    (flowsTo rows x l)
+    (allFlowTo rows (xs ++ ys) l)
+    (and-first (flowsTo rows x l) (allFlowTo rows xs l) h)
+    (all-flow-append rows xs ys l (and-second (flowsTo rows x l) (allFlowTo rows xs l) h) k)
+
+pub all-flow-first : (rows xs ys : List ℕ) (l : ℕ) → allFlowTo rows (xs ++ ys) l ≡ true → allFlowTo rows xs l ≡ true
+unfolding allFlowTo
+all-flow-first rows [] ys l h = refl
+all-flow-first rows (x ∷ xs) ys l h =
+    and-both
+    (flowsTo rows x l)
+    (allFlowTo rows xs l)
+    (and-first (flowsTo rows x l) (allFlowTo rows (xs ++ ys) l) h)
+    (all-flow-first rows xs ys l (and-second (flowsTo rows x l) (allFlowTo rows (xs ++ ys) l) h))
+
+pub all-flow-second : (rows xs ys : List ℕ) (l : ℕ) → allFlowTo rows (xs ++ ys) l ≡ true → allFlowTo rows ys l ≡ true
+unfolding allFlowTo
+all-flow-second rows [] ys l h = h
+all-flow-second rows (x ∷ xs) ys l h = all-flow-second rows xs ys l (and-second (flowsTo rows x l) (allFlowTo rows (xs ++ ys) l) h)
+
+-- ---- a level
+module _ (d : Design) (level : ℕ) (keeps : DesignKeeps d) (isLabel : level < length (d .rows)) where
+  -- a label that is at or below the level
+  abbrev pub Seen : ℕ → Type 0
+  Seen l = FlowsTo (d .rows) l level
+
+  -- what flows to a label that is seen is seen
+  pub seen-below : (a b : ℕ) → a < length (d .rows) → b < length (d .rows) → FlowsTo (d .rows) a b → Seen b → Seen a
+  seen-below a b la lb f s = keeps .lattice .transitive a b level la lb isLabel f s
+
+  -- what a label that is not seen flows to is not seen
+  pub unseen-above : (a b : ℕ) → a < length (d .rows) → b < length (d .rows) → FlowsTo (d .rows) a b → flowsTo (d .rows) a level ≡ false → flowsTo (d .rows) b level ≡ false
+  unseen-above a b la lb f u = false-unless-true (flowsTo (d .rows) b level) (λ s. true-or-false (flowsTo (d .rows) a level) (seen-below a b la lb f s) u)
+
+  -- a context that flows to a label that is seen is seen
+  pub context-seen : (context : List ℕ) (l : ℕ) → AreLabels (d .rows) context → l < length (d .rows) → allFlowTo (d .rows) context l ≡ true → Seen l → allFlowTo (d .rows) context level ≡ true
+  unfolding allFlowTo
+  context-seen [] l labels k h s = refl
+  context-seen (x ∷ xs) l labels k h s =
+      and-both
+      (flowsTo (d .rows) x level)
+      (allFlowTo (d .rows) xs level)
+      (seen-below x l (labels .0) k (and-first (flowsTo (d .rows) x l) (allFlowTo (d .rows) xs l) h) s)
+      (context-seen xs l (labels .1) k (and-second (flowsTo (d .rows) x l) (allFlowTo (d .rows) xs l) h) s)
+
+  -- what a context that is not seen flows to is not seen
+  pub context-unseen : (context : List ℕ) (l : ℕ) → AreLabels (d .rows) context → l < length (d .rows) → allFlowTo (d .rows) context l ≡ true → allFlowTo (d .rows) context level ≡ false → flowsTo (d .rows) l level ≡ false
+  context-unseen context l labels k h u =
+      false-unless-true (flowsTo (d .rows) l level) (λ s. true-or-false (allFlowTo (d .rows) context level) (context-seen context l labels k h s) u)
+
+  -- every register's label is one of the labels, and so is every state's; past the end both are label 0
+  pub register-label : (r : ℕ) → registerLabel d r < length (d .rows)
+  register-label r = go (decLt r (length (d .registers)))
+    where
+      go : Dec (r < length (d .registers)) → registerLabel d r < length (d .rows)
+      go (yes h) = keeps .registers r h .label
+      go (no h) =
+          let past : registerLabel d r ≡ 0 = ap (λ (x : Register). x .label) (List·getD-eq-default (d .registers) _ {n = r} (omega arith)) in
+          omega arith
+
+  pub state-label : (s : ℕ) → stateLabel d s < length (d .rows)
+  state-label s = go (decLt s (length (d .states)))
+    where
+      go : Dec (s < length (d .states)) → stateLabel d s < length (d .rows)
+      go (yes h) = keeps .states s h .label
+      go (no h) =
+          let past : stateLabel d s ≡ 0 = ap (λ (x : State). x .label) (List·getD-eq-default (d .states) _ {n = s} (omega arith)) in
+          omega arith
+
+  labels-of : (rs : List ℕ) → AreLabels (d .rows) (map (registerLabel d) rs)
+  labels-of [] = tt
+  labels-of (r ∷ rs) = (register-label r, labels-of rs)
+
+  pub labels-read : (e : Expr) → AreLabels (d .rows) (labelsRead d e)
+  unfolding labelsRead
+  labels-read e = labels-of (registersRead e)
