@@ -4,3 +4,5 @@ pub mod Labels
 pub mod Endings
 pub mod Agreement
 pub mod Commands
+pub mod Bounded
+pub mod Path

@@ -199,3 +199,16 @@ module _ {A : Type 0} (none : A) (step : ℕ → (ℕ → A) → A) where
   -- a value from a lower number, and from none
   pub only-below-at : (n m : ℕ) (f : ℕ → A) → m < n → onlyBelow n f m ≡ f m
   only-below-at n m f l = rw (lt-ltb m n l, onlyBelow)
+
+  -- what holds of `none`, and of every step from values of which it holds, holds at every number
+  pub recursively-all : (P : A → Type 0) → P none → ((n : ℕ) (below : ℕ → A) → ((m : ℕ) → P (below m)) → P (step n below)) → (n : ℕ) → P (recursively none step n)
+  unfolding recursively upTo
+  recursively-all P base steps n = up-to-all (suc n) n
+    where
+      chosen : (b : Bool) (x : A) → P x → P (elim b [ true ↦ x | false ↦ none ])
+      chosen true x p = p
+      chosen false x p = base
+
+      up-to-all : (f m : ℕ) → P (upTo none step f m)
+      up-to-all zero m = base
+      up-to-all (suc f) m = steps m _ (λ k. chosen (ltb k m) (upTo none step f k) (up-to-all f k))
