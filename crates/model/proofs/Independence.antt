@@ -6,3 +6,4 @@ pub mod Agreement
 pub mod Commands
 pub mod Bounded
 pub mod Path
+pub mod Cycle

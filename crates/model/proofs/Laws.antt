@@ -1,6 +1,9 @@
 -- Laws of the definitions, by file of specs/. Users cite the laws and do not unfold.
 pub mod Booleans
+pub mod Equivalences
 pub mod Indices
 pub mod Words
+pub mod Found
 pub mod States
 pub mod Gotos
+pub mod Verdict

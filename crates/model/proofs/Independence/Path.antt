@@ -53,7 +53,7 @@ entryOf Continued s = s
 entryOf (Transferred Fall) s = s
 entryOf (Transferred (Goto t)) s = t
 
-module _ (d : Design) (keeps : DesignKeeps d) (bodies : (s : ℕ) → BoundedCmd (bodyOf d s)) where
+module _ (d : Design) where
   -- what the body of s makes of the areas
   abbrev pub ran : ℕ → Areas → Executed
   ran s a = exec (a .registers) (bodyOf d s)
@@ -61,10 +61,39 @@ module _ (d : Design) (keeps : DesignKeeps d) (bodies : (s : ℕ) → BoundedCmd
   abbrev pub leftBy : ℕ → Areas → Areas
   leftBy s a = record { registers = ran s a .registers; targets = a .targets }
 
-  abbrev pub target : Areas → ℕ → ℕ
-  target a s = getD (a .targets) s 0
+  -- the state at which the path goes on after a run from s, and the table that the run leaves
+  abbrev pub entry : ℕ → ℕ → Areas → ℕ
+  entry zero s a = s
+  entry (suc f) s a = entryOf (ran s a .outcome) s
 
-  pub left-good : (s : ℕ) (a : Areas) → Good d a → Good d (leftBy s a)
+  abbrev pub targetsAfter : ℕ → ℕ → Areas → List ℕ
+  targetsAfter f s a = runFrom d f s a .after .targets
+
+  -- what a run from s leaves in the table above s: below the parent of s nothing changes, and the parent points to where the path goes on
+  pub record Above (targets : List ℕ) (s goesOn : ℕ) (after : List ℕ) : Type 0 where
+    pub below : (q : ℕ) → q < parent d s → getD after q 0 ≡ getD targets q 0
+    pub points : s ≢ 0 → getD targets (parent d s) 0 ≡ s → getD after (parent d s) 0 ≡ goesOn
+
+  -- a table that is at its defaults on states closed under children
+  pub record Defaults (P : ℕ → Type 0) (targets : List ℕ) : Type 1 where
+    pub default : (q : ℕ) → P q → q < length (d .states) → getD targets q 0 ≡ defaultTarget d q
+    pub closed : (q c : ℕ) → P q → ChildOf d q c → P c
+
+  -- the label of where the path goes on is at or above that of s, and labels rise from there
+  pub record Risen (f s goesOn : ℕ) (after : List ℕ) : Type 0 where
+    pub up : FlowsTo (d .rows) (stateLabel d s) (stateLabel d goesOn)
+    pub on : Rising d f goesOn after
+
+  -- a run that shows nothing to the level and changes nothing that it sees
+  pub record Hidden (level : ℕ) (a : Areas) (c : Cycle) : Type 0 where
+    pub registers : Agree d level (a .registers) (c .after .registers)
+    pub walk : walkSeen d level (c .walk) ≡ []
+
+abbrev pub target : Areas → ℕ → ℕ
+target a s = getD (a .targets) s 0
+
+module _ (d : Design) (keeps : DesignKeeps d) (bodies : (s : ℕ) → BoundedCmd (bodyOf d s)) where
+  pub left-good : (s : ℕ) (a : Areas) → Good d a → Good d (leftBy d s a)
   left-good s a good =
       record {
         registers-length = exec-length (a .registers) (bodyOf d s) ∙ good .registers-length;
@@ -73,7 +102,7 @@ module _ (d : Design) (keeps : DesignKeeps d) (bodies : (s : ℕ) → BoundedCmd
         sound = good .sound;
       }
 
-  pub ended : (s : ℕ) → s < length (d .states) → (a : Areas) → Ended d s (stateLabel d s ∷ []) (bodyOf d s) (ran s a .outcome)
+  pub ended : (s : ℕ) → s < length (d .states) → (a : Areas) → Ended d s (stateLabel d s ∷ []) (bodyOf d s) (ran d s a .outcome)
   ended s l a = exec-ends d s (stateLabel d s ∷ []) (a .registers) (bodyOf d s) (keeps .shaped s l) (keeps .flowing s l)
 
   -- a target of a sound table is a state
@@ -117,31 +146,19 @@ module _ (d : Design) (keeps : DesignKeeps d) (bodies : (s : ℕ) → BoundedCmd
   run-good (suc f) s a l good =
       after-good
       s
-      (leftBy s a)
+      (leftBy d s a)
       l
       (left-good s a good)
-      (ran s a .outcome)
+      (ran d s a .outcome)
       (ended s l a)
-      (runFrom d f (target a s) (leftBy s a))
-      (run-good f (target a s) (leftBy s a) (target-state a good s l) (left-good s a good))
+      (runFrom d f (target a s) (leftBy d s a))
+      (run-good f (target a s) (leftBy d s a) (target-state a good s l) (left-good s a good))
 
   -- ---- where the path goes on
-  abbrev pub entry : ℕ → ℕ → Areas → ℕ
-  entry zero s a = s
-  entry (suc f) s a = entryOf (ran s a .outcome) s
-
-  abbrev pub targetsAfter : ℕ → ℕ → Areas → List ℕ
-  targetsAfter f s a = runFrom d f s a .after .targets
-
-  -- what a run from s leaves in the table above s: below the parent of s nothing changes, and the parent points to where the path goes on
-  record Above (targets : List ℕ) (s goesOn : ℕ) (after : List ℕ) : Type 0 where
-    below : (q : ℕ) → q < parent d s → getD after q 0 ≡ getD targets q 0
-    points : s ≢ 0 → getD targets (parent d s) 0 ≡ s → getD after (parent d s) 0 ≡ goesOn
-
-  unchanged : (targets : List ℕ) (s : ℕ) → Above targets s s targets
+  unchanged : (targets : List ℕ) (s : ℕ) → Above d targets s s targets
   unchanged targets s = record { below = λ q l. refl; points = λ no-root h. h }
 
-  above-goto : (s t : ℕ) (a : Areas) → s < length (d .states) → Good d a → Ended d s (stateLabel d s ∷ []) (bodyOf d s) (Transferred (Goto t)) → Above (a .targets) s t (goneTo d t (a .targets))
+  above-goto : (s t : ℕ) (a : Areas) → s < length (d .states) → Good d a → Ended d s (stateLabel d s ∷ []) (bodyOf d s) (Transferred (Goto t)) → Above d (a .targets) s t (goneTo d t (a .targets))
   above-goto s t a l good e =
       let child = sibling-child d s t (e .1) in
       let below = parent-lower s l (sibling-no-root d s t (e .1)) in
@@ -153,7 +170,7 @@ module _ (d : Design) (keeps : DesignKeeps d) (bodies : (s : ℕ) → BoundedCmd
         points = λ no-root h. rw (← same) (gone-parent d t (a .targets) (omega arith));
       }
 
-  above-fall : (s : ℕ) (a : Areas) → s < length (d .states) → Good d a → holdsFall (bodyOf d s) ≡ true → (goesOn : ℕ) (after : List ℕ) → Above (a .targets) (target a s) goesOn after → Above (a .targets) s s after
+  above-fall : (s : ℕ) (a : Areas) → s < length (d .states) → Good d a → holdsFall (bodyOf d s) ≡ true → (goesOn : ℕ) (after : List ℕ) → Above d (a .targets) (target a s) goesOn after → Above d (a .targets) s s after
   above-fall s a l good h goesOn after k =
       let child = target-child a good s l h in
       record {
@@ -168,46 +185,41 @@ module _ (d : Design) (keeps : DesignKeeps d) (bodies : (s : ℕ) → BoundedCmd
           go (yes e) = let none : parent d s ≡ 0 = keeps .states s l .root-parent e in omega arith
           go (no no-root) = let b = parent-lower s l no-root in omega arith
 
-  after-above : (s : ℕ) (a : Areas) → s < length (d .states) → Good d a → (o : Outcome) → Ended d s (stateLabel d s ∷ []) (bodyOf d s) o → (fell : Cycle) (goesOn : ℕ) → Above (a .targets) (target a s) goesOn (fell .after .targets) → Above (a .targets) s (entryOf o s) (afterBody d o s a fell .after .targets)
+  after-above : (s : ℕ) (a : Areas) → s < length (d .states) → Good d a → (o : Outcome) → Ended d s (stateLabel d s ∷ []) (bodyOf d s) o → (fell : Cycle) (goesOn : ℕ) → Above d (a .targets) (target a s) goesOn (fell .after .targets) → Above d (a .targets) s (entryOf o s) (afterBody d o s a fell .after .targets)
   unfolding afterBody
   after-above s a l good Continued e fell goesOn k = unchanged (a .targets) s
   after-above s a l good (Transferred Fall) e fell goesOn k = above-fall s a l good (e .1) goesOn (fell .after .targets) k
   after-above s a l good (Transferred (Goto t)) e fell goesOn k = above-goto s t a l good e
 
-  run-above : (f s : ℕ) (a : Areas) → s < length (d .states) → Good d a → Above (a .targets) s (entry f s a) (targetsAfter f s a)
+  run-above : (f s : ℕ) (a : Areas) → s < length (d .states) → Good d a → Above d (a .targets) s (entry d f s a) (targetsAfter d f s a)
   unfolding runFrom
   run-above zero s a l good = unchanged (a .targets) s
   run-above (suc f) s a l good =
       after-above
       s
-      (leftBy s a)
+      (leftBy d s a)
       l
       (left-good s a good)
-      (ran s a .outcome)
+      (ran d s a .outcome)
       (ended s l a)
-      (runFrom d f (target a s) (leftBy s a))
-      (entry f (target a s) (leftBy s a))
-      (run-above f (target a s) (leftBy s a) (target-state a good s l) (left-good s a good))
+      (runFrom d f (target a s) (leftBy d s a))
+      (entry d f (target a s) (leftBy d s a))
+      (run-above f (target a s) (leftBy d s a) (target-state a good s l) (left-good s a good))
 
   -- after a fall, s points to where the path from its target goes on
-  pub fall-points : (f s : ℕ) (a : Areas) → s < length (d .states) → Good d a → holdsFall (bodyOf d s) ≡ true → getD (targetsAfter f (target a s) (leftBy s a)) s 0 ≡ entry f (target a s) (leftBy s a)
+  pub fall-points : (f s : ℕ) (a : Areas) → s < length (d .states) → Good d a → holdsFall (bodyOf d s) ≡ true → getD (targetsAfter d f (target a s) (leftBy d s a)) s 0 ≡ entry d f (target a s) (leftBy d s a)
   fall-points f s a l good h =
       let child = target-child a good s l h in
-      let above = run-above f (target a s) (leftBy s a) (child .state) (left-good s a good) in
-      let there : getD (targetsAfter f (target a s) (leftBy s a)) (parent d (target a s)) 0 ≡ entry f (target a s) (leftBy s a) = above .points (child .no-root) (rw (child .parent-is) refl) in
+      let above = run-above f (target a s) (leftBy d s a) (child .state) (left-good s a good) in
+      let there : getD (targetsAfter d f (target a s) (leftBy d s a)) (parent d (target a s)) 0 ≡ entry d f (target a s) (leftBy d s a) = above .points (child .no-root) (rw (child .parent-is) refl) in
       rw (child .parent-is) at there
 
   -- ---- labels keep rising
-  -- a table that is at its defaults on states closed under children
-  pub record Defaults (P : ℕ → Type 0) (targets : List ℕ) : Type 1 where
-    pub default : (q : ℕ) → P q → q < length (d .states) → getD targets q 0 ≡ defaultTarget d q
-    pub closed : (q c : ℕ) → P q → ChildOf d q c → P c
-
   -- the default child of a state that holds a fall
   pub default-of-fall : (q : ℕ) → q < length (d .states) → holdsFall (bodyOf d q) ≡ true → ChildOf d q (defaultTarget d q)
   default-of-fall q l h = default-child d q (fall-child d q (bodyOf d q) (keeps .shaped q l) h)
 
-  pub default-rises : (P : ℕ → Type 0) (targets : List ℕ) → Defaults P targets → (f q : ℕ) → P q → q < length (d .states) → Rising d f q targets
+  pub default-rises : (P : ℕ → Type 0) (targets : List ℕ) → Defaults d P targets → (f q : ℕ) → P q → q < length (d .states) → Rising d f q targets
   default-rises P targets table zero q p l = tt
   default-rises P targets table (suc f) q p l = λ h.
       let child = default-of-fall q l h in
@@ -215,7 +227,7 @@ module _ (d : Design) (keeps : DesignKeeps d) (bodies : (s : ℕ) → BoundedCmd
       rw (table .default q p l) (rises, default-rises P targets table f (defaultTarget d q) (table .closed q (defaultTarget d q) p child) (child .state))
 
   -- after a goto the named state and its descendants are at their defaults
-  pub gone-defaults : (s t : ℕ) (a : Areas) → s < length (d .states) → Good d a → Ended d s (stateLabel d s ∷ []) (bodyOf d s) (Transferred (Goto t)) → Defaults (λ q. within d t q ≡ true) (goneTo d t (a .targets))
+  pub gone-defaults : (s t : ℕ) (a : Areas) → s < length (d .states) → Good d a → Ended d s (stateLabel d s ∷ []) (bodyOf d s) (Transferred (Goto t)) → Defaults d (λ q. within d t q ≡ true) (goneTo d t (a .targets))
   gone-defaults s t a l good e =
       let child = sibling-child d s t (e .1) in
       let size = good .targets-length in
@@ -223,10 +235,6 @@ module _ (d : Design) (keeps : DesignKeeps d) (bodies : (s : ℕ) → BoundedCmd
         default = λ q h k. gone-within d t (a .targets) q (omega arith) (parent-lower t (child .state) (child .no-root)) h;
         closed = λ q c h k. within-child d t q c k (rw (k .parent-is) at (parent-lower c (k .state) (k .no-root))) h;
       }
-
-  record Risen (f s goesOn : ℕ) (after : List ℕ) : Type 0 where
-    up : FlowsTo (d .rows) (stateLabel d s) (stateLabel d goesOn)
-    on : Rising d f goesOn after
 
   module _ (level : ℕ) (isLabel : level < length (d .rows)) where
     label-reflexive : (s : ℕ) → FlowsTo (d .rows) (stateLabel d s) (stateLabel d s)
@@ -237,8 +245,8 @@ module _ (d : Design) (keeps : DesignKeeps d) (bodies : (s : ℕ) → BoundedCmd
         keeps .lattice .transitive (stateLabel d s) (stateLabel d t) (stateLabel d u) (state-label d level keeps isLabel s) (state-label d level keeps isLabel t) (state-label d level keeps isLabel u) h k
 
     after-risen : (f s : ℕ) (a : Areas) → s < length (d .states) → Good d a → Rising d (suc f) s (a .targets) → (o : Outcome) → Ended d s (stateLabel d s ∷ []) (bodyOf d s) o → (fell : Cycle) (goesOn : ℕ)
-        → (holdsFall (bodyOf d s) ≡ true → getD (fell .after .targets) s 0 ≡ goesOn) → (holdsFall (bodyOf d s) ≡ true → Risen f (target a s) goesOn (fell .after .targets))
-        → Risen (suc f) s (entryOf o s) (afterBody d o s a fell .after .targets)
+        → (holdsFall (bodyOf d s) ≡ true → getD (fell .after .targets) s 0 ≡ goesOn) → (holdsFall (bodyOf d s) ≡ true → Risen d f (target a s) goesOn (fell .after .targets))
+        → Risen d (suc f) s (entryOf o s) (afterBody d o s a fell .after .targets)
     unfolding afterBody allFlowTo
     after-risen f s a l good rising Continued e fell goesOn points risen = record { up = label-reflexive s; on = rising }
     after-risen f s a l good rising (Transferred Fall) e fell goesOn points risen =
@@ -253,54 +261,50 @@ module _ (d : Design) (keeps : DesignKeeps d) (bodies : (s : ℕ) → BoundedCmd
           on = default-rises (λ q. within d t q ≡ true) (goneTo d t (a .targets)) (gone-defaults s t a l good e) (suc f) t (within-self d t) (sibling-child d s t (e .1) .state);
         }
 
-    run-risen : (f s : ℕ) (a : Areas) → s < length (d .states) → Good d a → Rising d f s (a .targets) → Risen f s (entry f s a) (targetsAfter f s a)
+    run-risen : (f s : ℕ) (a : Areas) → s < length (d .states) → Good d a → Rising d f s (a .targets) → Risen d f s (entry d f s a) (targetsAfter d f s a)
     unfolding runFrom
     run-risen zero s a l good rising = record { up = label-reflexive s; on = tt }
     run-risen (suc f) s a l good rising =
         after-risen
         f
         s
-        (leftBy s a)
+        (leftBy d s a)
         l
         (left-good s a good)
         rising
-        (ran s a .outcome)
+        (ran d s a .outcome)
         (ended s l a)
-        (runFrom d f (target a s) (leftBy s a))
-        (entry f (target a s) (leftBy s a))
+        (runFrom d f (target a s) (leftBy d s a))
+        (entry d f (target a s) (leftBy d s a))
         (fall-points f s a l good)
-        (λ h. run-risen f (target a s) (leftBy s a) (target-state a good s l) (left-good s a good) (rising h .1))
+        (λ h. run-risen f (target a s) (leftBy d s a) (target-state a good s l) (left-good s a good) (rising h .1))
 
     -- labels rise along the path on which a cycle leaves the table
-    pub run-rises : (f s : ℕ) (a : Areas) → s < length (d .states) → Good d a → Rising d f s (a .targets) → Rising d f (entry f s a) (targetsAfter f s a)
+    pub run-rises : (f s : ℕ) (a : Areas) → s < length (d .states) → Good d a → Rising d f s (a .targets) → Rising d f (entry d f s a) (targetsAfter d f s a)
     run-rises f s a l good rising = run-risen f s a l good rising .on
 
-    pub entry-above : (f s : ℕ) (a : Areas) → s < length (d .states) → Good d a → Rising d f s (a .targets) → FlowsTo (d .rows) (stateLabel d s) (stateLabel d (entry f s a))
+    pub entry-above : (f s : ℕ) (a : Areas) → s < length (d .states) → Good d a → Rising d f s (a .targets) → FlowsTo (d .rows) (stateLabel d s) (stateLabel d (entry d f s a))
     entry-above f s a l good rising = run-risen f s a l good rising .up
 
     -- ---- a run from a state that is not seen
-    pub record Hidden (a : Areas) (c : Cycle) : Type 0 where
-      pub registers : Agree d level (a .registers) (c .after .registers)
-      pub walk : walkSeen d level (c .walk) ≡ []
-
-    after-hidden : (s : ℕ) (v : List ℕ) (a : Areas) → stateSeen d level s ≡ false → Agree d level v (a .registers) → (o : Outcome) (fell : Cycle) → (o ≡ Transferred Fall → Hidden a fell) → Agree d level v (afterBody d o s a fell .after .registers) × (walkSeen d level (afterBody d o s a fell .walk) ≡ [])
+    after-hidden : (s : ℕ) (v : List ℕ) (a : Areas) → stateSeen d level s ≡ false → Agree d level v (a .registers) → (o : Outcome) (fell : Cycle) → (o ≡ Transferred Fall → Hidden d level a fell) → Agree d level v (afterBody d o s a fell .after .registers) × (walkSeen d level (afterBody d o s a fell .walk) ≡ [])
     unfolding afterBody walkSeen
     after-hidden s v a unseen agree Continued fell k = (agree, rw unseen refl)
     after-hidden s v a unseen agree (Transferred Fall) fell k = (agree-trans d level agree (k refl .registers), rw unseen (k refl .walk))
     after-hidden s v a unseen agree (Transferred (Goto t)) fell k = (agree, rw unseen refl)
 
-    body-hidden : (s : ℕ) (a : Areas) → s < length (d .states) → stateSeen d level s ≡ false → Agree d level (a .registers) (ran s a .registers)
+    body-hidden : (s : ℕ) (a : Areas) → s < length (d .states) → stateSeen d level s ≡ false → Agree d level (a .registers) (ran d s a .registers)
     unfolding allFlowTo
     body-hidden s a l unseen =
         exec-confined d level keeps isLabel s (stateLabel d s ∷ []) (a .registers) (bodyOf d s) (keeps .flowing s l) (state-label d level keeps isLabel s, tt) (and-false (stateSeen d level s) true unseen)
 
-    pub run-hidden : (f s : ℕ) (a : Areas) → s < length (d .states) → Good d a → Rising d f s (a .targets) → stateSeen d level s ≡ false → Hidden a (runFrom d f s a)
+    pub run-hidden : (f s : ℕ) (a : Areas) → s < length (d .states) → Good d a → Rising d f s (a .targets) → stateSeen d level s ≡ false → Hidden d level a (runFrom d f s a)
     unfolding runFrom walkSeen
     run-hidden zero s a l good rising unseen = record { registers = agree-self d level (a .registers); walk = refl }
     run-hidden (suc f) s a l good rising unseen =
-        let holds : ran s a .outcome ≡ Transferred Fall → holdsFall (bodyOf d s) ≡ true = λ e. (rw e at (ended s l a)) .1 in
-        let further : ran s a .outcome ≡ Transferred Fall → Hidden (leftBy s a) (runFrom d f (target a s) (leftBy s a)) = λ e.
-        run-hidden f (target a s) (leftBy s a) (target-state a good s l) (left-good s a good) (rising (holds e) .1)
+        let holds : ran d s a .outcome ≡ Transferred Fall → holdsFall (bodyOf d s) ≡ true = λ e. (rw e at (ended s l a)) .1 in
+        let further : ran d s a .outcome ≡ Transferred Fall → Hidden d level (leftBy d s a) (runFrom d f (target a s) (leftBy d s a)) = λ e.
+        run-hidden f (target a s) (leftBy d s a) (target-state a good s l) (left-good s a good) (rising (holds e) .1)
         (unseen-above d level keeps isLabel (stateLabel d s) (stateLabel d (target a s)) (state-label d level keeps isLabel s) (state-label d level keeps isLabel (target a s)) (rising (holds e) .0) unseen) in
-        let both = after-hidden s (a .registers) (leftBy s a) unseen (body-hidden s a l unseen) (ran s a .outcome) (runFrom d f (target a s) (leftBy s a)) further in
+        let both = after-hidden s (a .registers) (leftBy d s a) unseen (body-hidden s a l unseen) (ran d s a .outcome) (runFrom d f (target a s) (leftBy d s a)) further in
         record { registers = both .0; walk = both .1 }

@@ -1,0 +1,98 @@
+-- A register, a state or a node is kept exactly where its record obeys its rules: the test of each field says the rule of that field.
+use Prim.Native.Nat.{ℕ, zero, suc, _≤_, _<_}
+use mathlib.Core.Path.{_≡_, refl}
+use mathlib.Core.Logic.{_↔_, Iff·trans}
+use mathlib.Core.Bool.{true, false, false≢true}
+use native.Mathlib.Omega.{arith}
+use Rattle.model.specs.Limits.{depthMax}
+use Rattle.model.specs.Indices.{occurrences}
+use Rattle.model.specs.Image.{Design, Node, commandAt, expressionAt}
+use Rattle.model.specs.Lattice.{stateLabel}
+use Rattle.model.specs.States.{parent, registerKept, parentKept, stateKept, childLabelKept}
+use Rattle.model.specs.Kinds.{CommandKind, skips, assigns, sequences, falls, goes, branches, unknownCommand, ExpressionKind, constants, reads, unknownExpression, operates, commandKind, expressionKind, commandHolds, expressionHolds, commandKept, expressionKept}
+use Rattle.model.specs.Trees.{exprOf, cmdOf, exprDepth, cmdDepth}
+use Rattle.model.specs.Nodes.{commandUses, expressionUses, commandUsedOnce, expressionUsedOnce, commandDepthKept, expressionDepthKept}
+use Rattle.model.specs.Rules.{FlowsTo, RegisterKeeps, StateKeeps, CommandHolds, ExpressionHolds}
+use Rattle.model.proofs.Laws.Equivalences.{less-iff, at-most-iff, equal-iff, and-iff, and-three-iff, and-four-iff}
+
+-- no node of an unknown kind is kept
+never-iff : (false ≡ true) ↔ ⊥
+never-iff = (false≢true, absurd)
+
+module _ (d : Design) where
+  pub register-iff : (r : ℕ) → (registerKept d r ≡ true) ↔ RegisterKeeps d r
+  unfolding registerKept
+  register-iff r = Iff·trans (and-iff less-iff at-most-iff) (λ h. record { label = h .0; kind = h .1 }, λ k. (k .label, k .kind))
+
+  -- the root's rules, and the rule of any other state
+  abbrev ParentKeeps : ℕ → Type 0
+  ParentKeeps s = (s ≡ 0 → parent d s ≡ 0) × (s ≡ 0 → stateLabel d s ≡ 0) × ((s ≡ 0 → ⊥) → parent d s < s)
+
+  parent-iff : (s : ℕ) → (parentKept d s ≡ true) ↔ ParentKeeps s
+  unfolding parentKept
+  parent-iff zero =
+      Iff·trans
+      (and-iff equal-iff equal-iff)
+      (λ h. (λ z. h .0, λ z. h .1, λ not-root. absurd (not-root refl)), λ k. (k .0 refl, k .1 refl))
+  parent-iff (suc s) =
+      Iff·trans
+      less-iff
+      (λ h. (λ z. absurd (omega arith), λ z. absurd (omega arith), λ not-root. h), λ k. k .2 (λ z. omega arith))
+
+  pub state-iff : (s : ℕ) → (stateKept d s ≡ true) ↔ StateKeeps d s
+  unfolding stateKept
+  state-iff s =
+      Iff·trans
+      (and-three-iff (parent-iff s) less-iff less-iff) (
+        λ h. record { root-parent = h .0 .0; root-label = h .0 .1; parent-below = h .0 .2; label = h .1; command = h .2 },
+        λ k. ((k .root-parent, k .root-label, k .parent-below), k .label, k .command),
+      )
+
+  pub child-label-iff :
+      (s : ℕ) → (childLabelKept d s ≡ true) ↔ ((s ≡ 0 → ⊥) → FlowsTo (d .rows) (stateLabel d (parent d s)) (stateLabel d s))
+  unfolding childLabelKept
+  child-label-iff zero = (λ e not-root. absurd (not-root refl), λ k. refl)
+  child-label-iff (suc s) = (λ e not-root. e, λ k. k (λ z. omega arith))
+
+  -- ---- nodes
+  command-holds-iff : (n : ℕ) (kind : CommandKind) (x : Node) → (commandHolds d n kind x ≡ true) ↔ CommandHolds d n kind x
+  unfolding commandHolds
+  command-holds-iff n skips x = and-four-iff equal-iff equal-iff equal-iff equal-iff
+  command-holds-iff n assigns x = and-four-iff less-iff less-iff equal-iff equal-iff
+  command-holds-iff n sequences x = and-four-iff equal-iff less-iff less-iff equal-iff
+  command-holds-iff n falls x = and-four-iff equal-iff equal-iff equal-iff equal-iff
+  command-holds-iff n goes x = and-four-iff less-iff equal-iff equal-iff equal-iff
+  command-holds-iff n branches x = and-four-iff equal-iff less-iff less-iff less-iff
+  command-holds-iff n unknownCommand x = never-iff
+
+  expression-holds-iff : (n : ℕ) (kind : ExpressionKind) (x : Node) → (expressionHolds d n kind x ≡ true) ↔ ExpressionHolds d n kind x
+  unfolding expressionHolds
+  expression-holds-iff n constants x = and-iff equal-iff equal-iff
+  expression-holds-iff n reads x = and-four-iff less-iff equal-iff equal-iff equal-iff
+  expression-holds-iff n (operates o) x = and-four-iff equal-iff less-iff less-iff equal-iff
+  expression-holds-iff n unknownExpression x = never-iff
+
+  pub command-iff : (n : ℕ) → (commandKept d n ≡ true) ↔ CommandHolds d n (commandKind (commandAt d n .kind)) (commandAt d n)
+  unfolding commandKept
+  command-iff n = command-holds-iff n (commandKind (commandAt d n .kind)) (commandAt d n)
+
+  pub expression-iff :
+      (n : ℕ) → (expressionKept d n ≡ true) ↔ ExpressionHolds d n (expressionKind (expressionAt d n .kind)) (expressionAt d n)
+  unfolding expressionKept
+  expression-iff n = expression-holds-iff n (expressionKind (expressionAt d n .kind)) (expressionAt d n)
+
+  pub command-used-iff : (n : ℕ) → (commandUsedOnce d n ≡ true) ↔ (occurrences n (commandUses d) ≡ 1)
+  unfolding commandUsedOnce
+  command-used-iff n = equal-iff
+
+  pub expression-used-iff : (n : ℕ) → (expressionUsedOnce d n ≡ true) ↔ (occurrences n (expressionUses d) ≡ 1)
+  unfolding expressionUsedOnce
+  expression-used-iff n = equal-iff
+
+  pub command-depth-iff : (n : ℕ) → (commandDepthKept d n ≡ true) ↔ (cmdDepth (cmdOf d n) ≤ depthMax)
+  unfolding commandDepthKept
+  command-depth-iff n = at-most-iff
+
+  pub expression-depth-iff : (n : ℕ) → (expressionDepthKept d n ≡ true) ↔ (exprDepth (exprOf d n) ≤ depthMax)
+  unfolding expressionDepthKept
+  expression-depth-iff n = at-most-iff
