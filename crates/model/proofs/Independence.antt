@@ -7,3 +7,5 @@ pub mod Commands
 pub mod Bounded
 pub mod Path
 pub mod Cycle
+pub mod Calls
+pub mod Lists

@@ -57,7 +57,8 @@ pub eval-bounded : (values : List ℕ) (e : Expr) → BoundedExpr e → Bounded 
 unfolding eval
 eval-bounded values (constant v) b h = b
 eval-bounded values (register r) b h = h r
-eval-bounded values (binary o p q) b h = apply-bounded o (eval values p) (eval values q) (eval-bounded values p (b .0) h) (eval-bounded values q (b .1) h)
+eval-bounded values (binary o p q) b h =
+    apply-bounded o (eval values p) (eval values q) (eval-bounded values p (b .0) h) (eval-bounded values q (b .1) h)
 
 -- ---- commands
 pub set-bounded : (values : List ℕ) (i v : ℕ) → v < valueCount → Bounded values → Bounded (set values i v)
@@ -110,14 +111,17 @@ exec-length values (branch n e p q) =
     branch-all (λ x. length (x .registers) ≡ length values) values n e p q (exec-length values p) (exec-length values q)
 
 -- ---- trees
-expr-of-kind-bounded : (k : ExpressionKind) (x : Node) (p q : Expr) → constantOf x < valueCount → BoundedExpr p → BoundedExpr q → BoundedExpr (exprOfKind k x p q)
+expr-of-kind-bounded : (k : ExpressionKind) (x : Node) (p q : Expr) → constantOf x < valueCount → BoundedExpr p → BoundedExpr q
+    → BoundedExpr (exprOfKind k x p q)
 unfolding exprOfKind
 expr-of-kind-bounded constants x p q h b c = h
 expr-of-kind-bounded reads x p q h b c = tt
 expr-of-kind-bounded (operates o) x p q h b c = (b, c)
 expr-of-kind-bounded unknownExpression x p q h b c = omega arith
 
-cmd-of-kind-bounded : (k : CommandKind) (n : ℕ) (x : Node) (e : Expr) (p q r : Cmd) → BoundedExpr e → BoundedCmd p → BoundedCmd q → BoundedCmd r → BoundedCmd (cmdOfKind k n x e p q r)
+cmd-of-kind-bounded : (k : CommandKind) (n : ℕ) (x : Node) (e : Expr) (p q r : Cmd)
+    → BoundedExpr e → BoundedCmd p → BoundedCmd q → BoundedCmd r
+    → BoundedCmd (cmdOfKind k n x e p q r)
 unfolding cmdOfKind
 cmd-of-kind-bounded skips n x e p q r a b c f = tt
 cmd-of-kind-bounded assigns n x e p q r a b c f = a
@@ -136,7 +140,8 @@ module _ (d : Design) (constants-bounded : (n : ℕ) → constantOf (expressionA
       (exprStep d)
       BoundedExpr
       (omega arith)
-      (λ m below h. expr-of-kind-bounded (expressionKind (expressionAt d m .kind)) (expressionAt d m) _ _ (constants-bounded m) (h (expressionAt d m .a)) (h (expressionAt d m .b)))
+      (λ m below h. let x = expressionAt d m in
+      expr-of-kind-bounded (expressionKind (x .kind)) x _ _ (constants-bounded m) (h (x .a)) (h (x .b)))
       n
 
   pub cmd-bounded : (n : ℕ) → BoundedCmd (cmdOf d n)
@@ -147,7 +152,8 @@ module _ (d : Design) (constants-bounded : (n : ℕ) → constantOf (expressionA
       (cmdStep d)
       BoundedCmd
       tt
-      (λ m below h. let x = commandAt d m in cmd-of-kind-bounded (commandKind (x .kind)) m x _ _ _ _ (expr-bounded (x .a)) (h (x .a)) (h (x .b)) (h (x .c)))
+      (λ m below h. let x = commandAt d m in
+      cmd-of-kind-bounded (commandKind (x .kind)) m x _ _ _ _ (expr-bounded (x .a)) (h (x .a)) (h (x .b)) (h (x .c)))
       n
 
 -- ---- what an image holds

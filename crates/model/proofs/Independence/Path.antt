@@ -287,6 +287,11 @@ module _ (d : Design) (keeps : DesignKeeps d) (bodies : (s : ℕ) → BoundedCmd
     entry-above f s a l good rising = run-risen f s a l good rising .up
 
     -- ---- a run from a state that is not seen
+    -- goes on from a state that is not seen
+    pub entry-hidden : (f s : ℕ) (a : Areas) → s < length (d .states) → Good d a → Rising d f s (a .targets) → stateSeen d level s ≡ false → stateSeen d level (entry d f s a) ≡ false
+    entry-hidden f s a l good rising unseen =
+        unseen-above d level keeps isLabel (stateLabel d s) (stateLabel d (entry d f s a)) (state-label d level keeps isLabel s) (state-label d level keeps isLabel (entry d f s a)) (entry-above f s a l good rising) unseen
+
     after-hidden : (s : ℕ) (v : List ℕ) (a : Areas) → stateSeen d level s ≡ false → Agree d level v (a .registers) → (o : Outcome) (fell : Cycle) → (o ≡ Transferred Fall → Hidden d level a fell) → Agree d level v (afterBody d o s a fell .after .registers) × (walkSeen d level (afterBody d o s a fell .walk) ≡ [])
     unfolding afterBody walkSeen
     after-hidden s v a unseen agree Continued fell k = (agree, rw unseen refl)

@@ -3,7 +3,7 @@ use Prim.Native.Nat.{ℕ, zero, suc, _+_, _≤_, _<_, min}
 use mathlib.Core.Path.{_≡_, refl, sym, _∙_, ap, fun-ext}
 use mathlib.Core.Logic.{_⊎_, inl, inr, ⊎-elim}
 use mathlib.Core.Bool.{Bool, true, false, _&&_, _||_, not}
-use mathlib.Core.List.{List, [], _∷_, _++_}
+use mathlib.Core.List.{List, [], _∷_, _++_, map}
 use native.Mathlib.Omega.{arith}
 use native.Mathlib.Nat.{le-refl, add-suc, suc-add, zero-add}
 use native.Mathlib.Decide.{decLt}
@@ -146,6 +146,16 @@ module _ {A : Type 0} where
   unfolding tabulate
   getD-tabulate f n k x l = getD-tabulateFrom f 0 n k x l ∙ ap f (zero-add k)
 
+  module _ {B : Type 0} (g : A → B) (f : ℕ → A) where
+    pub map-tabulateFrom : (i n : ℕ) → map g (tabulateFrom f i n) ≡ tabulateFrom (λ k. g (f k)) i n
+    unfolding tabulateFrom
+    map-tabulateFrom i zero = refl
+    map-tabulateFrom i (suc n) = ap (λ ys. g (f i) ∷ ys) (map-tabulateFrom (suc i) n)
+
+    pub map-tabulate : (n : ℕ) → map g (tabulate f n) ≡ tabulate (λ k. g (f k)) n
+    unfolding tabulate
+    map-tabulate n = map-tabulateFrom 0 n
+
   nil-append : (xs ys : List A) → xs ++ ys ≡ [] → (xs ≡ []) × (ys ≡ [])
   nil-append [] ys e = (refl, e)
   nil-append (x ∷ xs) ys e = let z : _≡_ {A = ℕ} 0 1 = cc in absurd (omega arith)
@@ -201,7 +211,9 @@ module _ {A : Type 0} (none : A) (step : ℕ → (ℕ → A) → A) where
   only-below-at n m f l = rw (lt-ltb m n l, onlyBelow)
 
   -- what holds of `none`, and of every step from values of which it holds, holds at every number
-  pub recursively-all : (P : A → Type 0) → P none → ((n : ℕ) (below : ℕ → A) → ((m : ℕ) → P (below m)) → P (step n below)) → (n : ℕ) → P (recursively none step n)
+  pub recursively-all : (P : A → Type 0) → P none
+      → ((n : ℕ) (below : ℕ → A) → ((m : ℕ) → P (below m)) → P (step n below))
+      → (n : ℕ) → P (recursively none step n)
   unfolding recursively upTo
   recursively-all P base steps n = up-to-all (suc n) n
     where

@@ -1,11 +1,15 @@
 -- Laws of records that stand one behind the other, and of the words of a register area: the bytes of a value are its digits to the base 256.
 use Prim.Native.Nat.{ℕ, zero, suc, _+_, _*_, _/_, _%_, _<_}
-use mathlib.Core.Path.{_≡_, refl, sym, _∙_, ap}
+use mathlib.Core.Path.{_≡_, refl, _∙_, ap}
 use mathlib.Core.List.{List, [], _∷_, map}
 use native.Mathlib.Omega.{arith}
-use lib.ListN.{length, getD, drop}
-use lib.Seq.{getD-drop}
-use Rattle.model.specs.Image.{AreBytes, byteAt, word16At, word32At, recordsOf}
+use native.Mathlib.Nat.{mod-eq-of-lt}
+use lib.Arith.{mod-mul}
+use lib.ListN.{length, getD, drop, set, length-map, List·getD-map}
+use lib.Seq.{getD-drop, ext-getD}
+use Rattle.model.specs.Limits.{valueCount, wordLength}
+use Rattle.model.specs.Image.{AreBytes, word16At, word32At, recordsOf}
+use Rattle.model.specs.Values.{wordsOf, bytesOf}
 
 -- bytes behind bytes are bytes
 pub drop-bytes : (width : ℕ) (bytes : List ℕ) → AreBytes bytes → AreBytes (drop width bytes)
@@ -21,8 +25,79 @@ module _ {A : Type 0} (read : List ℕ → A) (width : ℕ) where
   length-recordsOf (suc n) bytes = ap suc (length-recordsOf n (drop width bytes))
 
   -- what holds of every record read from bytes, and of the default, holds at every index
-  pub records-all : (P : A → Type 0) (default : A) → ((bytes : List ℕ) → AreBytes bytes → P (read bytes)) → P default → (n : ℕ) (bytes : List ℕ) → AreBytes bytes → (i : ℕ) → P (getD (recordsOf read width n bytes) i default)
+  pub records-all : (P : A → Type 0) (default : A) → ((bytes : List ℕ) → AreBytes bytes → P (read bytes)) → P default
+      → (n : ℕ) (bytes : List ℕ) → AreBytes bytes
+      → (i : ℕ) → P (getD (recordsOf read width n bytes) i default)
   unfolding recordsOf
   records-all P default reads base zero bytes h i = base
   records-all P default reads base (suc n) bytes h zero = reads bytes h
   records-all P default reads base (suc n) bytes h (suc i) = records-all P default reads base n (drop width bytes) (drop-bytes width bytes h) i
+
+-- ---- words
+-- a number as a 32-bit value
+abbrev pub wrapped : ℕ → ℕ
+wrapped v = v % valueCount
+
+pub wrapped-bounded : (v : ℕ) → wrapped v < valueCount
+wrapped-bounded v = omega arith
+
+pub getD-wrapped : (values : List ℕ) (r : ℕ) → getD (map wrapped values) r 0 ≡ wrapped (getD values r 0)
+getD-wrapped values r = List·getD-map wrapped values r 0
+
+-- values that are 32 bits stay as they are
+pub wrapped-same : (values : List ℕ) → ((r : ℕ) → getD values r 0 < valueCount) → map wrapped values ≡ values
+wrapped-same values h =
+    ext-getD 0 (map wrapped values) values (length-map values wrapped) (λ r l. getD-wrapped values r ∙ mod-eq-of-lt (h r))
+
+pub map-set : {A B : Type 0} (f : A → B) (xs : List A) (i : ℕ) (x : A) → map f (set xs i x) ≡ set (map f xs) i (f x)
+map-set f [] i x = refl
+map-set f (y ∷ xs) zero x = refl
+map-set f (y ∷ xs) (suc i) x = ap (λ ys. f y ∷ ys) (map-set f xs i x)
+
+pub length-wordsOf : (n : ℕ) (bytes : List ℕ) → length (wordsOf n bytes) ≡ n
+unfolding wordsOf
+length-wordsOf n bytes = length-recordsOf (λ rest. word32At rest 0) wordLength n bytes
+
+pub length-bytesOf : (values : List ℕ) → length (bytesOf values) ≡ wordLength * length values
+unfolding bytesOf
+length-bytesOf [] = refl
+length-bytesOf (v ∷ values) = let h = length-bytesOf values in omega arith
+
+pub words-bounded : (n : ℕ) (bytes : List ℕ) → AreBytes bytes → (r : ℕ) → getD (wordsOf n bytes) r 0 < valueCount
+unfolding wordsOf
+words-bounded n bytes h r =
+    records-all
+    (λ rest. word32At rest 0)
+    wordLength
+    (λ v. v < valueCount)
+    0
+    (λ rest k. omega (arith, word16-bounded rest k 0, word16-bounded rest k 2))
+    (omega arith)
+    n
+    bytes
+    h
+    r
+
+-- four digits to the base 256
+digits-of : (v : ℕ) → v % 256 + 256 * (v / 256 % 256) + 65536 * (v / 65536 % 256 + 256 * (v / 16777216 % 256)) ≡ wrapped v
+digits-of v =
+    sum
+    (v % 256)
+    (v / 256 % 256)
+    (v / 65536 % 256)
+    (v / 16777216 % 256)
+    (mod-mul v (omega arith) (omega arith))
+    (mod-mul v (omega arith) (omega arith))
+    (mod-mul v (omega arith) (omega arith))
+  where
+    sum : (a b c e : ℕ) {x y z : ℕ} → x ≡ e * 16777216 + y → y ≡ c * 65536 + z → z ≡ b * 256 + a
+        → a + 256 * b + 65536 * (c + 256 * e) ≡ x
+    sum a b c e p q r = omega arith
+
+pub words-of-bytes : (values : List ℕ) → wordsOf (length values) (bytesOf values) ≡ map wrapped values
+unfolding wordsOf recordsOf bytesOf
+words-of-bytes [] = refl
+words-of-bytes (v ∷ values) = rw (digits-of v, words-of-bytes values)
+
+pub words-of-bytes-bounded : (values : List ℕ) → ((r : ℕ) → getD values r 0 < valueCount) → wordsOf (length values) (bytesOf values) ≡ values
+words-of-bytes-bounded values h = words-of-bytes values ∙ wrapped-same values h
