@@ -1,4 +1,4 @@
--- Worked designs as images, written record by record: document 01's lease design, the two-group design, and small images for the table of refusals.
+-- Worked designs as images, written record by record: the lease design, the design with two groups, and small images for the table of refusals.
 -- `assemble` lays records out as 01's section 'The image' says; it is written here for the cases and proves nothing by itself.
 use Prim.Native.Nat.{ℕ, zero, suc, _+_, _*_, _/_, _%_}
 use mathlib.Core.List.{List, [], _∷_, _++_}
@@ -129,3 +129,252 @@ deep n =
     (stateRecord 0 0 0 ∷ stateRecord 0 0 3 ∷ [])
     (falls ∷ assigns 0 (2 * n) ∷ goesTo 1 ∷ sequences 1 2 ∷ [])
     (constant 1 ∷ nestedSums 0 n)
+
+-- the same sums as the condition of an if, whose commands have depth 2
+abbrev pub deepCondition : ℕ → List ℕ
+deepCondition n =
+    assemble
+    (1 ∷ [])
+    []
+    (stateRecord 0 0 0 ∷ stateRecord 0 0 3 ∷ [])
+    (falls ∷ goesTo 1 ∷ goesTo 1 ∷ branches (2 * n) 1 2 ∷ [])
+    (constant 1 ∷ nestedSums 0 n)
+
+-- the expressions r = 0 and r0 - 1, from the number of their first node on
+abbrev pub isZero : ℕ → ℕ → List (List ℕ)
+isZero first r = reads r ∷ constant 0 ∷ equals first (suc first) ∷ []
+
+abbrev pub countedDown : ℕ → List (List ℕ)
+countedDown first = reads 0 ∷ constant 1 ∷ subtracts first (suc first) ∷ []
+
+-- the commands "if e then goto s else goto t", and "r0 := d; if e then goto 1 else fall", likewise
+abbrev pub goesOneWay : ℕ → ℕ → ℕ → ℕ → List (List ℕ)
+goesOneWay first e s t = goesTo s ∷ goesTo t ∷ branches e first (suc first) ∷ []
+
+abbrev pub group : ℕ → ℕ → ℕ → List (List ℕ)
+group first d e = assigns 0 d ∷ goesTo 1 ∷ falls ∷ branches e (1 + first) (2 + first) ∷ sequences first (3 + first) ∷ []
+
+-- The lease controller with two groups (document 004, figure 2(b)): r0 timer, r1 mode, r2 and r3 the ports of the groups. State 1: r0 := 3;
+-- if r1 = 0 then (r1 := 1; goto 2) else (r1 := 0; goto 3). The groups 2 and 3 count down; of their two states each goes to the other while its port is 0.
+abbrev pub twoGroups : List ℕ
+twoGroups =
+    assemble
+    (3 ∷ 2 ∷ [])
+    (registerRecord 0 0 3 ∷ registerRecord 0 0 0 ∷ registerRecord 1 1 0 ∷ registerRecord 0 1 0 ∷ [])
+    (stateRecord 0 0 0
+    ∷ stateRecord 0 0 9
+    ∷ stateRecord 0 0 14
+    ∷ stateRecord 0 0 19
+    ∷ stateRecord 2 1 22
+    ∷ stateRecord 2 1 25
+    ∷ stateRecord 3 0 28
+    ∷ stateRecord 3 0 31
+    ∷ [])
+    ((falls ∷ assigns 0 0 ∷ assigns 1 4 ∷ goesTo 2 ∷ sequences 2 3 ∷ assigns 1 5 ∷ goesTo 3 ∷ sequences 5 6 ∷ branches 3 4 7 ∷ sequences 1 8 ∷ [])
+    ++ group 10 8 11
+    ++ group 15 14 17
+    ++ goesOneWay 20 20 5 4
+    ++ goesOneWay 23 23 4 5
+    ++ goesOneWay 26 26 7 6
+    ++ goesOneWay 29 29 6 7)
+    ((constant 3 ∷ [])
+    ++ isZero 1 1
+    ++ (constant 1 ∷ constant 0 ∷ [])
+    ++ countedDown 6
+    ++ isZero 9 0
+    ++ countedDown 12
+    ++ isZero 15 0
+    ++ isZero 18 2
+    ++ isZero 21 2
+    ++ isZero 24 3
+    ++ isZero 27 3)
+
+-- States 2 > 3 > 4 > 5, one below the other, with 6 beside 5 and 7 beside 4, and the group 8 of 9 and 10 apart. State 1 goes to 2.
+abbrev pub tower : List ℕ
+tower =
+    assemble
+    (1 ∷ [])
+    []
+    (stateRecord 0 0 0
+    ∷ stateRecord 0 0 1
+    ∷ stateRecord 0 0 2
+    ∷ stateRecord 2 0 3
+    ∷ stateRecord 3 0 4
+    ∷ stateRecord 4 0 5
+    ∷ stateRecord 4 0 6
+    ∷ stateRecord 3 0 7
+    ∷ stateRecord 0 0 8
+    ∷ stateRecord 8 0 9
+    ∷ stateRecord 8 0 10
+    ∷ [])
+    (falls ∷ goesTo 2 ∷ falls ∷ falls ∷ falls ∷ goesTo 6 ∷ goesTo 5 ∷ goesTo 4 ∷ falls ∷ goesTo 10 ∷ goesTo 9 ∷ [])
+    []
+
+-- the root falls by command 0; state 1 has label 0 and the body numbered; the commands given count from 1
+abbrev pub oneState : List ℕ → List (List ℕ) → ℕ → List (List ℕ) → List (List ℕ) → List ℕ
+oneState labels registers body commands expressions =
+    assemble labels registers (stateRecord 0 0 0 ∷ stateRecord 0 0 body ∷ []) (falls ∷ commands) expressions
+
+-- two labels, one above the other; r0 with label 0 and r1 with label 1
+abbrev pub chain : List ℕ
+chain = 3 ∷ 2 ∷ []
+
+abbrev pub lowAndHigh : List (List ℕ)
+lowAndHigh = registerRecord 0 0 0 ∷ registerRecord 1 0 0 ∷ []
+
+-- no registers, and state 1 goes to itself: accepted where the rows are a lattice
+abbrev pub ofRows : List ℕ → List ℕ
+ofRows labels = oneState labels [] 1 (goesTo 1 ∷ []) []
+
+abbrev pub smallest : List ℕ
+smallest = ofRows (1 ∷ [])
+
+-- Images that are refused, in the order of the table.
+-- 3: r1 of kind 2
+abbrev pub kindTwo : List ℕ
+kindTwo = oneState (1 ∷ []) (registerRecord 0 0 0 ∷ registerRecord 0 2 0 ∷ []) 1 (goesTo 1 ∷ []) []
+
+-- 4: state 1 with parent 1
+abbrev pub ownParent : List ℕ
+ownParent = assemble (1 ∷ []) [] (stateRecord 0 0 0 ∷ stateRecord 1 0 1 ∷ []) (falls ∷ goesTo 1 ∷ []) []
+
+-- 4: no commands
+abbrev pub noCommands : List ℕ
+noCommands = assemble (1 ∷ []) [] (stateRecord 0 0 0 ∷ []) [] []
+
+-- 5: command 1 of kind 6
+abbrev pub kindSix : List ℕ
+kindSix = oneState (1 ∷ []) [] 1 (node 6 0 0 0 0 ∷ []) []
+
+-- 5: expression 1 of kind 9
+abbrev pub expressionKindNine : List ℕ
+expressionKindNine = oneState (1 ∷ []) [] 3 (goesTo 1 ∷ goesTo 1 ∷ branches 1 1 2 ∷ []) (constant 1 ∷ node 9 0 0 0 0 ∷ [])
+
+-- 6: states 0 and 1 both with command 0
+abbrev pub sharedCommand : List ℕ
+sharedCommand = assemble (1 ∷ []) [] (stateRecord 0 0 0 ∷ stateRecord 0 0 0 ∷ []) (falls ∷ goesTo 1 ∷ []) []
+
+-- 6: a sequence with one skip as both parts
+abbrev pub twiceInSequence : List ℕ
+twiceInSequence = oneState (1 ∷ []) [] 4 (skips ∷ sequences 1 1 ∷ goesTo 1 ∷ sequences 2 3 ∷ []) []
+
+-- 8: if r0 then goto 1 else skip
+abbrev pub halfTransferring : List ℕ
+halfTransferring = oneState (1 ∷ []) (registerRecord 0 0 0 ∷ []) 3 (goesTo 1 ∷ skips ∷ branches 0 1 2 ∷ []) (reads 0 ∷ [])
+
+-- 8: (if r0 then goto 1 else skip); goto 1
+abbrev pub halfInside : List ℕ
+halfInside =
+    oneState (1 ∷ []) (registerRecord 0 0 0 ∷ []) 5 (goesTo 1 ∷ skips ∷ branches 0 1 2 ∷ goesTo 1 ∷ sequences 3 4 ∷ []) (reads 0 ∷ [])
+
+-- 8: goto 1; goto 1
+abbrev pub transfersFirst : List ℕ
+transfersFirst = oneState (1 ∷ []) [] 3 (goesTo 1 ∷ goesTo 1 ∷ sequences 1 2 ∷ []) []
+
+-- 8: state 1 skips
+abbrev pub onlySkips : List ℕ
+onlySkips = oneState (1 ∷ []) [] 1 (skips ∷ []) []
+
+-- 8: the root does goto 1
+abbrev pub rootGoes : List ℕ
+rootGoes = assemble (1 ∷ []) [] (stateRecord 0 0 0 ∷ stateRecord 0 0 1 ∷ []) (goesTo 1 ∷ goesTo 1 ∷ []) []
+
+-- 8: state 1 does goto 0
+abbrev pub gotoRoot : List ℕ
+gotoRoot = oneState (1 ∷ []) [] 1 (goesTo 0 ∷ []) []
+
+-- 8: the only state is the root, which falls
+abbrev pub rootAlone : List ℕ
+rootAlone = assemble (1 ∷ []) [] (stateRecord 0 0 0 ∷ []) (falls ∷ []) []
+
+-- 9: state 2 with label 0 under state 1 with label 1
+abbrev pub lowUnderHigh : List ℕ
+lowUnderHigh = assemble chain [] (stateRecord 0 0 0 ∷ stateRecord 0 1 1 ∷ stateRecord 1 0 2 ∷ []) (falls ∷ falls ∷ goesTo 2 ∷ []) []
+
+-- 10: r0 := r1; goto 1
+abbrev pub highToLow : List ℕ
+highToLow = oneState chain lowAndHigh 3 (assigns 0 0 ∷ goesTo 1 ∷ sequences 1 2 ∷ []) (reads 1 ∷ [])
+
+-- 10: the same assignment where the labels of r0 and r1 cannot be compared
+abbrev pub acrossLabels : List ℕ
+acrossLabels =
+    oneState
+    (15 ∷ 10 ∷ 12 ∷ 8 ∷ [])
+    (registerRecord 1 0 0 ∷ registerRecord 2 0 0 ∷ [])
+    3
+    (assigns 0 0 ∷ goesTo 1 ∷ sequences 1 2 ∷ [])
+    (reads 1 ∷ [])
+
+-- 10: (if r1 then r0 := 1 else r0 := 0); goto 1
+abbrev pub secretBranch : List ℕ
+secretBranch =
+    oneState
+    chain
+    lowAndHigh
+    5
+    (assigns 0 1 ∷ assigns 0 2 ∷ branches 0 1 2 ∷ goesTo 1 ∷ sequences 3 4 ∷ [])
+    (reads 1 ∷ constant 1 ∷ constant 0 ∷ [])
+
+-- 10: document 004, figure 2(a): the states 2 and 3 of label 1 count the timer r0 down: r0 := r0 - 1; if r0 then goto the other else goto 1
+abbrev pub flatLease : List ℕ
+flatLease =
+    assemble
+    chain
+    (registerRecord 0 0 3 ∷ [])
+    (stateRecord 0 0 0 ∷ stateRecord 0 0 3 ∷ stateRecord 0 1 8 ∷ stateRecord 0 1 13 ∷ [])
+    (falls
+    ∷ assigns 0 0
+    ∷ goesTo 2
+    ∷ sequences 1 2
+    ∷ assigns 0 3
+    ∷ goesTo 3
+    ∷ goesTo 1
+    ∷ branches 4 5 6
+    ∷ sequences 4 7
+    ∷ assigns 0 7
+    ∷ goesTo 2
+    ∷ goesTo 1
+    ∷ branches 8 10 11
+    ∷ sequences 9 12
+    ∷ [])
+    (constant 3 ∷ reads 0 ∷ constant 1 ∷ subtracts 1 2 ∷ reads 0 ∷ reads 0 ∷ constant 1 ∷ subtracts 5 6 ∷ reads 0 ∷ [])
+
+-- 11: if r1 then goto 1 else goto 2, states 1 and 2 with label 0
+abbrev pub secretGotos : List ℕ
+secretGotos =
+    assemble
+    chain
+    lowAndHigh
+    (stateRecord 0 0 0 ∷ stateRecord 0 0 3 ∷ stateRecord 0 0 4 ∷ [])
+    (falls ∷ goesTo 1 ∷ goesTo 2 ∷ branches 0 1 2 ∷ goesTo 1 ∷ [])
+    (reads 1 ∷ [])
+
+-- 11 at command 1, 10 at command 4: r0 := r1; if r1 then goto 1 else goto 1
+abbrev pub gotoBelowAssign : List ℕ
+gotoBelowAssign =
+    oneState
+    chain
+    lowAndHigh
+    5
+    (goesTo 1 ∷ goesTo 1 ∷ branches 0 1 2 ∷ assigns 0 1 ∷ sequences 4 3 ∷ [])
+    (reads 1 ∷ reads 1 ∷ [])
+
+-- 12: if r1 then fall else fall, in state 1 with label 0
+abbrev pub secretFalls : List ℕ
+secretFalls =
+    assemble
+    chain
+    lowAndHigh
+    (stateRecord 0 0 0 ∷ stateRecord 0 0 3 ∷ stateRecord 1 0 4 ∷ [])
+    (falls ∷ falls ∷ falls ∷ branches 0 1 2 ∷ goesTo 2 ∷ [])
+    (reads 1 ∷ [])
+
+-- 12: if r1 then fall else goto 2, in state 1 with label 0; state 2 has label 1
+abbrev pub fallOrGoto : List ℕ
+fallOrGoto =
+    assemble
+    chain
+    lowAndHigh
+    (stateRecord 0 0 0 ∷ stateRecord 0 0 3 ∷ stateRecord 0 1 4 ∷ stateRecord 1 1 5 ∷ [])
+    (falls ∷ falls ∷ goesTo 2 ∷ branches 0 1 2 ∷ goesTo 2 ∷ goesTo 3 ∷ [])
+    (reads 1 ∷ [])

@@ -10,10 +10,12 @@ use Rattle.model.specs.Verdict.{designVerdict, verdict}
 use Rattle.model.specs.Rules.{DesignKeeps, Keeps}
 use Rattle.model.proofs.Laws.Found.{zero-unless-iff, failing-iff, node-iff}
 use Rattle.model.proofs.Laws.Verdict.{before-iff}
+use Directories.{directory-iff}
 use Labels.{lattice-iff}
 use Records.{register-iff, state-iff, child-label-iff, command-iff, expression-iff, command-used-iff, expression-used-iff, command-depth-iff, expression-depth-iff}
 use Shapes.{shape-iff}
 use Flows.{flow-iff}
+pub mod Directories
 pub mod Labels
 pub mod Records
 pub mod Shapes
@@ -71,5 +73,5 @@ pub verdict-exact : (image : List ℕ) → (verdict image ≡ Accepted 0) ↔ Ke
 unfolding verdict
 verdict-exact image =
     Iff·trans
-    (before-iff Directory zero-unless-iff (design-verdict-exact (designOf image)))
+    (before-iff Directory (Iff·trans zero-unless-iff (directory-iff image)) (design-verdict-exact (designOf image)))
     (λ h. record { directory = h .0; design = h .1 }, λ k. (k .directory, k .design))

@@ -7,5 +7,7 @@ pub mod Commands
 pub mod Bounded
 pub mod Path
 pub mod Cycle
+pub mod Runs
 pub mod Calls
 pub mod Lists
+pub mod Theorem

@@ -1,6 +1,8 @@
--- The theorems about the meaning alone: the proved cases of document 01, and the laws of its definitions.
+-- The theorems about the meaning alone. `Promises` restates those that a reader looks for; the proved cases of document 01 stand first.
+pub mod Designs
+pub mod Opened
+pub mod Cases
 pub mod Laws
 pub mod Exact
 pub mod Independence
-pub mod Designs
-pub mod Cases
+pub mod Promises

@@ -1,13 +1,13 @@
--- The rules of document 01 as plain propositions. `Keeps` is what "keeps the rules" means; that the verdict accepts exactly the images that keep them is
+-- The rules of document 01 as propositions. `Keeps` is what "keeps the rules" means; that the verdict accepts exactly the images that keep them is
 -- the law `verdict-exact` of `proofs/Exact.antt`.
-use Prim.Native.Nat.{ℕ, _≤_, _<_, _^_}
+use Prim.Native.Nat.{ℕ, _%_, _≤_, _<_, _^_}
 use mathlib.Core.Path.{_≡_}
 use mathlib.Core.Bool.{Bool, true, false}
 use mathlib.Core.List.{List, [], _∷_, _++_}
 use lib.ListN.{length, getD}
-use Rattle.model.specs.Limits.{depthMax}
+use Rattle.model.specs.Limits.{directoryLength, depthMax}
 use Rattle.model.specs.Indices.{occurrences}
-use Rattle.model.specs.Image.{Design, Node, registerAt, stateAt, commandAt, expressionAt, directoryKept, designOf}
+use Rattle.model.specs.Image.{Section, Labels, Registers, States, Commands, Expressions, recordLength, fewest, most, offset, size, count, end, Design, Node, registerAt, stateAt, commandAt, expressionAt, designOf}
 use Rattle.model.specs.Lattice.{flowsTo, allFlowTo, registerLabel, stateLabel}
 use Rattle.model.specs.States.{parent, hasChild, siblingOrSelf}
 use Rattle.model.specs.Kinds.{CommandKind, skips, assigns, sequences, falls, goes, branches, unknownCommand, ExpressionKind, constants, reads, unknownExpression, operates, commandKind, expressionKind}
@@ -15,6 +15,23 @@ use Rattle.model.specs.Trees.{Cmd, skip, assign, sequence, fall, goto, b
 use Rattle.model.specs.Nodes.{commandUses, expressionUses}
 use Rattle.model.specs.Shape.{transfers}
 use Rattle.model.specs.Flow.{labelsRead}
+
+-- a section holds a whole number of records, within the table's limits
+pub record SectionKeeps (image : List ℕ) (s : Section) : Type 0 where
+  pub whole : size image s % recordLength s ≡ 0
+  pub at-least : fewest s ≤ count image s
+  pub at-most : count image s ≤ most s
+
+-- "The first offset is 20; each later one is the sum of offset and length before it; the last section ends at the image's end."
+pub record DirectoryKeeps (image : List ℕ) : Type 0 where
+  pub present : directoryLength ≤ length image
+  pub labels-at : offset image Labels ≡ directoryLength
+  pub registers-at : offset image Registers ≡ end image Labels
+  pub states-at : offset image States ≡ end image Registers
+  pub commands-at : offset image Commands ≡ end image States
+  pub expressions-at : offset image Expressions ≡ end image Commands
+  pub ends : length image ≡ end image Expressions
+  pub sections : (s : Section) → SectionKeeps image s
 
 -- "i flows to j"
 abbrev pub FlowsTo : List ℕ → ℕ → ℕ → Type 0
@@ -100,5 +117,5 @@ module _ (d : Design) where
 
 -- an image keeps the rules
 pub record Keeps (image : List ℕ) : Type 0 where
-  pub directory : directoryKept image ≡ true
+  pub directory : DirectoryKeeps image
   pub design : DesignKeeps (designOf image)

@@ -1,0 +1,262 @@
+-- The relation that holds between two runs from reset, and that no step of a list of calls breaks: both areas are good, labels rise along both live paths,
+-- and the registers and the beginnings of the paths that are seen agree.
+use Prim.Native.Nat.{ℕ, zero, suc, _≤_, _<_}
+use mathlib.Core.Path.{_≡_, refl, sym, _∙_, ap}
+use mathlib.Core.Logic.{_⊎_, inl, inr}
+use mathlib.Core.Bool.{Bool, true, false, cond}
+use mathlib.Core.List.{List, [], _∷_, map}
+use native.Mathlib.Omega.{arith}
+use native.Mathlib.Decide.{decLt}
+use lib.ListN.{length, getD, set, length-set, length-map, List·getD-eq-default}
+use Rattle.model.specs.declared.Ending.the-variants.{Goto, Fall}
+use Rattle.model.specs.declared.Outcome.{Outcome}
+use Rattle.model.specs.declared.Outcome.the-variants.{Continued, Transferred}
+use Rattle.model.specs.Limits.{valueCount}
+use Rattle.model.specs.Indices.{tabulate, joinBelow}
+use Rattle.model.specs.Image.{Design, Register}
+use Rattle.model.specs.Lattice.{stateLabel}
+use Rattle.model.specs.States.{defaultTarget}
+use Rattle.model.specs.Trees.{bodyOf}
+use Rattle.model.specs.Rules.{DesignKeeps}
+use Rattle.model.specs.Machine.{Areas, resetAreas, targetSound, runFrom, cycle}
+use Rattle.model.specs.Parties.{registerSeen, valuesSeen, walkSeen, givenUnseen}
+use Rattle.model.proofs.Laws.Booleans.{decide, true-or-false, cond-true, cond-false}
+use Rattle.model.proofs.Laws.Indices.{length-tabulate, getD-tabulate, join-same}
+use Rattle.model.proofs.Laws.States.{ChildOf, default-sound, sibling-no-root}
+use Rattle.model.proofs.Independence.Relation.{Good, withRegister, startAreas, Bisimulation}
+use Rattle.model.proofs.Independence.Endings.{Ended}
+use Rattle.model.proofs.Independence.Agreement.{Agree, agree-self, agree-trans, agree-sym, agree-unseen, agree-set}
+use Rattle.model.proofs.Independence.Bounded.{Bounded, BoundedCmd, set-bounded}
+use Rattle.model.proofs.Independence.Path.{Rising, Defaults, entryOf, ran, entry, ended, run-good, run-rises, default-rises}
+use Rattle.model.proofs.Independence.Cycle.{Alike, pathSeen, default-paths, same-register-seen, agree-alike, Together, run-together}
+
+module _ (d : Design) where
+  -- ---- reset
+  reset-defaults : Defaults d (λ q. Unit {0}) (resetAreas d .targets)
+  unfolding resetAreas
+  reset-defaults = record { default = λ q p l. getD-tabulate (defaultTarget d) (length (d .states)) q 0 l; closed = λ q c p child. tt }
+
+  -- areas whose targets are those of reset
+  pub reset-good : (values : List ℕ) → length values ≡ length (d .registers) → Bounded values → Good d (record { registers = values; targets = resetAreas d .targets })
+  unfolding resetAreas
+  reset-good values size bounded =
+      record {
+        registers-length = size;
+        targets-length = length-tabulate (defaultTarget d) (length (d .states));
+        bounded = bounded;
+        sound = λ s l. default-sound d (tabulate (defaultTarget d) (length (d .states))) s (getD-tabulate (defaultTarget d) (length (d .states)) s 0 l);
+      }
+
+  -- ---- a cycle runs from the root, and goes on from the root
+  module _ (keeps : DesignKeeps d) (bodies : (s : ℕ) → BoundedCmd (bodyOf d s)) where
+    root-stays : (o : Outcome) (context : List ℕ) → Ended d 0 context (bodyOf d 0) o → entryOf o 0 ≡ 0
+    root-stays Continued context e = refl
+    root-stays (Transferred Fall) context e = refl
+    root-stays (Transferred (Goto t)) context e = absurd (sibling-no-root d 0 t (e .1) refl)
+
+    pub entry-root : (f : ℕ) (a : Areas) → 0 < length (d .states) → entry d f 0 a ≡ 0
+    entry-root zero a l = refl
+    entry-root (suc f) a l = root-stays (ran d 0 a .outcome) (stateLabel d 0 ∷ []) (ended d keeps bodies 0 l a)
+
+  -- ---- the start: what is seen has its reset value
+  module _ (level : ℕ) (given : ℕ → ℕ) (values : List ℕ) where
+    pub length-given : length (givenUnseen d level given values) ≡ length (d .registers)
+    unfolding givenUnseen
+    length-given = length-tabulate (λ r. cond (registerSeen d level r) (getD values r 0) (given r)) (length (d .registers))
+
+    given-at : (r : ℕ) → r < length (d .registers) → getD (givenUnseen d level given values) r 0 ≡ cond (registerSeen d level r) (getD values r 0) (given r)
+    unfolding givenUnseen
+    given-at r l = getD-tabulate (λ r. cond (registerSeen d level r) (getD values r 0) (given r)) (length (d .registers)) r 0 l
+
+    given-past : (r : ℕ) → length (d .registers) ≤ r → getD (givenUnseen d level given values) r 0 ≡ 0
+    given-past r l = let size = length-given in List·getD-eq-default (givenUnseen d level given values) 0 {n = r} (omega arith)
+
+    pub given-bounded : Bounded values → ((r : ℕ) → given r < valueCount) → Bounded (givenUnseen d level given values)
+    given-bounded h k r = go (decLt r (length (d .registers)))
+      where
+        either : (b : Bool) → cond b (getD values r 0) (given r) < valueCount
+        either true = h r
+        either false = k r
+
+        go : Dec (r < length (d .registers)) → getD (givenUnseen d level given values) r 0 < valueCount
+        go (yes l) = rw (given-at r l) (either (registerSeen d level r))
+        go (no m) = rw (given-past r (omega arith)) (omega arith)
+
+    pub given-agrees : length values ≡ length (d .registers) → Agree d level (givenUnseen d level given values) values
+    given-agrees size = record { lengths = length-given ∙ sym size; values = λ r seen. go r seen (decLt r (length (d .registers))) }
+      where
+        go : (r : ℕ) → registerSeen d level r ≡ true → Dec (r < length (d .registers)) → getD (givenUnseen d level given values) r 0 ≡ getD values r 0
+        go r seen (yes l) = given-at r l ∙ cond-true (registerSeen d level r) (getD values r 0) (given r) seen
+        go r seen (no m) = given-past r (omega arith) ∙ sym (List·getD-eq-default values 0 {n = r} (omega arith))
+
+-- ---- two runs
+module _ (d₁ d₂ : Design) (level : ℕ) where
+  pub record Related (a b : Areas) : Type 0 where
+    pub good₁ : Good d₁ a
+    pub good₂ : Good d₂ b
+    pub rising₁ : Rising d₁ (length (d₁ .states)) 0 (a .targets)
+    pub rising₂ : Rising d₂ (length (d₁ .states)) 0 (b .targets)
+    pub agree : Agree d₁ level (a .registers) (b .registers)
+    pub paths : pathSeen d₁ level (length (d₁ .states)) 0 (a .targets) ≡ pathSeen d₂ level (length (d₁ .states)) 0 (b .targets)
+
+  module _
+      (alike : Alike d₁ d₂ level)
+      (keeps₁ : DesignKeeps d₁)
+      (keeps₂ : DesignKeeps d₂)
+      (bodies₁ : (s : ℕ) → BoundedCmd (bodyOf d₁ s))
+      (bodies₂ : (s : ℕ) → BoundedCmd (bodyOf d₂ s))
+      (resets : Bounded (resetAreas d₁ .registers))
+      (rooted : 0 < length (d₁ .states))
+      (isLabel : level < length (d₁ .rows))
+    where
+      rooted₂ : 0 < length (d₂ .states)
+      rooted₂ = rw (alike .states) at rooted
+
+      isLabel₂ : level < length (d₂ .rows)
+      isLabel₂ = rw (alike .rows) at isLabel
+
+      same-reset : resetAreas d₁ .registers ≡ resetAreas d₂ .registers
+      unfolding resetAreas
+      same-reset = rw (alike .registers) refl
+
+      length-reset : length (resetAreas d₁ .registers) ≡ length (d₁ .registers)
+      unfolding resetAreas
+      length-reset = length-map (d₁ .registers) (λ (r : Register). r .reset)
+
+      -- areas with the targets of reset, and registers that agree
+      from-reset : (v w : List ℕ) → length v ≡ length (d₁ .registers) → Bounded v → Bounded w → Agree d₁ level v w → Related (record { registers = v; targets = resetAreas d₁ .targets }) (record { registers = w; targets = resetAreas d₂ .targets })
+      from-reset v w size bounded₁ bounded₂ agree =
+          record {
+            good₁ = reset-good d₁ v size bounded₁;
+            good₂ = reset-good d₂ w (sym (agree .lengths) ∙ size ∙ ap length (alike .registers)) bounded₂;
+            rising₁ = default-rises d₁ keeps₁ bodies₁ (λ q. Unit {0}) (resetAreas d₁ .targets) (reset-defaults d₁) (length (d₁ .states)) 0 tt rooted;
+            rising₂ = default-rises d₂ keeps₂ bodies₂ (λ q. Unit {0}) (resetAreas d₂ .targets) (reset-defaults d₂) (length (d₁ .states)) 0 tt rooted₂;
+            agree = agree;
+            paths = default-paths d₁ d₂ level alike keeps₁ bodies₁ (λ q. Unit {0}) (resetAreas d₁ .targets) (resetAreas d₂ .targets) (reset-defaults d₁) (reset-defaults d₂) (length (d₁ .states)) 0 tt rooted;
+          }
+
+      length-reset₂ : length (resetAreas d₂ .registers) ≡ length (d₂ .registers)
+      length-reset₂ = ap length (sym same-reset) ∙ length-reset ∙ ap length (alike .registers)
+
+      resets₂ : Bounded (resetAreas d₂ .registers)
+      resets₂ = rw same-reset at resets
+
+      starts : (given₁ given₂ : ℕ → ℕ) → ((r : ℕ) → given₁ r < valueCount) → ((r : ℕ) → given₂ r < valueCount) → Related (startAreas d₁ level given₁) (startAreas d₂ level given₂)
+      starts given₁ given₂ h k =
+          let agree₂ : Agree d₁ level (givenUnseen d₂ level given₂ (resetAreas d₂ .registers)) (resetAreas d₁ .registers) =
+          rw same-reset (agree-alike d₁ d₂ level alike (given-agrees d₂ level given₂ (resetAreas d₂ .registers) length-reset₂)) in
+          from-reset
+          (givenUnseen d₁ level given₁ (resetAreas d₁ .registers))
+          (givenUnseen d₂ level given₂ (resetAreas d₂ .registers))
+          (length-given d₁ level given₁ (resetAreas d₁ .registers))
+          (given-bounded d₁ level given₁ (resetAreas d₁ .registers) resets h)
+          (given-bounded d₂ level given₂ (resetAreas d₂ .registers) resets₂ k)
+          (agree-trans d₁ level (given-agrees d₁ level given₁ (resetAreas d₁ .registers) length-reset) (agree-sym d₁ level agree₂))
+
+      reset-related : Related (resetAreas d₁) (resetAreas d₂)
+      reset-related = from-reset (resetAreas d₁ .registers) (resetAreas d₂ .registers) length-reset resets resets₂ (rw same-reset (agree-self d₁ level (resetAreas d₂ .registers)))
+
+      values-same : (a b : Areas) → Related a b → valuesSeen d₁ level (a .registers) ≡ valuesSeen d₂ level (b .registers)
+      unfolding valuesSeen
+      values-same a b related =
+          join-same (λ r. cond (registerSeen d₁ level r) (getD (a .registers) r 0 ∷ []) []) (λ r. cond (registerSeen d₂ level r) (getD (b .registers) r 0 ∷ []) []) (length (d₁ .registers)) (λ r l. at r (decide (registerSeen d₁ level r)))
+          ∙ ap (λ (n : ℕ). joinBelow (λ r. cond (registerSeen d₂ level r) (getD (b .registers) r 0 ∷ []) []) n) (ap length (alike .registers))
+        where
+          at : (r : ℕ) → (registerSeen d₁ level r ≡ true) ⊎ (registerSeen d₁ level r ≡ false) → cond (registerSeen d₁ level r) (getD (a .registers) r 0 ∷ []) [] ≡ cond (registerSeen d₂ level r) (getD (b .registers) r 0 ∷ []) []
+          at r (inl h) = rw (← (same-register-seen d₁ d₂ level alike r), h, related .agree .values r h)
+          at r (inr h) = rw (← (same-register-seen d₁ d₂ level alike r), h)
+
+      -- ---- a cycle
+      module _ (a b : Areas) (related : Related a b) where
+        as-many : cycle d₂ b ≡ runFrom d₂ (length (d₁ .states)) 0 b
+        unfolding cycle
+        as-many = ap (λ (n : ℕ). runFrom d₂ n 0 b) (sym (alike .states))
+
+        together : Together d₁ d₂ level alike (length (d₁ .states)) 0 0 (cycle d₁ a) (runFrom d₂ (length (d₁ .states)) 0 b)
+        unfolding cycle
+        together =
+            let run =
+            run-together
+            d₁
+            d₂
+            level
+            alike
+            keeps₁
+            keeps₂
+            bodies₁
+            bodies₂
+            isLabel
+            (length (d₁ .states))
+            0
+            0
+            a
+            b
+            rooted
+            rooted₂
+            (related .good₁)
+            (related .good₂)
+            (related .rising₁)
+            (related .rising₂)
+            (related .agree)
+            (related .paths) in
+            rw (entry-root d₁ keeps₁ bodies₁ (length (d₁ .states)) a rooted, entry-root d₂ keeps₂ bodies₂ (length (d₁ .states)) b rooted₂) at run
+
+        cycle-walks : walkSeen d₁ level (cycle d₁ a .walk) ≡ walkSeen d₂ level (cycle d₂ b .walk)
+        cycle-walks = rw as-many (together .walks)
+
+        cycle-related : Related (cycle d₁ a .after) (cycle d₂ b .after)
+        unfolding cycle
+        cycle-related =
+            let root₁ = entry-root d₁ keeps₁ bodies₁ (length (d₁ .states)) a rooted in
+            let root₂ = entry-root d₂ keeps₂ bodies₂ (length (d₁ .states)) b rooted₂ in
+            rw
+            as-many
+            (record {
+              good₁ = run-good d₁ keeps₁ bodies₁ (length (d₁ .states)) 0 a rooted (related .good₁);
+              good₂ = run-good d₂ keeps₂ bodies₂ (length (d₁ .states)) 0 b rooted₂ (related .good₂);
+              rising₁ = rw root₁ at (run-rises d₁ keeps₁ bodies₁ level isLabel (length (d₁ .states)) 0 a rooted (related .good₁) (related .rising₁));
+              rising₂ = rw root₂ at (run-rises d₂ keeps₂ bodies₂ level isLabel₂ (length (d₁ .states)) 0 b rooted₂ (related .good₂) (related .rising₂));
+              agree = together .registers;
+              paths = together .paths;
+            })
+
+      -- ---- a port write
+      set-good : (d : Design) (a : Areas) → Good d a → (r v : ℕ) → v < valueCount → Good d (withRegister r v a)
+      set-good d a good r v l =
+          record {
+            registers-length = length-set (a .registers) r v ∙ good .registers-length;
+            targets-length = good .targets-length;
+            bounded = set-bounded (a .registers) r v l (good .bounded);
+            sound = good .sound;
+          }
+
+      pub related-bisimulation : Bisimulation d₁ d₂ level Related
+      related-bisimulation =
+          record {
+            good = λ a b related. related .good₁;
+            values = values-same;
+            starts = starts;
+            resets = reset-related;
+            cycles = cycle-related;
+            walks = cycle-walks;
+            writes-seen =
+                λ a b related r v l.
+                record {
+                  good₁ = set-good d₁ a (related .good₁) r v l;
+                  good₂ = set-good d₂ b (related .good₂) r v l;
+                  rising₁ = related .rising₁;
+                  rising₂ = related .rising₂;
+                  agree = agree-set d₁ level (related .agree) r v;
+                  paths = related .paths;
+                };
+            writes-unseen =
+                λ a b related r v l unseen.
+                record {
+                  good₁ = set-good d₁ a (related .good₁) r v l;
+                  good₂ = related .good₂;
+                  rising₁ = related .rising₁;
+                  rising₂ = related .rising₂;
+                  agree = agree-trans d₁ level (agree-sym d₁ level (agree-unseen d₁ level (a .registers) r v unseen)) (related .agree);
+                  paths = related .paths;
+                };
+          }

@@ -1,0 +1,47 @@
+-- Demand 3 for every accepted image: the relation of `Runs.antt` holds from reset, and `Lists.antt` carries it through whole lists of calls.
+-- All that it uses of the image is drawn from the verdict.
+use Prim.Native.Nat.{ℕ, _≤_, _<_}
+use mathlib.Core.Path.{_≡_}
+use mathlib.Core.List.{List}
+use native.Mathlib.Omega.{arith}
+use lib.ListN.{length, drop}
+use Rattle.model.specs.declared.Answer.the-variants.{Accepted}
+use Rattle.model.specs.Limits.{stateLength}
+use Rattle.model.specs.Image.{AreBytes, States, count, offset, stateOf, sectionOf, designOf}
+use Rattle.model.specs.Rules.{DirectoryKeeps, DesignKeeps}
+use Rattle.model.specs.Verdict.{verdict}
+use Rattle.model.specs.Parties.{Independent}
+use Rattle.model.proofs.Laws.Words.{length-recordsOf}
+use Rattle.model.proofs.Exact.{verdict-exact}
+use Rattle.model.proofs.Independence.Relation.{Bisimulation}
+use Rattle.model.proofs.Independence.Bounded.{body-bounded, reset-bounded}
+use Rattle.model.proofs.Independence.Cycle.{alike-self}
+use Rattle.model.proofs.Independence.Runs.{Related, related-bisimulation}
+use Rattle.model.proofs.Independence.Lists.{lists-independent}
+
+-- an image that keeps the rules has a state
+rooted : (image : List ℕ) → DirectoryKeeps image → 0 < length (designOf image .states)
+unfolding designOf sectionOf
+rooted image kept =
+    let some : 1 ≤ count image States = kept .sections States .at-least in
+    let size : length (designOf image .states) ≡ count image States = length-recordsOf stateOf stateLength (count image States) (drop (offset image States) image) in
+    omega arith
+
+pub independent : Independent
+independent image bytes accepted level isLabel one other same =
+    let d = designOf image in
+    let keeps = verdict-exact image .0 accepted in
+    let related : Bisimulation d d level (Related d d level) =
+    related-bisimulation
+    d
+    d
+    level
+    (alike-self d level)
+    (keeps .design)
+    (keeps .design)
+    (body-bounded image bytes)
+    (body-bounded image bytes)
+    (reset-bounded image bytes)
+    (rooted image (keeps .directory))
+    isLabel in
+    lists-independent image image accepted accepted level (Related d d level) (Related d d level) related related one other same

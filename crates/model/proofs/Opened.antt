@@ -1,0 +1,96 @@
+-- What the table of cases is written with: two names that open the definitions of specs/ (each stands for all that its `unfolding` line names), and
+-- short ways to put a case.
+use Prim.Native.Nat.{ℕ}
+use mathlib.Core.List.{List, [], _∷_, map}
+use lib.ListN.{length, replicate}
+use Rattle.model.specs.declared.Found.{Found}
+use Rattle.model.specs.Indices.{allBelow, someBelow, lowest, lowestFailing, lowestOf, occurrences, tabulateFrom, tabulate, joinBelow, upTo, recursively}
+use Rattle.model.specs.Image.{Section, offset, size, sectionKept, offsetsKept, directoryKept, recordsOf, sectionOf, designOf}
+use Rattle.model.specs.Lattice.{flowsTo, rowInside, reflexive, antisymmetric, transitive, leastFull, leastAbove, joined, labelKept, allFlowTo}
+use Rattle.model.specs.States.{registerKept, parentKept, stateKept, childLabelKept, isChild, hasChild, defaultTarget, siblingOrSelf, within}
+use Rattle.model.specs.Kinds.{commandKind, expressionKind, commandHolds, expressionHolds, commandKept, expressionKept}
+use Rattle.model.specs.Trees.{exprOfKind, cmdOfKind, exprStep, exprOf, cmdStep, cmdOf, bodyOf, exprDepth, cmdDepth, registersRead}
+use Rattle.model.specs.Nodes.{commandParts, expressionsOf, expressionParts, commandUses, expressionUses, commandUsedOnce, expressionUsedOnce, commandDepthKept, expressionDepthKept}
+use Rattle.model.specs.Shape.{transfers, shapeFaults, stateShapeFaults, shapeFault}
+use Rattle.model.specs.Flow.{labelsRead, flowFaults, stateFlowFaults, nearer, nearest, flowAnswer}
+use Rattle.model.specs.Answers.{Numbers, numbersOf}
+use Rattle.model.specs.Verdict.{_before_, refusedAt, lowestNode, designVerdict, verdict}
+use Rattle.model.specs.Values.{apply, wordsOf, bytesOf}
+use Rattle.model.specs.Machine.{Areas, Cycle, eval, exec, resetAreas, targetSound, cleared, goneTo, afterBody, runFrom, cycle, cycles, afterLast, afterCycles}
+use Rattle.model.specs.Calls.{Lent, Left, registerAreaAnswer, lengthAnswer, targetsAnswer, isWritable, portAnswer, areasOf, lentOf, cyclesAnswer, check, resetAnswer, reset, runAnswer, run, writePortAnswer, writePort}
+use Rattle.model.specs.Listing.{bytesOfText, decimal, spaced, header, line, lines, refusalLine, listed, listing}
+use Rattle.model.specs.Parties.{Event, wasReset, wasWritten, cycled, perform, eventsOf, events, atEnd}
+
+-- every definition of the image checks
+unfoldable pub checks : ℕ
+unfolding allBelow someBelow lowest lowestFailing lowestOf occurrences tabulateFrom tabulate joinBelow upTo recursively sectionKept offsetsKept directoryKept recordsOf sectionOf designOf flowsTo rowInside reflexive antisymmetric transitive leastFull leastAbove joined labelKept allFlowTo registerKept parentKept stateKept childLabelKept isChild hasChild defaultTarget siblingOrSelf within commandKind expressionKind commandHolds expressionHolds commandKept expressionKept exprOfKind cmdOfKind exprStep exprOf cmdStep cmdOf bodyOf exprDepth cmdDepth registersRead commandParts expressionsOf expressionParts commandUses expressionUses commandUsedOnce expressionUsedOnce commandDepthKept expressionDepthKept transfers shapeFaults stateShapeFaults shapeFault labelsRead flowFaults stateFlowFaults nearer nearest flowAnswer _before_ refusedAt lowestNode designVerdict verdict
+checks = 0
+
+-- and with these every definition of the cycle, the calls, the lists of calls and the listing
+unfoldable pub everything : ℕ
+unfolding checks apply wordsOf bytesOf eval exec resetAreas targetSound cleared goneTo afterBody runFrom cycle cycles afterLast afterCycles registerAreaAnswer lengthAnswer targetsAnswer isWritable portAnswer areasOf lentOf cyclesAnswer check resetAnswer reset runAnswer run writePortAnswer writePort bytesOfText decimal spaced header line lines refusalLine listed listing perform eventsOf events atEnd
+everything = 0
+
+-- Short ways to put a case.
+
+-- an acceptance with its count, and a refusal with its number and place, as the host is told
+abbrev pub accepted : ℕ → Numbers
+accepted count = record { number = 0; place = 0; count = count }
+
+abbrev pub refused : ℕ → ℕ → Numbers
+refused number place = record { number = number; place = place; count = 0 }
+
+-- the verdict of an image, as the host is told
+abbrev pub judged : List ℕ → Numbers
+judged image = numbersOf (verdict image)
+
+-- all that a call leaves: what the host is told, and every lent byte
+abbrev pub told : Left → Numbers × Lent
+told left = (numbersOf (left .answer), left .lent)
+
+abbrev pub lent : List ℕ → List ℕ → Lent
+lent registers targets = record { registers = registers; targets = targets }
+
+abbrev pub areas : List ℕ → List ℕ → Areas
+areas registers targets = record { registers = registers; targets = targets }
+
+-- where the rows stop being a lattice
+abbrev pub faultOfRows : List ℕ → Found
+faultOfRows rows = lowestFailing (labelKept rows) (length rows)
+
+-- the cycles of a list of calls
+abbrev pub cyclesOf : List Event → List Cycle
+cyclesOf [] = []
+cyclesOf (wasReset ∷ more) = cyclesOf more
+cyclesOf (wasWritten r v ∷ more) = cyclesOf more
+cyclesOf (cycled c ∷ more) = c ∷ cyclesOf more
+
+abbrev pub walks : List Event → List (List ℕ)
+walks es = map (λ (c : Cycle). c .walk) (cyclesOf es)
+
+-- offset and length of a section
+abbrev pub pairOf : List ℕ → Section → ℕ × ℕ
+pairOf image s = (offset image s, size image s)
+
+-- areas for the lease design, with any bytes in them; as its reset leaves them; of wrong lengths; and with 1 as the target of 2 and 4 as that of 3
+abbrev pub anyLent : Lent
+anyLent = lent (replicate 8 9) (replicate 5 9)
+
+abbrev pub resetLent : Lent
+resetLent = lent (3 ∷ 0 ∷ 0 ∷ 0 ∷ 0 ∷ 0 ∷ 0 ∷ 0 ∷ []) (1 ∷ 1 ∷ 3 ∷ 3 ∷ 4 ∷ [])
+
+abbrev pub shortLent : Lent
+shortLent = lent (replicate 4 9) (1 ∷ 1 ∷ 3 ∷ 3 ∷ 4 ∷ [])
+
+abbrev pub longLent : Lent
+longLent = lent (replicate 9 9) (1 ∷ 1 ∷ 3 ∷ 3 ∷ 4 ∷ [])
+
+abbrev pub longTargets : Lent
+longTargets = lent (replicate 8 9) (1 ∷ 1 ∷ 3 ∷ 3 ∷ 4 ∷ 5 ∷ [])
+
+abbrev pub unsoundLent : Lent
+unsoundLent = lent (replicate 8 9) (1 ∷ 1 ∷ 1 ∷ 4 ∷ 4 ∷ [])
+
+-- areas for the design with two groups, with any bytes in them
+abbrev pub groupsLent : Lent
+groupsLent = lent (replicate 16 9) (replicate 8 9)
