@@ -3,6 +3,7 @@ pub mod Booleans
 pub mod Equivalences
 pub mod Indices
 pub mod Words
+pub mod Images
 pub mod Found
 pub mod States
 pub mod Gotos
