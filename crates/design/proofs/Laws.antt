@@ -1,0 +1,117 @@
+-- A record by the place of its section is the design's record, and stands inside the image.
+use Prim.Native.Nat.{ℕ, _+_, _*_, _/_, _≤_, _<_}
+use mathlib.Core.Path.{_≡_, sym, ap, _∙_}
+use mathlib.Core.Bool.{false}
+use mathlib.Core.List.{List}
+use native.Mathlib.Omega.{arith}
+use lib.ListN.{length, getD}
+use Rattle.model.specs.Limits.{directoryLength}
+use Rattle.model.specs.Image.{Labels, Registers, States, Commands, Expressions, offset, size, directoryKept, designOf, registerAt, stateAt, commandAt, expressionAt}
+use Rattle.model.proofs.Laws.Images.{row-at, RegisterIs, register-is, StateIs, state-is, NodeIs, command-is, expression-is, label-count, register-count, state-count, command-count, expression-count}
+use Rattle.design.specs.declared.Design.{Design}
+use Rattle.design.specs.Records.{rowIn, registerIn, stateIn, nodeIn}
+use Rattle.design.specs.Describes.{Describes}
+use Rattle.model.specs.Rules.{DirectoryKeeps}
+use Rattle.model.proofs.Laws.Booleans.{false-unless-true}
+use Rattle.model.proofs.Exact.Directories.{directory-iff}
+
+-- an image too short for a directory has none that is kept
+pub too-short : (image : List ℕ) → length image < directoryLength → false ≡ directoryKept image
+too-short image short = sym (false-unless-true (directoryKept image) (λ e. let present = directory-iff image .0 e .present in omega arith))
+
+-- what the fields of a directory that is kept make a design of
+pub describes :
+    {image : List ℕ} {l r s c e ra sa ca ea : ℕ}
+    → DirectoryKeeps image
+    → l ≡ size image Labels
+    → r ≡ size image Registers
+    → s ≡ size image States
+    → c ≡ size image Commands
+    → e ≡ size image Expressions
+    → ra ≡ offset image Registers
+    → sa ≡ offset image States
+    → ca ≡ offset image Commands
+    → ea ≡ offset image Expressions
+    → Describes
+    image
+    (record {
+      labels = l / 2;
+      registers = r / 6;
+      states = s / 4;
+      commands = c / 8;
+      expressions = e / 8;
+      «registers_at» = ra;
+      «states_at» = sa;
+      «commands_at» = ca;
+      «expressions_at» = ea;
+    })
+describes directory l r s c e ra sa ca ea =
+    record {
+      directory = directory;
+      labels = ap (λ (n : ℕ). n / 2) l;
+      registers = ap (λ (n : ℕ). n / 6) r;
+      states = ap (λ (n : ℕ). n / 4) s;
+      commands = ap (λ (n : ℕ). n / 8) c;
+      expressions = ap (λ (n : ℕ). n / 8) e;
+      registers-at = ra;
+      states-at = sa;
+      commands-at = ca;
+      expressions-at = ea;
+    }
+
+-- ---- the records of an image that a design describes
+module _ {image : List ℕ} {x : Design} (d : Describes image x) where
+  pub labels-count : x .labels ≡ length (designOf image .rows)
+  labels-count = d .labels ∙ sym (label-count image)
+
+  pub registers-count : x .registers ≡ length (designOf image .registers)
+  registers-count = d .registers ∙ sym (register-count image)
+
+  pub states-count : x .states ≡ length (designOf image .states)
+  states-count = d .states ∙ sym (state-count image)
+
+  pub commands-count : x .commands ≡ length (designOf image .commands)
+  commands-count = d .commands ∙ sym (command-count image)
+
+  pub expressions-count : x .expressions ≡ length (designOf image .expressions)
+  expressions-count = d .expressions ∙ sym (expression-count image)
+
+  -- ---- records stand inside the image
+  pub row-inside : {i : ℕ} → i < x .labels → 20 + 2 * i + 2 ≤ length image
+  row-inside l = omega (arith, d .labels, d .directory)
+
+  pub register-inside : {r : ℕ} → r < x .registers → x .«registers_at» + 6 * r + 6 ≤ length image
+  register-inside l = omega (arith, d, d .directory)
+
+  pub state-inside : {s : ℕ} → s < x .states → x .«states_at» + 4 * s + 4 ≤ length image
+  state-inside l = omega (arith, d, d .directory)
+
+  pub command-inside : {n : ℕ} → n < x .commands → x .«commands_at» + 8 * n + 8 ≤ length image
+  command-inside l = omega (arith, d, d .directory)
+
+  pub expression-inside : {n : ℕ} → n < x .expressions → x .«expressions_at» + 8 * n + 8 ≤ length image
+  expression-inside l = omega (arith, d, d .directory)
+
+  -- ---- and are the design's
+  pub row-in : {i : ℕ} → i < x .labels → rowIn image 20 i ≡ getD (designOf image .rows) i 0
+  row-in {i} l = rw (← (d .directory .labels-at)) (sym (row-at image i (omega (arith, d .labels))))
+
+  pub register-in : {r : ℕ} → r < x .registers → registerIn image (x .«registers_at») r ≡ registerAt (designOf image) r
+  register-in {r} l =
+      let is = register-is image r (omega (arith, d .registers)) in
+      rw (d .registers-at) (sym (λ i. record { label = is .label i; kind = is .kind i; reset = is .reset i }))
+
+  pub state-in : {s : ℕ} → s < x .states → stateIn image (x .«states_at») s ≡ stateAt (designOf image) s
+  state-in {s} l =
+      let is = state-is image s (omega (arith, d .states)) in
+      rw (d .states-at) (sym (λ i. record { parent = is .parent i; label = is .label i; command = is .command i }))
+
+  pub command-in : {n : ℕ} → n < x .commands → nodeIn image (x .«commands_at») n ≡ commandAt (designOf image) n
+  command-in {n} l =
+      let is = command-is image n (omega (arith, d .commands)) in
+      rw (d .commands-at) (sym (λ i. record { kind = is .kind i; item = is .item i; a = is .a i; b = is .b i; c = is .c i }))
+
+  pub expression-in : {n : ℕ} → n < x .expressions → nodeIn image (x .«expressions_at») n ≡ expressionAt (designOf image) n
+  expression-in {n} l =
+      let is = expression-is image n (omega (arith, d .expressions)) in
+      rw (d .expressions-at) (sym (λ i. record { kind = is .kind i; item = is .item i; a = is .a i; b = is .b i; c = is .c i }))

@@ -1,0 +1,268 @@
+// The design table in bytes: its limits, its directory, and one accessor for each field. No other
+// crate knows where a byte stands.
+ghost use Prim.Native.Nat.{ℕ, _+_, _*_, _/_, _%_, _<_, _≤_};
+ghost use mathlib.Core.Bool.{_&&_};
+ghost use lib.Dec.{eqb, leb};
+ghost use mathlib.Core.Path.{_≡_};
+ghost use lib.ListN.{length};
+ghost use Rattle.model.specs.Image.{word16At, word32At, offsetsKept, directoryKept};
+ghost use Rattle.model.specs.Limits.{directoryLength, labelLength, registerLength, stateLength, nodeLength, labelsMax, registersMax, statesMax, commandsMax, expressionsMax, depthMax, expressionPlace};
+ghost use Rattle.model.specs.Rules.{DirectoryKeeps};
+ghost use Rattle.design.specs.Records.{rowIn, registerIn, stateIn, nodeIn, constantIn};
+ghost use Rattle.design.specs.Describes.{Describes};
+
+// What an image's directory says: how many records each section has, and where it begins. The
+// labels begin behind the directory.
+pub struct Design {
+    pub labels: usize,
+    pub registers: usize,
+    pub states: usize,
+    pub commands: usize,
+    pub expressions: usize,
+    pub registers_at: usize,
+    pub states_at: usize,
+    pub commands_at: usize,
+    pub expressions_at: usize,
+}
+
+// A byte as an index.
+fn wide(b: u8) -> usize
+    ensures { λ r. ⌜ (r ≡ b) × (r < 256) ⌝ }
+{
+    b as usize
+}
+
+// The 16-bit field at a place.
+fn word16(image: &[u8], at: usize) -> usize
+    requires { ⌜ at + 1 < length (now image) ⌝ }
+    ensures { λ r. ⌜ (r ≡ word16At (now (image .entry)) at) × (r < 65536) ⌝ }
+{
+    let low = wide(image[at]);
+    let high = wide(image[at + 1]);
+    low + 256 * high
+}
+
+// The 32-bit field at a place.
+fn word32(image: &[u8], at: usize) -> u32
+    requires { ⌜ at + 3 < length (now image) ⌝ }
+    ensures { λ r. ⌜ r ≡ word32At (now (image .entry)) at ⌝ }
+{
+    let low = word16(image, at);
+    let high = word16(image, at + 2);
+    (low + 65536 * high) as u32
+}
+
+// The offset and the length of section k, and where it ends.
+fn offset(image: &[u8], k: usize) -> usize
+    requires { ⌜ (20 ≤ length (now image)) × (k < 5) ⌝ }
+    ensures { λ r. ⌜ (r ≡ word16At (now (image .entry)) (4 * k)) × (r < 65536) ⌝ }
+{
+    word16(image, 4 * k)
+}
+
+fn size(image: &[u8], k: usize) -> usize
+    requires { ⌜ (20 ≤ length (now image)) × (k < 5) ⌝ }
+    ensures { λ r. ⌜ (r ≡ word16At (now (image .entry)) (4 * k + 2)) × (r < 65536) ⌝ }
+{
+    word16(image, 4 * k + 2)
+}
+
+fn end(image: &[u8], k: usize) -> usize
+    requires { ⌜ (20 ≤ length (now image)) × (k < 5) ⌝ }
+    ensures { λ r. ⌜ r ≡ word16At (now (image .entry)) (4 * k) + word16At (now (image .entry)) (4 * k + 2) ⌝ }
+{
+    offset(image, k) + size(image, k)
+}
+
+// The sections stand one behind the other, from the directory's end to the image's.
+fn offsets_kept(image: &[u8]) -> bool
+    requires { ⌜ 20 ≤ length (now image) ⌝ }
+    ensures { λ r. ⌜ r ≡ offsetsKept (now (image .entry)) ⌝ }
+{
+    (Design::DIRECTORY_LENGTH <= image.len())
+        & (offset(image, 0) == Design::DIRECTORY_LENGTH)
+        & (offset(image, 1) == end(image, 0))
+        & (offset(image, 2) == end(image, 1))
+        & (offset(image, 3) == end(image, 2))
+        & (offset(image, 4) == end(image, 3))
+        & (image.len() == end(image, 4))
+}
+
+// A section of so many bytes holds whole records, within its limits.
+fn section_kept(size: usize, width: usize, fewest: usize, most: usize) -> bool
+    requires { ⌜ 0 < width ⌝ }
+    ensures { λ r. ⌜ r ≡ (eqb (size % width) 0 && leb fewest (size / width) && leb (size / width) most) ⌝ }
+{
+    (size % width == 0) & (fewest <= size / width) & (size / width <= most)
+}
+
+impl Design {
+    // The greatest count of records in each section.
+    pub const LABELS: usize = 16;
+
+    pub const REGISTERS: usize = 64;
+
+    pub const STATES: usize = 64;
+
+    pub const COMMANDS: usize = 1024;
+
+    pub const EXPRESSIONS: usize = 2048;
+    // The length of the directory and of each record, in bytes.
+    pub const DIRECTORY_LENGTH: usize = 20;
+
+    pub const LABEL_LENGTH: usize = 2;
+
+    pub const REGISTER_LENGTH: usize = 6;
+
+    pub const STATE_LENGTH: usize = 4;
+
+    pub const NODE_LENGTH: usize = 8;
+    // How deep commands and expressions nest.
+    pub const DEPTH: usize = 64;
+    // What is added to an expression's number to give its place.
+    pub const EXPRESSION_PLACE: usize = 1024;
+
+    // Each limit is the one that the meaning names.
+    pub fn limits()
+        ensures { λ _. do ⌜ (← ⟦Design::LABELS⟧ .entry) ≡ labelsMax ⌝ }
+        ensures { λ _. do ⌜ (← ⟦Design::REGISTERS⟧ .entry) ≡ registersMax ⌝ }
+        ensures { λ _. do ⌜ (← ⟦Design::STATES⟧ .entry) ≡ statesMax ⌝ }
+        ensures { λ _. do ⌜ (← ⟦Design::COMMANDS⟧ .entry) ≡ commandsMax ⌝ }
+        ensures { λ _. do ⌜ (← ⟦Design::EXPRESSIONS⟧ .entry) ≡ expressionsMax ⌝ }
+        ensures { λ _. do ⌜ (← ⟦Design::DIRECTORY_LENGTH⟧ .entry) ≡ directoryLength ⌝ }
+        ensures { λ _. do ⌜ (← ⟦Design::LABEL_LENGTH⟧ .entry) ≡ labelLength ⌝ }
+        ensures { λ _. do ⌜ (← ⟦Design::REGISTER_LENGTH⟧ .entry) ≡ registerLength ⌝ }
+        ensures { λ _. do ⌜ (← ⟦Design::STATE_LENGTH⟧ .entry) ≡ stateLength ⌝ }
+        ensures { λ _. do ⌜ (← ⟦Design::NODE_LENGTH⟧ .entry) ≡ nodeLength ⌝ }
+        ensures { λ _. do ⌜ (← ⟦Design::DEPTH⟧ .entry) ≡ depthMax ⌝ }
+        ensures { λ _. do ⌜ (← ⟦Design::EXPRESSION_PLACE⟧ .entry) ≡ expressionPlace ⌝ }
+    {}
+
+    // The row of label i.
+    pub fn row(image: &[u8], i: usize) -> usize
+        requires { ⌜ 20 + 2 * i + 2 ≤ length (now image) ⌝ }
+        ensures { λ r. ⌜ (r ≡ rowIn (now (image .entry)) 20 i) × (r < 65536) ⌝ }
+    {
+        word16(image, Self::DIRECTORY_LENGTH + Self::LABEL_LENGTH * i)
+    }
+
+    // The fields of register r, where the registers begin at a place.
+    pub fn register_label(image: &[u8], at: usize, r: usize) -> usize
+        requires { ⌜ at + 6 * r + 6 ≤ length (now image) ⌝ }
+        ensures { λ x. ⌜ (x ≡ registerIn (now (image .entry)) at r .label) × (x < 256) ⌝ }
+    {
+        wide(image[at + Self::REGISTER_LENGTH * r])
+    }
+
+    pub fn register_kind(image: &[u8], at: usize, r: usize) -> usize
+        requires { ⌜ at + 6 * r + 6 ≤ length (now image) ⌝ }
+        ensures { λ x. ⌜ (x ≡ registerIn (now (image .entry)) at r .kind) × (x < 256) ⌝ }
+    {
+        wide(image[at + Self::REGISTER_LENGTH * r + 1])
+    }
+
+    pub fn register_reset(image: &[u8], at: usize, r: usize) -> u32
+        requires { ⌜ at + 6 * r + 6 ≤ length (now image) ⌝ }
+        ensures { λ x. ⌜ x ≡ registerIn (now (image .entry)) at r .reset ⌝ }
+    {
+        word32(image, at + Self::REGISTER_LENGTH * r + 2)
+    }
+
+    // The fields of state s, where the states begin at a place.
+    pub fn parent(image: &[u8], at: usize, s: usize) -> usize
+        requires { ⌜ at + 4 * s + 4 ≤ length (now image) ⌝ }
+        ensures { λ x. ⌜ (x ≡ stateIn (now (image .entry)) at s .parent) × (x < 256) ⌝ }
+    {
+        wide(image[at + Self::STATE_LENGTH * s])
+    }
+
+    pub fn state_label(image: &[u8], at: usize, s: usize) -> usize
+        requires { ⌜ at + 4 * s + 4 ≤ length (now image) ⌝ }
+        ensures { λ x. ⌜ (x ≡ stateIn (now (image .entry)) at s .label) × (x < 256) ⌝ }
+    {
+        wide(image[at + Self::STATE_LENGTH * s + 1])
+    }
+
+    pub fn state_command(image: &[u8], at: usize, s: usize) -> usize
+        requires { ⌜ at + 4 * s + 4 ≤ length (now image) ⌝ }
+        ensures { λ x. ⌜ (x ≡ stateIn (now (image .entry)) at s .command) × (x < 65536) ⌝ }
+    {
+        word16(image, at + Self::STATE_LENGTH * s + 2)
+    }
+
+    // The fields of node n, where the nodes of its family begin at a place.
+    pub fn kind(image: &[u8], at: usize, n: usize) -> u8
+        requires { ⌜ at + 8 * n + 8 ≤ length (now image) ⌝ }
+        ensures { λ x. ⌜ x ≡ nodeIn (now (image .entry)) at n .kind ⌝ }
+    {
+        image[at + Self::NODE_LENGTH * n]
+    }
+
+    pub fn item(image: &[u8], at: usize, n: usize) -> usize
+        requires { ⌜ at + 8 * n + 8 ≤ length (now image) ⌝ }
+        ensures { λ x. ⌜ (x ≡ nodeIn (now (image .entry)) at n .item) × (x < 256) ⌝ }
+    {
+        wide(image[at + Self::NODE_LENGTH * n + 1])
+    }
+
+    pub fn part_a(image: &[u8], at: usize, n: usize) -> usize
+        requires { ⌜ at + 8 * n + 8 ≤ length (now image) ⌝ }
+        ensures { λ x. ⌜ (x ≡ nodeIn (now (image .entry)) at n .a) × (x < 65536) ⌝ }
+    {
+        word16(image, at + Self::NODE_LENGTH * n + 2)
+    }
+
+    pub fn part_b(image: &[u8], at: usize, n: usize) -> usize
+        requires { ⌜ at + 8 * n + 8 ≤ length (now image) ⌝ }
+        ensures { λ x. ⌜ (x ≡ nodeIn (now (image .entry)) at n .b) × (x < 65536) ⌝ }
+    {
+        word16(image, at + Self::NODE_LENGTH * n + 4)
+    }
+
+    pub fn part_c(image: &[u8], at: usize, n: usize) -> usize
+        requires { ⌜ at + 8 * n + 8 ≤ length (now image) ⌝ }
+        ensures { λ x. ⌜ (x ≡ nodeIn (now (image .entry)) at n .c) × (x < 65536) ⌝ }
+    {
+        word16(image, at + Self::NODE_LENGTH * n + 6)
+    }
+
+    pub fn constant(image: &[u8], at: usize, n: usize) -> u32
+        requires { ⌜ at + 8 * n + 8 ≤ length (now image) ⌝ }
+        ensures { λ x. ⌜ x ≡ constantIn (now (image .entry)) at n ⌝ }
+    {
+        word32(image, at + Self::NODE_LENGTH * n + 4)
+    }
+
+    // Refusal 1: the directory, the counts and the section lengths.
+    pub fn directory_kept(image: &[u8]) -> bool
+        ensures { λ r. ⌜ r ≡ directoryKept (now (image .entry)) ⌝ }
+    {
+        if image.len() < Self::DIRECTORY_LENGTH {
+            return false;
+        }
+        offsets_kept(image)
+            & section_kept(size(image, 0), Self::LABEL_LENGTH, 1, Self::LABELS)
+            & section_kept(size(image, 1), Self::REGISTER_LENGTH, 0, Self::REGISTERS)
+            & section_kept(size(image, 2), Self::STATE_LENGTH, 1, Self::STATES)
+            & section_kept(size(image, 3), Self::NODE_LENGTH, 0, Self::COMMANDS)
+            & section_kept(size(image, 4), Self::NODE_LENGTH, 0, Self::EXPRESSIONS)
+    }
+
+    // The design that a directory describes.
+    pub fn read(image: &[u8]) -> Design
+        requires { ⌜ DirectoryKeeps (now image) ⌝ }
+        ensures { λ r. ⌜ Describes (now (image .entry)) r ⌝ }
+    {
+        Design {
+            labels: size(image, 0) / Self::LABEL_LENGTH,
+            registers: size(image, 1) / Self::REGISTER_LENGTH,
+            states: size(image, 2) / Self::STATE_LENGTH,
+            commands: size(image, 3) / Self::NODE_LENGTH,
+            expressions: size(image, 4) / Self::NODE_LENGTH,
+            registers_at: offset(image, 1),
+            states_at: offset(image, 2),
+            commands_at: offset(image, 3),
+            expressions_at: offset(image, 4),
+        }
+    }
+}
