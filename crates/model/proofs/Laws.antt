@@ -8,3 +8,4 @@ pub mod Found
 pub mod States
 pub mod Gotos
 pub mod Verdict
+pub mod Passes
