@@ -1,12 +1,13 @@
 -- A record by the place of its section is the design's record, and stands inside the image.
-use Prim.Native.Nat.{ℕ, _+_, _*_, _/_, _≤_, _<_}
+use Prim.Native.Nat.{ℕ, _+_, _*_, _/_, _%_, _≤_, _<_}
 use mathlib.Core.Path.{_≡_, sym, ap, _∙_}
-use mathlib.Core.Bool.{false}
+use mathlib.Core.Bool.{Bool, false, _&&_}
+use lib.Dec.{eqb, leb}
 use mathlib.Core.List.{List}
 use native.Mathlib.Omega.{arith}
 use lib.ListN.{length, getD}
 use Rattle.model.specs.Limits.{directoryLength}
-use Rattle.model.specs.Image.{Labels, Registers, States, Commands, Expressions, offset, size, directoryKept, designOf, registerAt, stateAt, commandAt, expressionAt}
+use Rattle.model.specs.Image.{Section, Labels, Registers, States, Commands, Expressions, recordLength, fewest, most, offset, size, end, offsetsKept, sectionKept, directoryKept, designOf, registerAt, stateAt, commandAt, expressionAt}
 use Rattle.model.proofs.Laws.Images.{row-at, RegisterIs, register-is, StateIs, state-is, NodeIs, command-is, expression-is, label-count, register-count, state-count, command-count, expression-count}
 use Rattle.design.specs.declared.Design.{Design}
 use Rattle.design.specs.Records.{rowIn, registerIn, stateIn, nodeIn}
@@ -18,6 +19,45 @@ use Rattle.model.proofs.Exact.Directories.{directory-iff}
 -- an image too short for a directory has none that is kept
 pub too-short : (image : List ℕ) → length image < directoryLength → false ≡ directoryKept image
 too-short image short = sym (false-unless-true (directoryKept image) (λ e. let present = directory-iff image .0 e .present in omega arith))
+
+-- the tests of the offsets, and of the sections
+pub offsets-rule :
+    (image : List ℕ) {l r s c e le re se ce ee : ℕ}
+    → l ≡ offset image Labels
+    → r ≡ offset image Registers
+    → s ≡ offset image States
+    → c ≡ offset image Commands
+    → e ≡ offset image Expressions
+    → le ≡ end image Labels
+    → re ≡ end image Registers
+    → se ≡ end image States
+    → ce ≡ end image Commands
+    → ee ≡ end image Expressions
+    → (leb 20 (length image) && eqb l 20 && eqb r le && eqb s re && eqb c se && eqb e ce && eqb (length image) ee) ≡ offsetsKept image
+unfolding offsetsKept
+offsets-rule image l r s c e le re se ce ee = rw (l, r, s, c, e, le, re, se, ce, ee)
+
+section-rule : (image : List ℕ) {z : ℕ} {b : Bool} (s : Section) → z ≡ size image s → b ≡ (eqb (z % recordLength s) 0 && leb (fewest s) (z / recordLength s) && leb (z / recordLength s) (most s)) → b ≡ sectionKept image s
+unfolding sectionKept
+section-rule image s p q = rw (← p) q
+
+pub directory-rule :
+    (image : List ℕ) {lz rz sz cz ez : ℕ} {o l r s c e : Bool}
+    → o ≡ offsetsKept image
+    → lz ≡ size image Labels
+    → rz ≡ size image Registers
+    → sz ≡ size image States
+    → cz ≡ size image Commands
+    → ez ≡ size image Expressions
+    → l ≡ (eqb (lz % 2) 0 && leb 1 (lz / 2) && leb (lz / 2) 16)
+    → r ≡ (eqb (rz % 6) 0 && leb 0 (rz / 6) && leb (rz / 6) 64)
+    → s ≡ (eqb (sz % 4) 0 && leb 1 (sz / 4) && leb (sz / 4) 64)
+    → c ≡ (eqb (cz % 8) 0 && leb 0 (cz / 8) && leb (cz / 8) 1024)
+    → e ≡ (eqb (ez % 8) 0 && leb 0 (ez / 8) && leb (ez / 8) 2048)
+    → (o && l && r && s && c && e) ≡ directoryKept image
+unfolding directoryKept
+directory-rule image o lz rz sz cz ez l r s c e =
+    rw (o, section-rule image Labels lz l, section-rule image Registers rz r, section-rule image States sz s, section-rule image Commands cz c, section-rule image Expressions ez e)
 
 -- what the fields of a directory that is kept make a design of
 pub describes :

@@ -1,4 +1,4 @@
-use Rattle.model.specs.Image.{offsetsKept}
+use Rattle.design.proofs.Laws.{offsets-rule}
 use borrow.Author.Needs.{needs}
 use Rattle.design.proofs.offsets_kept.Statement.{statement}
 use Rattle.design.proofs.offsets_kept.Tie as tie
@@ -49,8 +49,7 @@ end-requires-5 c κs = search needs
 
 -- src/lib.rt:78:1
 returns : tie.Need-returns
-unfolding offsetsKept
-returns c = cc
+returns c = search (offsets-rule, needs)
 
 pub offsets-kept-spec : {M : Type 1} → statement M
 offsets-kept-spec =

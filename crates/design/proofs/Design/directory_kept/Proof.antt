@@ -1,5 +1,4 @@
-use Rattle.model.specs.Image.{sectionKept, directoryKept}
-use Rattle.design.proofs.Laws.{too-short}
+use Rattle.design.proofs.Laws.{too-short, directory-rule}
 use borrow.Author.Needs.{needs}
 use Rattle.design.proofs.Design.directory_kept.Statement.{statement}
 use Rattle.design.proofs.Design.directory_kept.Tie as tie
@@ -59,8 +58,7 @@ section-kept-requires-5 c κs = search needs
 
 -- src/lib.rt:230:5
 returns-2 : tie.Need-returns-2
-unfolding directoryKept sectionKept
-returns-2 c = cc
+returns-2 c = search (directory-rule, needs)
 
 pub directory-kept-spec : {M : Type 1} → statement M
 directory-kept-spec =

@@ -1,0 +1,2 @@
+-- Laws of the rules as the code tests them.
+pub mod RecordRules

@@ -1,0 +1,2 @@
+// The checker: one pass for each refusal, in the order of the table, to a verdict.
+mod records;
