@@ -6,6 +6,7 @@ pub mod Agreement
 pub mod Commands
 pub mod Bounded
 pub mod Path
+pub mod Rising
 pub mod Cycle
 pub mod Runs
 pub mod Calls

@@ -9,3 +9,5 @@ pub mod States
 pub mod Gotos
 pub mod Verdict
 pub mod Passes
+pub mod Faults
+pub mod Trees

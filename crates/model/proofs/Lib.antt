@@ -1,8 +1,8 @@
--- The theorems about the meaning alone. `Promises` restates those that a reader looks for; the proved cases of document 01 stand first.
-pub mod Designs
-pub mod Opened
-pub mod Cases
+-- The theorems about the meaning alone. `Promises` restates those that a reader looks for; the proved cases of document 01 stand last.
 pub mod Laws
 pub mod Exact
 pub mod Independence
 pub mod Promises
+pub mod Designs
+pub mod Opened
+pub mod Cases

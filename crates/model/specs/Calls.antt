@@ -1,11 +1,10 @@
 -- 01, 'A cycle' and 'When the box says no': the four calls. For each, one function from everything lent and given to the answer and every byte of the
 -- areas afterwards, refusals included. The contracts of the exported functions are equations with these.
 use Prim.Native.Nat.{ℕ, _*_}
-use mathlib.Core.Bool.{Bool, true, false, _&&_, cond}
+use mathlib.Core.Bool.{Bool, _&&_, cond}
 use mathlib.Core.List.{List}
 use lib.Dec.{leb, ltb, eqb}
 use lib.ListN.{length, set}
-use Rattle.model.specs.declared.Found.{Found}
 use Rattle.model.specs.declared.Found.the-variants.{At, Nowhere}
 use Rattle.model.specs.declared.Refusal.the-variants.{NoPort, Area, CycleCount}
 use Rattle.model.specs.declared.Answer.{Answer}

@@ -1,7 +1,7 @@
 -- 01: the kinds of nodes, each at the number that 01 gives it, and refusal 5: what a node of each kind must hold.
 use Prim.Native.Nat.{ℕ}
-use mathlib.Core.Bool.{Bool, true, false, _&&_}
-use mathlib.Core.List.{List, [], _∷_}
+use mathlib.Core.Bool.{Bool, false, _&&_}
+use mathlib.Core.List.{[], _∷_}
 use lib.Dec.{ltb, eqb}
 use lib.ListN.{length, getD}
 use Rattle.model.specs.Image.{Design, Node, commandAt, expressionAt}

@@ -1,8 +1,8 @@
 -- 01, 'The lease design': the bytes that the cycle lister prints.
-use Prim.Native.Nat.{ℕ, zero, suc, _+_, _/_, _%_}
-use Prim.Native.Char.{Char, code}
+use Prim.Native.Nat.{ℕ, suc, _+_, _/_, _%_}
+use Prim.Native.Char.{code}
 use Prim.Native.String.{String}
-use mathlib.Core.Bool.{Bool, true, false, cond}
+use mathlib.Core.Bool.{true, false}
 use mathlib.Core.List.{List, [], _∷_, _++_}
 use lib.Dec.{ltb}
 use lib.ListN.{length, drop}
@@ -14,7 +14,7 @@ use Rattle.model.specs.Indices.{recursively}
 use Rattle.model.specs.Image.{designOf, word16At}
 use Rattle.model.specs.Answers.{numberOf}
 use Rattle.model.specs.Verdict.{verdict}
-use Rattle.model.specs.Machine.{Areas, Cycle, cycles, resetAreas}
+use Rattle.model.specs.Machine.{Cycle, cycles, resetAreas}
 
 -- the bytes of a quoted text
 unfoldable pub bytesOfText : String → List ℕ

@@ -1,12 +1,12 @@
 -- 01: "Every node is used exactly once: by a state, or as one part of another node", and the depth of nodes. Refusals 6 and 7.
 use Prim.Native.Nat.{ℕ}
 use mathlib.Core.Bool.{Bool}
-use mathlib.Core.List.{List, [], _∷_, _++_, map}
+use mathlib.Core.List.{List, [], _∷_, _++_}
 use lib.Dec.{leb, eqb}
 use lib.ListN.{length}
 use Rattle.model.specs.Limits.{depthMax}
 use Rattle.model.specs.Indices.{occurrences, joinBelow}
-use Rattle.model.specs.Image.{Design, Node, State, commandAt, expressionAt, stateAt}
+use Rattle.model.specs.Image.{Design, Node, commandAt, expressionAt, stateAt}
 use Rattle.model.specs.Kinds.{CommandKind, skips, assigns, sequences, falls, goes, branches, unknownCommand, ExpressionKind, constants, reads, unknownExpression, operates, commandKind, expressionKind}
 use Rattle.model.specs.Trees.{exprOf, cmdOf, exprDepth, cmdDepth}
 

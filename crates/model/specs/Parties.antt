@@ -1,8 +1,8 @@
 -- 01, 'What a party sees': lists of calls, what remains of them at a level, the view, and demand 3 as one statement about whole lists.
 -- The calls are made by the very definitions that the exported functions' contracts cite.
-use Prim.Native.Nat.{ℕ, zero, suc, _*_, _<_}
+use Prim.Native.Nat.{ℕ, _*_, _<_}
 use mathlib.Core.Path.{_≡_}
-use mathlib.Core.Bool.{Bool, true, false, cond}
+use mathlib.Core.Bool.{Bool, cond}
 use mathlib.Core.List.{List, [], _∷_, _++_, map}
 use lib.ListN.{length, getD}
 use Rattle.model.specs.declared.Answer.{Answer}

@@ -1,7 +1,7 @@
 -- The directory rule holds exactly where each of its tests does.
 use mathlib.Core.Path.{_≡_}
 use mathlib.Core.Logic.{_↔_}
-use mathlib.Core.Bool.{true, _&&_}
+use mathlib.Core.Bool.{true}
 use mathlib.Core.List.{List}
 use Prim.Native.Nat.{ℕ}
 use Rattle.model.specs.Image.{Section, Labels, Registers, States, Commands, Expressions, sectionKept, offsetsKept, directoryKept}

@@ -2,13 +2,13 @@
 use Prim.Native.Nat.{ℕ, _<_}
 use mathlib.Core.Path.{_≡_}
 use mathlib.Core.Logic.{_↔_}
-use mathlib.Core.List.{List, [], _∷_, _++_}
+use mathlib.Core.List.{List, [], _∷_}
 use lib.ListN.{length}
 use Rattle.model.specs.declared.Answer.the-variants.{Accepted}
 use Rattle.model.specs.Image.{Design}
 use Rattle.model.specs.Lattice.{stateLabel}
 use Rattle.model.specs.Trees.{Cmd, skip, assign, sequence, fall, goto, branch, bodyOf}
-use Rattle.model.specs.Flow.{labelsRead, flowFaults, stateFlowFaults, flowAnswer}
+use Rattle.model.specs.Flow.{flowFaults, stateFlowFaults, flowAnswer}
 use Rattle.model.specs.Rules.{Flows}
 use Rattle.model.proofs.Laws.Verdict.{FaultsOf, no-faults, faults-unless, faults-append, faults-join, nearest-iff}
 
@@ -21,7 +21,7 @@ module _ (d : Design) where
     flow-faults context (sequence n p q) = faults-append (flow-faults context p) (flow-faults context q)
     flow-faults context (fall n) = faults-unless _ _ n
     flow-faults context (goto n t) = faults-unless _ _ n
-    flow-faults context (branch n e p q) = faults-append (flow-faults (context ++ labelsRead d e) p) (flow-faults (context ++ labelsRead d e) q)
+    flow-faults context (branch n e p q) = faults-append (flow-faults _ p) (flow-faults _ q)
 
     state-flow-faults : FaultsOf (stateFlowFaults d s) (Flows d s (stateLabel d s ∷ []) (bodyOf d s))
     unfolding stateFlowFaults

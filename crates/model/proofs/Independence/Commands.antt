@@ -1,17 +1,17 @@
 -- Why a command keeps a level's secrets: what it reads, and every condition around it, flows to what it writes and to the state it goes to.
 -- In a context that is not seen nothing that is seen is written (`exec-confined`); in one that is seen, two runs that agree go on agreeing (`exec-same`).
 use Prim.Native.Nat.{ℕ, _<_}
-use mathlib.Core.Path.{_≡_, refl, sym, _∙_, ap, ap₂}
-use mathlib.Core.Logic.{_⊎_, inl, inr, ⊎-elim}
+use mathlib.Core.Path.{_≡_, refl, sym, _∙_, ap₂}
+use mathlib.Core.Logic.{_⊎_, inl, inr}
 use mathlib.Core.Bool.{Bool, true, false, cond}
 use mathlib.Core.List.{List, [], _∷_, _++_, map}
 use lib.Dec.{eqb}
-use lib.ListN.{length, getD, set}
+use lib.ListN.{length, set}
 use Rattle.model.specs.declared.Ending.the-variants.{Goto, Fall}
 use Rattle.model.specs.declared.Outcome.{Outcome}
 use Rattle.model.specs.declared.Outcome.the-variants.{Continued, Transferred}
 use Rattle.model.specs.Image.{Design}
-use Rattle.model.specs.Lattice.{flowsTo, allFlowTo, registerLabel, stateLabel}
+use Rattle.model.specs.Lattice.{allFlowTo, registerLabel, stateLabel}
 use Rattle.model.specs.Trees.{Expr, constant, register, binary, Cmd, skip, assign, sequence, fall, goto, branch, registersRead}
 use Rattle.model.specs.Shape.{transfers}
 use Rattle.model.specs.Flow.{labelsRead}
@@ -78,7 +78,7 @@ module _ (d : Design) (level : ℕ) (keeps : DesignKeeps d) (isLabel : level < l
         (registerLabel d r)
         labels
         (register-label d level keeps isLabel r)
-        (all-flow-first (d .rows) context (labelsRead d e) (registerLabel d r) flows)
+        (all-flow-first (d .rows) context _ (registerLabel d r) flows)
         unseen)
     exec-confined context values (sequence n p q) flows labels unseen =
         confined-sequence

@@ -2,7 +2,7 @@
 -- runs in lockstep, and past it everything is hidden. Today's theorem is the case of one design.
 use Prim.Native.Nat.{ℕ, zero, suc, _<_}
 use mathlib.Core.Path.{_≡_, refl, sym, _∙_, ap, fun-ext}
-use mathlib.Core.Logic.{_⊎_, inl, inr, ⊎-elim}
+use mathlib.Core.Logic.{_⊎_, inl, inr}
 use mathlib.Core.Bool.{Bool, true, false, _&&_, _||_, not, cond}
 use mathlib.Core.List.{List, [], _∷_}
 use native.Mathlib.Omega.{arith}
@@ -11,24 +11,25 @@ use lib.ListN.{length, getD}
 use Rattle.model.specs.declared.Ending.the-variants.{Goto, Fall}
 use Rattle.model.specs.declared.Outcome.{Outcome}
 use Rattle.model.specs.declared.Outcome.the-variants.{Continued, Transferred}
-use Rattle.model.specs.Indices.{lowest, recursively}
+use Rattle.model.specs.Indices.{recursively}
 use Rattle.model.specs.Image.{Design}
-use Rattle.model.specs.Lattice.{flowsTo, allFlowTo, stateLabel}
-use Rattle.model.specs.States.{foundOr, parent, isChild, defaultTarget, within}
+use Rattle.model.specs.Lattice.{allFlowTo, stateLabel}
+use Rattle.model.specs.States.{parent, isChild, defaultTarget, within}
 use Rattle.model.specs.Trees.{bodyOf}
 use Rattle.model.specs.Rules.{DesignKeeps}
-use Rattle.model.specs.Machine.{Areas, Cycle, exec, goneTo, afterBody, runFrom}
+use Rattle.model.specs.Machine.{Areas, Cycle, goneTo, afterBody, runFrom}
 use Rattle.model.specs.Parties.{registerSeen, stateSeen, walkSeen}
-use Rattle.model.proofs.Laws.Booleans.{decide, and-both, true-or-false}
-use Rattle.model.proofs.Laws.States.{ChildOf, sibling-child}
+use Rattle.model.proofs.Laws.Booleans.{decide, and-both}
+use Rattle.model.proofs.Laws.States.{sibling-child}
 use Rattle.model.proofs.Laws.Gotos.{within-self}
 use Rattle.model.proofs.Independence.Relation.{Good}
-use Rattle.model.proofs.Independence.Labels.{state-label, unseen-above}
+use Rattle.model.proofs.Independence.Labels.{state-label}
 use Rattle.model.proofs.Independence.Endings.{holdsFall, Ended}
 use Rattle.model.proofs.Independence.Agreement.{Agree, agree-sym, agree-trans}
 use Rattle.model.proofs.Independence.Commands.{OutcomesAgree, SameSeen, exec-same}
 use Rattle.model.proofs.Independence.Bounded.{BoundedCmd}
-use Rattle.model.proofs.Independence.Path.{Rising, Defaults, Hidden, entryOf, ran, leftBy, target, entry, targetsAfter, left-good, ended, target-state, fall-points, default-of-fall, gone-defaults, entry-hidden, run-hidden}
+use Rattle.model.proofs.Independence.Path.{entryOf, ran, leftBy, target, entry, targetsAfter, left-good, ended, target-state, fall-points}
+use Rattle.model.proofs.Independence.Rising.{Rising, Defaults, default-of-fall, gone-defaults, entry-hidden, run-hidden}
 
 -- Two designs with equal labels and registers, and equal state records apart from command numbers, whose bodies are the same in states that are seen.
 pub record Alike (d₁ d₂ : Design) (level : ℕ) : Type 0 where

@@ -2,13 +2,11 @@
 -- `Lists.antt` carries any such relation through whole lists of calls; `Cycle.antt` gives the one that holds.
 use Prim.Native.Nat.{ℕ, _<_}
 use mathlib.Core.Path.{_≡_}
-use mathlib.Core.Bool.{Bool, true, false, cond}
-use mathlib.Core.List.{List, map}
+use mathlib.Core.Bool.{true, false}
 use lib.ListN.{length, getD, set}
 use Rattle.model.specs.Limits.{valueCount}
-use Rattle.model.specs.Indices.{tabulate}
-use Rattle.model.specs.Image.{Design, Register}
-use Rattle.model.specs.Machine.{Areas, Cycle, resetAreas, targetSound, cycle}
+use Rattle.model.specs.Image.{Design}
+use Rattle.model.specs.Machine.{Areas, resetAreas, targetSound, cycle}
 use Rattle.model.specs.Parties.{registerSeen, valuesSeen, walkSeen, givenUnseen}
 
 -- areas that an accepted run may have: the right lengths, 32-bit values, sound targets

@@ -4,10 +4,10 @@ use Prim.Native.Nat.{ℕ, zero, suc, _≤_, _<_}
 use mathlib.Core.Path.{_≡_, refl, sym, _∙_, ap}
 use mathlib.Core.Logic.{_⊎_, inl, inr}
 use mathlib.Core.Bool.{Bool, true, false, cond}
-use mathlib.Core.List.{List, [], _∷_, map}
+use mathlib.Core.List.{List, [], _∷_}
 use native.Mathlib.Omega.{arith}
 use native.Mathlib.Decide.{decLt}
-use lib.ListN.{length, getD, set, length-set, length-map, List·getD-eq-default}
+use lib.ListN.{length, getD, length-set, length-map, List·getD-eq-default}
 use Rattle.model.specs.declared.Ending.the-variants.{Goto, Fall}
 use Rattle.model.specs.declared.Outcome.{Outcome}
 use Rattle.model.specs.declared.Outcome.the-variants.{Continued, Transferred}
@@ -18,16 +18,17 @@ use Rattle.model.specs.Lattice.{stateLabel}
 use Rattle.model.specs.States.{defaultTarget}
 use Rattle.model.specs.Trees.{bodyOf}
 use Rattle.model.specs.Rules.{DesignKeeps}
-use Rattle.model.specs.Machine.{Areas, resetAreas, targetSound, runFrom, cycle}
+use Rattle.model.specs.Machine.{Areas, resetAreas, runFrom, cycle}
 use Rattle.model.specs.Parties.{registerSeen, valuesSeen, walkSeen, givenUnseen}
-use Rattle.model.proofs.Laws.Booleans.{decide, true-or-false, cond-true, cond-false}
+use Rattle.model.proofs.Laws.Booleans.{decide, cond-true}
 use Rattle.model.proofs.Laws.Indices.{length-tabulate, getD-tabulate, join-same}
-use Rattle.model.proofs.Laws.States.{ChildOf, default-sound, sibling-no-root}
+use Rattle.model.proofs.Laws.States.{default-sound, sibling-no-root}
 use Rattle.model.proofs.Independence.Relation.{Good, withRegister, startAreas, Bisimulation}
 use Rattle.model.proofs.Independence.Endings.{Ended}
 use Rattle.model.proofs.Independence.Agreement.{Agree, agree-self, agree-trans, agree-sym, agree-unseen, agree-set}
 use Rattle.model.proofs.Independence.Bounded.{Bounded, BoundedCmd, set-bounded}
-use Rattle.model.proofs.Independence.Path.{Rising, Defaults, entryOf, ran, entry, ended, run-good, run-rises, default-rises}
+use Rattle.model.proofs.Independence.Path.{entryOf, ran, entry, ended, run-good}
+use Rattle.model.proofs.Independence.Rising.{Rising, Defaults, run-rises, default-rises}
 use Rattle.model.proofs.Independence.Cycle.{Alike, pathSeen, default-paths, same-register-seen, agree-alike, Together, run-together}
 
 module _ (d : Design) where
@@ -62,7 +63,7 @@ module _ (d : Design) where
   module _ (level : ℕ) (given : ℕ → ℕ) (values : List ℕ) where
     pub length-given : length (givenUnseen d level given values) ≡ length (d .registers)
     unfolding givenUnseen
-    length-given = length-tabulate (λ r. cond (registerSeen d level r) (getD values r 0) (given r)) (length (d .registers))
+    length-given = length-tabulate _ (length (d .registers))
 
     given-at : (r : ℕ) → r < length (d .registers) → getD (givenUnseen d level given values) r 0 ≡ cond (registerSeen d level r) (getD values r 0) (given r)
     unfolding givenUnseen
@@ -159,8 +160,8 @@ module _ (d₁ d₂ : Design) (level : ℕ) where
       values-same : (a b : Areas) → Related a b → valuesSeen d₁ level (a .registers) ≡ valuesSeen d₂ level (b .registers)
       unfolding valuesSeen
       values-same a b related =
-          join-same (λ r. cond (registerSeen d₁ level r) (getD (a .registers) r 0 ∷ []) []) (λ r. cond (registerSeen d₂ level r) (getD (b .registers) r 0 ∷ []) []) (length (d₁ .registers)) (λ r l. at r (decide (registerSeen d₁ level r)))
-          ∙ ap (λ (n : ℕ). joinBelow (λ r. cond (registerSeen d₂ level r) (getD (b .registers) r 0 ∷ []) []) n) (ap length (alike .registers))
+          let shown : valuesSeen d₁ level (a .registers) ≡ joinBelow (λ r. cond (registerSeen d₂ level r) (getD (b .registers) r 0 ∷ []) []) (length (d₁ .registers)) = join-same _ _ (length (d₁ .registers)) (λ r l. at r (decide (registerSeen d₁ level r))) in
+          shown ∙ ap (λ (n : ℕ). joinBelow (λ r. cond (registerSeen d₂ level r) (getD (b .registers) r 0 ∷ []) []) n) (ap length (alike .registers))
         where
           at : (r : ℕ) → (registerSeen d₁ level r ≡ true) ⊎ (registerSeen d₁ level r ≡ false) → cond (registerSeen d₁ level r) (getD (a .registers) r 0 ∷ []) [] ≡ cond (registerSeen d₂ level r) (getD (b .registers) r 0 ∷ []) []
           at r (inl h) = rw (← (same-register-seen d₁ d₂ level alike r), h, related .agree .values r h)

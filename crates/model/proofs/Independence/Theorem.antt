@@ -5,11 +5,9 @@ use mathlib.Core.Path.{_≡_}
 use mathlib.Core.List.{List}
 use native.Mathlib.Omega.{arith}
 use lib.ListN.{length, drop}
-use Rattle.model.specs.declared.Answer.the-variants.{Accepted}
 use Rattle.model.specs.Limits.{stateLength}
-use Rattle.model.specs.Image.{AreBytes, States, count, offset, stateOf, sectionOf, designOf}
-use Rattle.model.specs.Rules.{DirectoryKeeps, DesignKeeps}
-use Rattle.model.specs.Verdict.{verdict}
+use Rattle.model.specs.Image.{States, count, offset, stateOf, sectionOf, designOf}
+use Rattle.model.specs.Rules.{DirectoryKeeps}
 use Rattle.model.specs.Parties.{Independent}
 use Rattle.model.proofs.Laws.Words.{length-recordsOf}
 use Rattle.model.proofs.Exact.{verdict-exact}

@@ -1,43 +1,39 @@
 -- What a goto leaves in the target table (`cleared` and `goneTo` of `specs/Machine.antt`): below the named state everything is at its default, the parent
 -- points to the named state, and what is numbered below the parent is as it was.
 use Prim.Native.Nat.{ℕ, zero, suc, _≤_, _<_}
-use mathlib.Core.Path.{_≡_, refl, sym, _∙_, ap}
+use mathlib.Core.Path.{_≡_, refl, sym, _∙_}
 use mathlib.Core.Logic.{_⊎_, inl, inr, _≢_}
 use mathlib.Core.Bool.{Bool, true, false, _&&_, _||_, not, cond}
 use mathlib.Core.List.{List}
 use native.Mathlib.Omega.{arith}
 use native.Mathlib.Decide.{decLe, ℕ-discrete}
 use lib.Dec.{ltb, eqb}
-use lib.ListN.{length, getD, set, length-set}
+use lib.ListN.{length, getD, length-set}
 use lib.Seq.{getD-set-same, getD-set-other}
-use borrow.Author.Tests.{ltb-true, lt-ltb, eqb-true, eq-eqb, eqb-false, ne-eqb}
-use Rattle.model.specs.Indices.{recursively}
+use borrow.Author.Tests.{ltb-true, eq-eqb, ne-eqb}
 use Rattle.model.specs.Image.{Design}
-use Rattle.model.specs.States.{parent, isChild, defaultTarget, within}
+use Rattle.model.specs.States.{parent, defaultTarget, within}
 use Rattle.model.specs.Machine.{targetSound, cleared, goneTo}
 use Rattle.model.proofs.Laws.Booleans.{decide, and-both, or-first, or-second, or-neither, false-not, true-or-false, cond-true, cond-false}
 use Rattle.model.proofs.Laws.Indices.{length-tabulate, getD-tabulate, recursively-step, onlyBelow, only-below-at, nothing-below-zero}
-use Rattle.model.proofs.Laws.States.{ChildOf, child-of, is-child, child-sound, default-sound}
+use Rattle.model.proofs.Laws.States.{ChildOf, is-child, child-sound, default-sound}
 
 module _ (d : Design) where
   -- one step of the way up from q to s
-  within-step : (s q : ℕ) → within d s q ≡ (eqb q s || (not (eqb q 0) && onlyBelow false (λ p above. eqb p s || (not (eqb p 0) && above (parent d p))) q (within d s) (parent d q)))
+  within-step : (s q : ℕ) → within d s q ≡ (eqb q s || (not (eqb q 0) && onlyBelow false q (within d s) (parent d q)))
   unfolding within
   within-step s q = recursively-step false (λ p above. eqb p s || (not (eqb p 0) && above (parent d p))) q
 
   pub within-self : (s : ℕ) → within d s s ≡ true
   within-self s = rw within-step (or-first (eqb s s) _ (eq-eqb s s refl))
 
-  abbrev up : ℕ → ℕ → (ℕ → Bool) → Bool
-  up s p above = eqb p s || (not (eqb p 0) && above (parent d p))
-
   -- a child of a state within s is within s
   pub within-child : (s q c : ℕ) → ChildOf d q c → q < c → within d s q ≡ true → within d s c ≡ true
   within-child s q c child l h =
-      let above : onlyBelow false (λ p. up s p) c (within d s) (parent d c) ≡ true = rw (child .parent-is, only-below-at false (λ p. up s p) c q (within d s) l) h in
+      let above : onlyBelow false c (within d s) (parent d c) ≡ true = rw (child .parent-is, only-below-at false c q (within d s) l) h in
       rw (within-step s c) (or-second (eqb c s) _ (and-both (not (eqb c 0)) _ (false-not (eqb c 0) (ne-eqb c 0 (child .no-root))) above))
 
-  only-below-false : (s q p n : ℕ) → ((m : ℕ) → m < n → m < s → within d s m ≡ false) → q < suc n → q < s → (b : Bool) → ltb p q ≡ b → onlyBelow false (λ p. up s p) q (within d s) p ≡ false
+  only-below-false : (s q p n : ℕ) → ((m : ℕ) → m < n → m < s → within d s m ≡ false) → q < suc n → q < s → (b : Bool) → ltb p q ≡ b → onlyBelow false q (within d s) p ≡ false
   only-below-false s q p n earlier l k true e = rw (e, onlyBelow) (earlier p (omega (arith, ltb-true p q e)) (omega (arith, ltb-true p q e)))
   only-below-false s q p n earlier l k false e = rw (e, onlyBelow)
 

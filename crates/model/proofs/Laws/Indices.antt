@@ -1,11 +1,11 @@
 -- Laws of the tests over indices, the lowest index, lists by their indices and recursion over numbers (`specs/Indices.antt`).
-use Prim.Native.Nat.{ℕ, zero, suc, _+_, _≤_, _<_, min}
+use Prim.Native.Nat.{ℕ, zero, suc, _+_, _<_}
 use mathlib.Core.Path.{_≡_, refl, sym, _∙_, ap, fun-ext}
 use mathlib.Core.Logic.{_⊎_, inl, inr, ⊎-elim}
-use mathlib.Core.Bool.{Bool, true, false, _&&_, _||_, not}
+use mathlib.Core.Bool.{Bool, true, false, not}
 use mathlib.Core.List.{List, [], _∷_, _++_, map}
 use native.Mathlib.Omega.{arith}
-use native.Mathlib.Nat.{le-refl, add-suc, suc-add, zero-add}
+use native.Mathlib.Nat.{le-refl, zero-add}
 use native.Mathlib.Decide.{decLt}
 use lib.Dec.{ltb}
 use lib.ListN.{length, getD}
@@ -13,7 +13,7 @@ use borrow.Author.Tests.{lt-ltb, ltb-true}
 use Rattle.model.specs.declared.Found.{Found}
 use Rattle.model.specs.declared.Found.the-variants.{At, Nowhere}
 use Rattle.model.specs.Indices.{allBelow, someBelow, orAt, lowest, lowestFailing, tabulateFrom, tabulate, joinBelow, upTo, recursively}
-use Rattle.model.proofs.Laws.Booleans.{decide, and-first, and-second, and-both, or-cases, or-first, or-second, not-true, not-false, false-not, true-not, false-unless-true, true-or-false}
+use Rattle.model.proofs.Laws.Booleans.{and-first, and-second, and-both, or-cases, or-first, or-second, not-false, true-not, true-or-false}
 
 -- an index below suc n is below n or is n
 pub below-suc : {k n : ℕ} → k < suc n → (k < n) ⊎ (k ≡ n)
@@ -178,7 +178,7 @@ module _ {A : Type 0} where
   join-same f g (suc n) h = rw (join-same f g n (λ k l. h k (below-more l)), h n (last n))
 
 -- ---- recursion over numbers
-module _ {A : Type 0} (none : A) (step : ℕ → (ℕ → A) → A) where
+module _ {A : Type 0} (none : A) where
   -- the values below n of a function, and `none` from n on
   abbrev pub onlyBelow : ℕ → (ℕ → A) → ℕ → A
   onlyBelow n f m = elim (ltb m n) [ true ↦ f m | false ↦ none ]
@@ -187,6 +187,11 @@ module _ {A : Type 0} (none : A) (step : ℕ → (ℕ → A) → A) where
   only-below-same n m f g true e h = rw (e, onlyBelow) (h (ltb-true m n e))
   only-below-same n m f g false e h = rw (e, onlyBelow)
 
+  -- a value from a lower number
+  pub only-below-at : (n m : ℕ) (f : ℕ → A) → m < n → onlyBelow n f m ≡ f m
+  only-below-at n m f l = rw (lt-ltb m n l, onlyBelow)
+
+module _ {A : Type 0} (none : A) (step : ℕ → (ℕ → A) → A) where
   -- more fuel than the number changes nothing
   up-to-same : (f g n : ℕ) → n < f → n < g → upTo none step f n ≡ upTo none step g n
   unfolding upTo
@@ -196,19 +201,15 @@ module _ {A : Type 0} (none : A) (step : ℕ → (ℕ → A) → A) where
       ap
       (step n)
       (fun-ext
-      (λ m. only-below-same n m (upTo none step f) (upTo none step g) (ltb m n) refl (λ (h : m < n). up-to-same f g m (omega arith) (omega arith))))
+      (λ m. only-below-same none n m (upTo none step f) (upTo none step g) (ltb m n) refl (λ (h : m < n). up-to-same f g m (omega arith) (omega arith))))
 
-  pub recursively-step : (n : ℕ) → recursively none step n ≡ step n (onlyBelow n (recursively none step))
+  pub recursively-step : (n : ℕ) → recursively none step n ≡ step n (onlyBelow none n (recursively none step))
   unfolding recursively upTo
   recursively-step n =
       ap
       (step n)
       (fun-ext
-      (λ m. only-below-same n m (upTo none step n) (λ k. upTo none step (suc k) k) (ltb m n) refl (λ (h : m < n). up-to-same n (suc m) m h (omega arith))))
-
-  -- a value from a lower number, and from none
-  pub only-below-at : (n m : ℕ) (f : ℕ → A) → m < n → onlyBelow n f m ≡ f m
-  only-below-at n m f l = rw (lt-ltb m n l, onlyBelow)
+      (λ m. only-below-same none n m (upTo none step n) (λ k. upTo none step (suc k) k) (ltb m n) refl (λ (h : m < n). up-to-same n (suc m) m h (omega arith))))
 
   -- what holds of `none`, and of every step from values of which it holds, holds at every number
   pub recursively-all : (P : A → Type 0) → P none

@@ -1,25 +1,21 @@
 -- Laws of the tree of states and of the target table (`specs/States.antt`, `specs/Machine.antt`): children, default children, what a goto clears and sets.
 -- They rest on one rule: a parent has a lower number than its child.
-use Prim.Native.Nat.{ℕ, zero, suc, _≤_, _<_}
-use mathlib.Core.Path.{_≡_, refl, sym, _∙_, ap}
+use Prim.Native.Nat.{ℕ, _<_}
+use mathlib.Core.Path.{_≡_, refl}
 use mathlib.Core.Logic.{_⊎_, inl, inr, _≢_}
-use mathlib.Core.Bool.{Bool, true, false, _&&_, _||_, not, cond}
+use mathlib.Core.Bool.{true, false, _&&_, _||_, not}
 use mathlib.Core.List.{List}
-use native.Mathlib.Omega.{arith}
-use native.Mathlib.Decide.{ℕ-discrete}
 use lib.Dec.{ltb, eqb}
-use lib.ListN.{length, getD, set, length-set}
-use lib.Seq.{getD-set-same, getD-set-other}
+use lib.ListN.{length, getD}
 use borrow.Author.Tests.{ltb-true, lt-ltb, eqb-true, eq-eqb, eqb-false, ne-eqb}
 use Rattle.model.specs.declared.Found.{Found}
 use Rattle.model.specs.declared.Found.the-variants.{At, Nowhere}
-use Rattle.model.specs.Indices.{lowest, someBelow, recursively}
+use Rattle.model.specs.Indices.{lowest, someBelow}
 use Rattle.model.specs.Image.{Design}
-use Rattle.model.specs.States.{foundOr, parent, isChild, hasChild, defaultTarget, siblingOrSelf, within}
-use Rattle.model.specs.Rules.{StateKeeps}
-use Rattle.model.specs.Machine.{targetSound, cleared, goneTo}
-use Rattle.model.proofs.Laws.Booleans.{decide, and-first, and-second, and-both, or-cases, or-first, or-second, or-neither, not-true, not-false, false-not, true-or-false, cond-true, cond-false}
-use Rattle.model.proofs.Laws.Indices.{some-at, some-make, lowest-none, lowest-at, LowestIs, length-tabulate, getD-tabulate, recursively-step, onlyBelow, only-below-at, nothing-below-zero}
+use Rattle.model.specs.States.{foundOr, parent, isChild, hasChild, defaultTarget, siblingOrSelf}
+use Rattle.model.specs.Machine.{targetSound}
+use Rattle.model.proofs.Laws.Booleans.{decide, and-first, and-second, and-both, or-cases, or-first, or-second, not-true, false-not, true-or-false}
+use Rattle.model.proofs.Laws.Indices.{some-at, some-make, lowest-none, lowest-at}
 
 -- q is a child of s
 pub record ChildOf (d : Design) (s q : ℕ) : Type 0 where
