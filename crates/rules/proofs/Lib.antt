@@ -1,2 +1,3 @@
 -- Laws of the rules as the code tests them.
 pub mod RecordRules
+pub mod ShapeRules

@@ -1,0 +1,2 @@
+-- What the passes of the checker say of a node: the meaning's rules, in the form in which the recursion over parts carries them.
+pub mod Shapes
