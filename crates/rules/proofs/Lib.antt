@@ -1,3 +1,6 @@
 -- Laws of the rules as the code tests them.
 pub mod RecordRules
 pub mod ShapeRules
+pub mod Masks
+pub mod FlowRules
+pub mod FlowKinds

@@ -1,3 +1,4 @@
 // The checker: one pass for each refusal, in the order of the table, to a verdict.
+mod flow;
 mod records;
 mod shape;
