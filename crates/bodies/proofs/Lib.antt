@@ -1,0 +1,5 @@
+-- Laws of the rules as the code tests them.
+pub mod ShapeRules
+pub mod Masks
+pub mod FlowRules
+pub mod FlowKinds

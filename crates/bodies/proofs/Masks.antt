@@ -1,0 +1,93 @@
+-- Laws of masks: the bits of a conjunction are those of both, so a mask of two contexts together is the `and` of theirs.
+use Prim.Native.Nat.{ℕ, zero, suc, _+_, _*_, _/_, _%_, _^_, _≤_, _<_}
+use mathlib.Core.Path.{_≡_, refl, sym, _∙_, ap}
+use mathlib.Core.Bool.{Bool, true, false, _&&_}
+use mathlib.Core.List.{List, [], _∷_, _++_, map}
+use native.Mathlib.Omega.{arith}
+use native.Mathlib.Nat.{mod-lt, lt-of-le-of-lt}
+use lib.Bits.{bitAnd, and-shr, and-mod, and-le-l}
+use lib.Dec.{eqb}
+use lib.ListN.{length, getD}
+use Rattle.model.specs.Indices.{allBelow}
+use Rattle.model.specs.Image.{Labels, Register, designOf}
+use Rattle.model.specs.Lattice.{flowsTo, allFlowTo, registerLabel}
+use Rattle.model.proofs.Laws.Indices.{all-at}
+use Rattle.design.specs.declared.Design.{Design}
+use Rattle.design.specs.Records.{rowIn, registerIn}
+use Rattle.design.specs.Describes.{Describes}
+use Rattle.design.proofs.Laws.{labels-count, registers-count, row-inside, row-in, register-in}
+use Rattle.model.proofs.Exact.Records.{register-iff}
+use Rattle.bodies.specs.Flows.{MaskOf, FlowKnown}
+
+-- ---- bits
+bit-of-bits : (u v : ℕ) → u < 2 → v < 2 → eqb (bitAnd u v) 1 ≡ (eqb u 1 && eqb v 1)
+bit-of-bits zero v h k = refl
+bit-of-bits (suc zero) zero h k = refl
+bit-of-bits (suc zero) (suc zero) h k = refl
+bit-of-bits (suc zero) (suc (suc v)) h k = absurd (omega arith)
+bit-of-bits (suc (suc u)) v h k = absurd (omega arith)
+
+pub bit-and : (a b l : ℕ) → eqb (bitAnd a b / 2 ^ l % 2) 1 ≡ (eqb (a / 2 ^ l % 2) 1 && eqb (b / 2 ^ l % 2) 1)
+bit-and a b l =
+    ap (λ (n : ℕ). eqb (n % 2) 1) (and-shr a b l)
+    ∙ ap (λ (n : ℕ). eqb n 1) (and-mod (a / 2 ^ l) (b / 2 ^ l) 1)
+    ∙ bit-of-bits (a / 2 ^ l % 2) (b / 2 ^ l % 2) (omega arith) (omega arith)
+
+-- ---- contexts
+and-assoc : (a b c : Bool) → (a && (b && c)) ≡ (a && b && c)
+and-assoc true b c = refl
+and-assoc false b c = refl
+
+and-true : (a : Bool) → a ≡ (a && true)
+and-true true = refl
+and-true false = refl
+
+all-flow-both : (rows xs ys : List ℕ) (l : ℕ) → allFlowTo rows (xs ++ ys) l ≡ (allFlowTo rows xs l && allFlowTo rows ys l)
+unfolding allFlowTo
+all-flow-both rows [] ys l = refl
+all-flow-both rows (x ∷ xs) ys l = ap (λ (b : Bool). flowsTo rows x l && b) (all-flow-both rows xs ys l) ∙ and-assoc (flowsTo rows x l) (allFlowTo rows xs l) (allFlowTo rows ys l)
+
+-- the mask of two contexts together
+pub mask-both : {rows xs ys : List ℕ} {p q : ℕ} → MaskOf rows xs p → MaskOf rows ys q → MaskOf rows (xs ++ ys) (bitAnd p q)
+mask-both {rows} {xs} {ys} {p} {q} a b =
+    record {
+      small = lt-of-le-of-lt (and-le-l p q) (a .small);
+      bits = λ l h. bit-and p q l ∙ rw (a .bits l h, b .bits l h) (sym (all-flow-both rows xs ys l));
+    }
+
+-- the mask of no context has every bit
+pub mask-none : {image : List ℕ} {x : Design} → Describes image x → MaskOf (designOf image .rows) [] 65535
+unfolding allFlowTo allBelow
+mask-none {image} {x} d =
+    record {
+      small = omega arith;
+      bits =
+          λ l h.
+          let count = labels-count d in
+          let is = d .labels in
+          let most = d .directory .sections Labels .at-most in
+          all-at (λ l. eqb (65535 / 2 ^ l % 2) 1) 16 refl l (omega arith);
+    }
+
+-- the mask of one label is its row
+pub mask-row : {rows : List ℕ} {l m : ℕ} → m ≡ getD rows l 0 → m < 65536 → MaskOf rows (l ∷ []) m
+unfolding allFlowTo flowsTo
+mask-row {rows} {l} row small = record { small = small; bits = λ b h. rw row (and-true (eqb (getD rows l 0 / 2 ^ b % 2) 1)) }
+
+-- ---- a register
+module _ {image : List ℕ} {x : Design} (known : FlowKnown image x) where
+  pub label-is : {r k : ℕ} → r < x .registers → k ≡ registerIn image (x .«registers_at») r .label → k ≡ registerLabel (designOf image) r
+  label-is l e = e ∙ ap (λ (y : Register). y .label) (register-in (known .describes) l)
+
+  pub register-label : {r : ℕ} → r < x .registers → registerLabel (designOf image) r < x .labels
+  register-label {r} l =
+      let registers = registers-count (known .describes) in
+      let labels = labels-count (known .describes) in
+      let kept = register-iff (designOf image) r .0 (known .registers .kept r (omega arith)) .label in
+      omega arith
+
+  pub label-inside : {r k : ℕ} → r < x .registers → k ≡ registerIn image (x .«registers_at») r .label → 20 + 2 * k + 2 ≤ length image
+  label-inside l e = row-inside (known .describes) (rw (label-is l e) (register-label l))
+
+  pub register-mask-rule : {r k m : ℕ} → r < x .registers → k ≡ registerIn image (x .«registers_at») r .label → m ≡ rowIn image 20 k → m < 65536 → MaskOf (designOf image .rows) (registerLabel (designOf image) r ∷ []) m
+  register-mask-rule {r} {k} {m} l e f small = mask-row (f ∙ rw (label-is l e) (row-in (known .describes) (register-label l))) small

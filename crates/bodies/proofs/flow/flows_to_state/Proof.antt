@@ -1,0 +1,24 @@
+use Rattle.design.proofs.Laws.{state-inside}
+use Rattle.bodies.proofs.FlowRules.{state-label-small, state-bit}
+use borrow.Author.Needs.{needs}
+use Rattle.bodies.proofs.flow.flows_to_state.Statement.{statement}
+use Rattle.bodies.proofs.flow.flows_to_state.Tie as tie
+use Rattle.bodies.proofs.flow.flows_to_state.Reads as reads
+use Rattle.bodies.proofs.flow.flows_to_state.Lts as lts
+use Rattle.design.proofs.Design.state_label.Reads as state-label-reads
+use Rattle.bodies.proofs.flow.bit.Reads as bit-reads
+
+-- src/flow.rt:100:9
+state-label-requires : tie.Need-state-label-requires
+state-label-requires c κs = search (state-inside, needs)
+
+-- src/flow.rt:101:5
+bit-requires : tie.Need-bit-requires
+bit-requires c κs = search (state-label-small, needs)
+
+-- src/flow.rt:95:1
+returns : tie.Need-returns
+returns c = search (state-bit, needs)
+
+pub flows-to-state-spec : {M : Type 1} → statement M
+flows-to-state-spec = tie.close (tie.spec state-label-requires bit-requires returns)

@@ -1,0 +1,23 @@
+use Rattle.bodies.proofs.ShapeRules.{sibling-rule}
+use Rattle.design.proofs.Laws.{state-inside}
+use borrow.Author.Needs.{needs}
+use Rattle.bodies.proofs.shape.sibling_or_self.Statement.{statement}
+use Rattle.bodies.proofs.shape.sibling_or_self.Tie as tie
+use Rattle.bodies.proofs.shape.sibling_or_self.Reads as reads
+use Rattle.bodies.proofs.shape.sibling_or_self.Lts as lts
+use Rattle.design.proofs.Design.parent.Reads as parent-reads
+
+-- src/shape.rt:50:50
+parent-requires : tie.Need-parent-requires
+parent-requires c κs = search (state-inside, needs)
+
+-- src/shape.rt:50:82
+parent-requires-2 : tie.Need-parent-requires-2
+parent-requires-2 c κs = search (state-inside, needs)
+
+-- src/shape.rt:45:1
+returns : tie.Need-returns
+returns c = search (sibling-rule, needs)
+
+pub sibling-or-self-spec : {M : Type 1} → statement M
+sibling-or-self-spec = tie.close (tie.spec parent-requires parent-requires-2 returns)

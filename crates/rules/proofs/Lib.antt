@@ -1,6 +1,0 @@
--- Laws of the rules as the code tests them.
-pub mod RecordRules
-pub mod ShapeRules
-pub mod Masks
-pub mod FlowRules
-pub mod FlowKinds
