@@ -10,4 +10,5 @@ pub mod Gotos
 pub mod Verdict
 pub mod Passes
 pub mod Faults
+pub mod Kinds
 pub mod Trees

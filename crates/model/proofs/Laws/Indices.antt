@@ -125,6 +125,11 @@ pub failing-nowhere : (rule : ℕ → Bool) (n : ℕ) → ((k : ℕ) → k < n �
 unfolding lowestFailing
 failing-nowhere rule n h = lowest-nowhere (λ i. not (rule i)) n (λ k l. true-not (rule k) (h k l))
 
+-- what a rule's lowest failure is below the count
+pub lowest-failing-below : (rule : ℕ → Bool) (n i : ℕ) → lowestFailing rule n ≡ At i → i < n
+unfolding lowestFailing
+lowest-failing-below rule n i e = lowest-at (λ k. not (rule k)) n i e .below
+
 -- ---- lists by their indices
 module _ {A : Type 0} where
   pub length-tabulateFrom : (f : ℕ → A) (i n : ℕ) → length (tabulateFrom f i n) ≡ n

@@ -1,10 +1,9 @@
 -- Laws of the trees by the kind of a node: what a command and an expression of each kind are, from the trees of their parts.
-use Prim.Native.Nat.{ℕ, _<_}
-use mathlib.Core.Path.{_≡_, refl, _∙_}
-use Rattle.model.specs.Indices.{recursively}
-use Rattle.model.specs.Image.{Design, commandAt, expressionAt, constantOf}
-use Rattle.model.specs.Kinds.{Operation, skips, assigns, sequences, falls, goes, branches, constants, reads, operates, commandKind, expressionKind}
-use Rattle.model.specs.Trees.{Expr, constant, register, binary, Cmd, skip, assign, sequence, fall, goto, branch, exprOfKind, cmdOfKind, exprStep, exprOf, cmdStep, cmdOf}
+use Prim.Native.Nat.{ℕ, suc, max, _<_}
+use mathlib.Core.Path.{_≡_, refl, _∙_, ap}
+use Rattle.model.specs.Image.{Design, Node, commandAt, expressionAt, constantOf}
+use Rattle.model.specs.Kinds.{CommandKind, ExpressionKind, unknownCommand, unknownExpression, Operation, skips, assigns, sequences, falls, goes, branches, constants, reads, operates, commandKind, expressionKind}
+use Rattle.model.specs.Trees.{Expr, constant, register, binary, Cmd, skip, assign, sequence, fall, goto, branch, exprOfKind, cmdOfKind, exprStep, exprOf, cmdStep, cmdOf, exprDepth, cmdDepth}
 use Rattle.model.proofs.Laws.Indices.{recursively-step, onlyBelow, only-below-at}
 
 module _ (d : Design) where
@@ -76,3 +75,67 @@ module _ (d : Design) (n : ℕ) where
       → cmdOf d n ≡ branch n (exprOf d (commandAt d n .a)) (cmdOf d (commandAt d n .b)) (cmdOf d (commandAt d n .c))
   unfolding cmdStep cmdOfKind
   cmd-branch k b c = cmd-step d n ∙ rw (k, cmd-part (commandAt d n .b) b, cmd-part (commandAt d n .c) c)
+
+-- ---- depths
+flat-command :
+    (kind : CommandKind) (n : ℕ) (x : Node) (e : Expr) (p q r : Cmd)
+    → (kind ≡ sequences → ⊥)
+    → (kind ≡ branches → ⊥)
+    → cmdDepth (cmdOfKind kind n x e p q r) ≡ 1
+unfolding cmdOfKind cmdDepth
+flat-command skips n x e p q r s b = refl
+flat-command assigns n x e p q r s b = refl
+flat-command sequences n x e p q r s b = absurd (s refl)
+flat-command falls n x e p q r s b = refl
+flat-command goes n x e p q r s b = refl
+flat-command branches n x e p q r s b = absurd (b refl)
+flat-command unknownCommand n x e p q r s b = refl
+
+flat-expression :
+    (kind : ExpressionKind) (x : Node) (p q : Expr)
+    → ((o : Operation) → kind ≡ operates o → ⊥)
+    → exprDepth (exprOfKind kind x p q) ≡ 1
+unfolding exprOfKind exprDepth
+flat-expression constants x p q h = refl
+flat-expression reads x p q h = refl
+flat-expression (operates o) x p q h = absurd (h o refl)
+flat-expression unknownExpression x p q h = refl
+
+module _ (d : Design) (n : ℕ) where
+  -- a node without parts of its family has depth 1
+  pub expr-flat-depth : ((o : Operation) → expressionKind (expressionAt d n .kind) ≡ operates o → ⊥) → exprDepth (exprOf d n) ≡ 1
+  unfolding exprStep
+  expr-flat-depth h = ap exprDepth (expr-step d n) ∙ flat-expression (expressionKind (expressionAt d n .kind)) _ _ _ h
+
+  pub cmd-flat-depth :
+      (commandKind (commandAt d n .kind) ≡ sequences → ⊥)
+      → (commandKind (commandAt d n .kind) ≡ branches → ⊥)
+      → cmdDepth (cmdOf d n) ≡ 1
+  unfolding cmdStep
+  cmd-flat-depth s b = ap cmdDepth (cmd-step d n) ∙ flat-command (commandKind (commandAt d n .kind)) _ _ _ _ _ _ s b
+
+  -- any other has one more than its deepest such part
+  pub expr-binary-depth :
+      {o : Operation}
+      → expressionKind (expressionAt d n .kind) ≡ operates o
+      → expressionAt d n .a < n
+      → expressionAt d n .b < n
+      → exprDepth (exprOf d n) ≡ suc (max (exprDepth (exprOf d (expressionAt d n .a))) (exprDepth (exprOf d (expressionAt d n .b))))
+  unfolding exprDepth
+  expr-binary-depth k a b = ap exprDepth (expr-binary d n k a b)
+
+  pub cmd-sequence-depth :
+      commandKind (commandAt d n .kind) ≡ sequences
+      → commandAt d n .a < n
+      → commandAt d n .b < n
+      → cmdDepth (cmdOf d n) ≡ suc (max (cmdDepth (cmdOf d (commandAt d n .a))) (cmdDepth (cmdOf d (commandAt d n .b))))
+  unfolding cmdDepth
+  cmd-sequence-depth k a b = ap cmdDepth (cmd-sequence d n k a b)
+
+  pub cmd-branch-depth :
+      commandKind (commandAt d n .kind) ≡ branches
+      → commandAt d n .b < n
+      → commandAt d n .c < n
+      → cmdDepth (cmdOf d n) ≡ suc (max (cmdDepth (cmdOf d (commandAt d n .b))) (cmdDepth (cmdOf d (commandAt d n .c))))
+  unfolding cmdDepth
+  cmd-branch-depth k b c = ap cmdDepth (cmd-branch d n k b c)

@@ -1,0 +1,214 @@
+-- The uses of a node by its kind, as the passes over uses count them, and refusal 6 from the tables.
+use Prim.Native.Nat.{ℕ, _≤_, _<_}
+use mathlib.Core.Path.{_≡_, refl, _∙_, ap}
+use mathlib.Core.Logic.{_⊎_, inl, inr, ⊎-elim}
+use mathlib.Core.List.{List, [], _∷_}
+use native.Mathlib.Omega.{arith}
+use lib.Dec.{eqb}
+use lib.ListN.{length, getD, replicate}
+use Rattle.model.specs.declared.Found.{Found}
+use Rattle.model.specs.Indices.{lowestFailing, joinBelow}
+use Rattle.model.specs.Image.{Commands, Expressions, State, Node, designOf, stateAt, commandAt, expressionAt}
+use Rattle.model.specs.Kinds.{CommandKind, skips, assigns, sequences, falls, goes, branches, unknownCommand, ExpressionKind, constants, reads, unknownExpression, Operation, operates, commandKind, expressionKind}
+use Rattle.model.specs.Nodes.{commandParts, expressionsOf, expressionParts, commandUses, expressionUses, commandUsedOnce, expressionUsedOnce}
+use Rattle.model.proofs.Laws.Indices.{below-suc}
+use Rattle.model.proofs.Laws.Kinds.{assigns-number, sequences-number, branches-number, no-operation-zero, no-operation-one, no-operation-above}
+use Rattle.model.proofs.Exact.Records.{state-iff}
+use Rattle.design.specs.declared.Design.{Design}
+use Rattle.design.specs.Records.{stateIn, nodeIn}
+use Rattle.design.specs.Describes.{Describes}
+use Rattle.design.proofs.Laws.{states-count, commands-count, expressions-count, state-in}
+use Rattle.nodes.specs.Tables.{StatesKept, CommandsKept, commandOf, partsOf, expressionOf, operandsOf, countUse, countUses}
+use Rattle.nodes.proofs.PartRules.{commands-most, expressions-most, command-byte, expression-byte, is-assign, is-sequence, is-branch, is-operation, command-a, command-b, command-c, expression-a, expression-b, assign-a, branch-a}
+use Rattle.nodes.proofs.CountRules.{counted-find, counted-length}
+
+-- ---- one use, and two
+use-one : (t : List ℕ) {v : List ℕ} {a p : ℕ} {uses : List ℕ} → uses ≡ p ∷ [] → a ≡ p → v ≡ countUse t a → v ≡ countUses t uses
+unfolding countUses
+use-one t e f h = rw (e, ← f) h
+
+use-two : (t : List ℕ) {u v : List ℕ} {a b p q : ℕ} {uses : List ℕ} → uses ≡ p ∷ q ∷ [] → a ≡ p → b ≡ q → u ≡ countUse t a → v ≡ countUse u b → v ≡ countUses t uses
+unfolding countUses
+use-two t e f g h k = rw (e, ← f, ← g, ← h) k
+
+use-none : {t : List ℕ} {uses : List ℕ} → uses ≡ [] → t ≡ countUses t uses
+unfolding countUses
+use-none e = rw e
+
+-- ---- the uses of each kind
+sequence-parts : {kind : CommandKind} (x : Node) → kind ≡ sequences → commandParts kind x ≡ x .a ∷ x .b ∷ []
+unfolding commandParts
+sequence-parts x e = rw e
+
+branch-parts : {kind : CommandKind} (x : Node) → kind ≡ branches → commandParts kind x ≡ x .b ∷ x .c ∷ []
+unfolding commandParts
+branch-parts x e = rw e
+
+no-parts : (kind : CommandKind) (x : Node) → (kind ≡ sequences → ⊥) → (kind ≡ branches → ⊥) → commandParts kind x ≡ []
+unfolding commandParts
+no-parts skips x s b = refl
+no-parts assigns x s b = refl
+no-parts sequences x s b = absurd (s refl)
+no-parts falls x s b = refl
+no-parts goes x s b = refl
+no-parts branches x s b = absurd (b refl)
+no-parts unknownCommand x s b = refl
+
+assign-expression : {kind : CommandKind} (x : Node) → kind ≡ assigns → expressionsOf kind x ≡ x .a ∷ []
+unfolding expressionsOf
+assign-expression x e = rw e
+
+branch-expression : {kind : CommandKind} (x : Node) → kind ≡ branches → expressionsOf kind x ≡ x .a ∷ []
+unfolding expressionsOf
+branch-expression x e = rw e
+
+no-expression : (kind : CommandKind) (x : Node) → (kind ≡ assigns → ⊥) → (kind ≡ branches → ⊥) → expressionsOf kind x ≡ []
+unfolding expressionsOf
+no-expression skips x a b = refl
+no-expression assigns x a b = absurd (a refl)
+no-expression sequences x a b = refl
+no-expression falls x a b = refl
+no-expression goes x a b = refl
+no-expression branches x a b = absurd (b refl)
+no-expression unknownCommand x a b = refl
+
+operands : {kind : ExpressionKind} {o : Operation} (x : Node) → kind ≡ operates o → expressionParts kind x ≡ x .a ∷ x .b ∷ []
+unfolding expressionParts
+operands x e = rw e
+
+no-operands : (kind : ExpressionKind) (x : Node) → ((o : Operation) → kind ≡ operates o → ⊥) → expressionParts kind x ≡ []
+unfolding expressionParts
+no-operands constants x h = refl
+no-operands reads x h = refl
+no-operands (operates o) x h = absurd (h o refl)
+no-operands unknownExpression x h = refl
+
+-- ---- a command's uses, from its kind byte
+module _ {image : List ℕ} {x : Design} (d : Describes image x) {n k : ℕ} (l : n < x .commands) (same : k ≡ nodeIn image (x .«commands_at») n .kind) where
+  pub uses-sequence :
+      (t : List ℕ) {u v : List ℕ} {a b : ℕ}
+      → k ≡ 2
+      → a ≡ nodeIn image (x .«commands_at») n .a
+      → b ≡ nodeIn image (x .«commands_at») n .b
+      → u ≡ countUse t a
+      → v ≡ countUse u b
+      → v ≡ countUses t (partsOf (designOf image) n)
+  uses-sequence t e p q g h = use-two t (sequence-parts (commandAt (designOf image) n) (is-sequence d l same e)) (command-a d l p) (command-b d l q) g h
+
+  pub uses-branch :
+      (t : List ℕ) {u v : List ℕ} {a b : ℕ}
+      → k ≡ 5
+      → a ≡ nodeIn image (x .«commands_at») n .b
+      → b ≡ nodeIn image (x .«commands_at») n .c
+      → u ≡ countUse t a
+      → v ≡ countUse u b
+      → v ≡ countUses t (partsOf (designOf image) n)
+  uses-branch t e p q g h = use-two t (branch-parts (commandAt (designOf image) n) (is-branch d l same e)) (command-b d l p) (command-c d l q) g h
+
+  pub uses-no-part : {t : List ℕ} → (k ≡ 2 → ⊥) → (k ≡ 5 → ⊥) → t ≡ countUses t (partsOf (designOf image) n)
+  uses-no-part two five =
+      use-none
+      (no-parts
+      (commandKind (commandAt (designOf image) n .kind))
+      (commandAt (designOf image) n)
+      (λ e. two (sequences-number k (ap commandKind (command-byte d l same) ∙ e)))
+      (λ e. five (branches-number k (ap commandKind (command-byte d l same) ∙ e))))
+
+  pub uses-expression : (t : List ℕ) {v : List ℕ} {a : ℕ} → (k ≡ 1) ⊎ (k ≡ 5) → a ≡ nodeIn image (x .«commands_at») n .a → v ≡ countUse t a → v ≡ countUses t (expressionOf (designOf image) n)
+  uses-expression t e p h =
+      ⊎-elim
+      (λ (one : k ≡ 1). use-one t (assign-expression (commandAt (designOf image) n) (is-assign d l same one)) (command-a d l p) h)
+      (λ (five : k ≡ 5). use-one t (branch-expression (commandAt (designOf image) n) (is-branch d l same five)) (command-a d l p) h)
+      e
+
+  pub uses-no-expression : {t : List ℕ} → ((k ≡ 1) ⊎ (k ≡ 5) → ⊥) → t ≡ countUses t (expressionOf (designOf image) n)
+  uses-no-expression h =
+      use-none
+      (no-expression
+      (commandKind (commandAt (designOf image) n .kind))
+      (commandAt (designOf image) n)
+      (λ e. h (inl (assigns-number k (ap commandKind (command-byte d l same) ∙ e))))
+      (λ e. h (inr (branches-number k (ap commandKind (command-byte d l same) ∙ e)))))
+
+  -- the expression of a command is one
+  pub expression-inside : {a : ℕ} → CommandsKept (designOf image) → (k ≡ 1) ⊎ (k ≡ 5) → a ≡ nodeIn image (x .«commands_at») n .a → a < 2048
+  expression-inside kept e p = expressions-most d (⊎-elim (λ (one : k ≡ 1). assign-a d kept l same one p) (λ (five : k ≡ 5). branch-a d kept l same five p) e)
+
+-- ---- an expression's uses, from its kind byte
+module _ {image : List ℕ} {x : Design} (d : Describes image x) {n k : ℕ} (l : n < x .expressions) (same : k ≡ nodeIn image (x .«expressions_at») n .kind) where
+  pub uses-operation :
+      (t : List ℕ) {u v : List ℕ} {a b : ℕ}
+      → 2 ≤ k
+      → k < 9
+      → a ≡ nodeIn image (x .«expressions_at») n .a
+      → b ≡ nodeIn image (x .«expressions_at») n .b
+      → u ≡ countUse t a
+      → v ≡ countUse u b
+      → v ≡ countUses t (operandsOf (designOf image) n)
+  uses-operation t low high p q g h =
+      use-two t (operands (expressionAt (designOf image) n) (is-operation d l same low high .1)) (expression-a d l p) (expression-b d l q) g h
+
+  no-operation : {t : List ℕ} → ((o : Operation) → expressionKind k ≡ operates o → ⊥) → t ≡ countUses t (operandsOf (designOf image) n)
+  no-operation h =
+      use-none
+      (no-operands
+      (expressionKind (expressionAt (designOf image) n .kind))
+      (expressionAt (designOf image) n)
+      (λ o e. h o (ap expressionKind (expression-byte d l same) ∙ e)))
+
+  pub uses-low : {t : List ℕ} → k < 2 → t ≡ countUses t (operandsOf (designOf image) n)
+  uses-low h = no-operation (λ o e. ⊎-elim (λ (z : k < 1). no-operation-zero (omega arith) o e) (λ (z : k ≡ 1). no-operation-one z o e) (below-suc h))
+
+  pub uses-high : {t : List ℕ} → 9 ≤ k → t ≡ countUses t (operandsOf (designOf image) n)
+  uses-high h = no-operation (no-operation-above h)
+
+-- ---- a state's use
+module _ {image : List ℕ} {x : Design} (d : Describes image x) {s m : ℕ} (l : s < x .states) (same : m ≡ stateIn image (x .«states_at») s .command) where
+  pub uses-body : (t : List ℕ) {v : List ℕ} → v ≡ countUse t m → v ≡ countUses t (commandOf (designOf image) s)
+  uses-body t h = use-one t refl (same ∙ ap (λ (y : State). y .command) (state-in d l)) h
+
+  pub body-inside : StatesKept (designOf image) → m < 1024
+  body-inside kept =
+      let command = state-iff (designOf image) s .0 (kept s (omega (arith, states-count d))) .command in
+      let is : m ≡ stateAt (designOf image) s .command = same ∙ ap (λ (y : State). y .command) (state-in d l) in
+      commands-most d (omega (arith, commands-count d))
+
+-- ---- refusal 6
+module _ {image : List ℕ} {x : Design} (d : Describes image x) where
+  pub commands-counted : (us vs : List ℕ) {t u : List ℕ} → t ≡ countUses (replicate 1024 0) us → u ≡ countUses t vs → x .commands ≤ length u
+  commands-counted us vs {t} {u} p q =
+      let most = d .directory .sections Commands .at-most in
+      let long : 1024 ≡ length u = counted-length us vs p q in
+      omega (arith, d .commands)
+
+  pub expressions-counted : (us vs : List ℕ) {t u : List ℕ} → t ≡ countUses (replicate 2048 0) us → u ≡ countUses t vs → x .expressions ≤ length u
+  expressions-counted us vs {t} {u} p q =
+      let most = d .directory .sections Expressions .at-most in
+      let long : 2048 ≡ length u = counted-length us vs p q in
+      omega (arith, d .expressions)
+
+  pub command-uses-rule :
+      {t u : List ℕ} {f : Found}
+      → t ≡ countUses (replicate 1024 0) (joinBelow (commandOf (designOf image)) (length (designOf image .states)))
+      → u ≡ countUses t (joinBelow (partsOf (designOf image)) (length (designOf image .commands)))
+      → f ≡ lowestFailing (λ k. eqb (getD u k 0) 1) (x .commands)
+      → f ≡ lowestFailing (commandUsedOnce (designOf image)) (length (designOf image .commands))
+  unfolding commandUsedOnce commandUses
+  command-uses-rule p q e =
+      let most = d .directory .sections Commands .at-most in
+      rw (← (commands-count d)) (counted-find 1024 (x .commands) _ _ p q (omega (arith, d .commands)) e)
+
+  pub expression-uses-rule :
+      {t u : List ℕ} {f : Found}
+      → t ≡ countUses (replicate 2048 0) (joinBelow (expressionOf (designOf image)) (length (designOf image .commands)))
+      → u ≡ countUses t (joinBelow (operandsOf (designOf image)) (length (designOf image .expressions)))
+      → f ≡ lowestFailing (λ k. eqb (getD u k 0) 1) (x .expressions)
+      → f ≡ lowestFailing (expressionUsedOnce (designOf image)) (length (designOf image .expressions))
+  unfolding expressionUsedOnce expressionUses
+  expression-uses-rule p q e =
+      let most = d .directory .sections Expressions .at-most in
+      rw (← (expressions-count d)) (counted-find 2048 (x .expressions) _ _ p q (omega (arith, d .expressions)) e)
+
+pub ruleset use-laws = (uses-sequence, uses-branch, uses-no-part, uses-expression, uses-no-expression, expression-inside, uses-operation, uses-low, uses-high, uses-body, body-inside)
+
+pub ruleset used-once-laws = (counted-length, commands-counted, expressions-counted, command-uses-rule, expression-uses-rule)

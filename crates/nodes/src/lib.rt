@@ -1,0 +1,5 @@
+// The checker's passes over nodes: what a node of each kind holds, refusal 5; that every node is used
+// exactly once, refusal 6; and that none is too deep, refusal 7.
+pub mod depths;
+pub mod kinds;
+pub mod uses;

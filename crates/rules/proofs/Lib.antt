@@ -1,0 +1,2 @@
+-- Laws of the passes one after the other.
+pub mod StageRules

@@ -1,0 +1,39 @@
+-- The verdict from each pass on, in the order of the table: each is the pass's refusal, if it has one, before all that follow.
+use Prim.Native.Nat.{ℕ}
+use mathlib.Core.List.{List}
+use lib.ListN.{length}
+use Rattle.model.specs.declared.Refusal.the-variants.{LabelRow, RegisterRecord, StateRecord, NodeRecord, NodeUse, Depth, Shape, ChildLabel}
+use Rattle.model.specs.declared.Answer.{Answer}
+use Rattle.model.specs.Indices.{lowestFailing}
+use Rattle.model.specs.Image.{Design}
+use Rattle.model.specs.Lattice.{labelKept}
+use Rattle.model.specs.States.{registerKept, stateKept, childLabelKept}
+use Rattle.model.specs.Kinds.{commandKept, expressionKept}
+use Rattle.model.specs.Nodes.{commandUsedOnce, expressionUsedOnce, commandDepthKept, expressionDepthKept}
+use Rattle.model.specs.Shape.{shapeFault}
+use Rattle.model.specs.Flow.{flowAnswer}
+use Rattle.model.specs.Verdict.{_before_, refusedAt, lowestNode}
+
+unfoldable pub fromChildren : Design → Answer
+fromChildren d = refusedAt ChildLabel (lowestFailing (childLabelKept d) (length (d .states))) before flowAnswer d
+
+unfoldable pub fromShape : Design → Answer
+fromShape d = refusedAt Shape (shapeFault d) before fromChildren d
+
+unfoldable pub fromDepths : Design → Answer
+fromDepths d = refusedAt Depth (lowestNode d (commandDepthKept d) (expressionDepthKept d)) before fromShape d
+
+unfoldable pub fromUses : Design → Answer
+fromUses d = refusedAt NodeUse (lowestNode d (commandUsedOnce d) (expressionUsedOnce d)) before fromDepths d
+
+unfoldable pub fromNodes : Design → Answer
+fromNodes d = refusedAt NodeRecord (lowestNode d (commandKept d) (expressionKept d)) before fromUses d
+
+unfoldable pub fromStates : Design → Answer
+fromStates d = refusedAt StateRecord (lowestFailing (stateKept d) (length (d .states))) before fromNodes d
+
+unfoldable pub fromRegisters : Design → Answer
+fromRegisters d = refusedAt RegisterRecord (lowestFailing (registerKept d) (length (d .registers))) before fromStates d
+
+unfoldable pub fromLabels : Design → Answer
+fromLabels d = refusedAt LabelRow (lowestFailing (labelKept (d .rows)) (length (d .rows))) before fromRegisters d
