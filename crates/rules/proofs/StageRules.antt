@@ -6,6 +6,8 @@ use mathlib.Core.Bool.{Bool, true, false, not}
 use mathlib.Core.List.{List}
 use native.Mathlib.Omega.{arith}
 use lib.ListN.{length}
+use mir.Syntax.{w64}
+use mir.Val.{Fits}
 use Rattle.model.specs.declared.Found.{Found}
 use Rattle.model.specs.declared.Found.the-variants.{At, Nowhere}
 use Rattle.model.specs.declared.Refusal.{Refusal}
@@ -42,8 +44,8 @@ unfolding refusedAt _before_
 stage-passes r g rest e h k = k ∙ rw (← e, h)
 
 -- ---- both families of nodes
-pub first-command : {a b : Found} {n : ℕ} → a ≡ At n → At n ≡ commandsFirst a b
-first-command {a} {b} h = rw h
+pub first-command : {a : Found} (b : Found) {n : ℕ} → a ≡ At n → At n ≡ commandsFirst a b
+first-command b h = rw h
 
 pub first-expression : {a b : Found} {n : ℕ} → a ≡ Nowhere → b ≡ At n → At (1024 + n) ≡ commandsFirst a b
 first-expression h k = rw (h, k)
@@ -56,13 +58,16 @@ unfolding lowestNode
 both-families d c e p q k = k ∙ rw (p, q)
 
 -- an expression's number is small enough for its place
-pub expression-small : {image : List ℕ} {x : Design} {rule : ℕ → Bool} {f : Found} {n : ℕ} → Describes image x → f ≡ lowestFailing rule (length (designOf image .expressions)) → f ≡ At n → n < 2048
-expression-small {image} {x} {rule} {f} {n} d p h =
+pub expression-small : {image : List ℕ} {x : Design} (rule : ℕ → Bool) {f : Found} {n : ℕ} → Describes image x → f ≡ lowestFailing rule (length (designOf image .expressions)) → f ≡ At n → n < 2048
+expression-small {image} {x} rule {f} {n} d p h =
     let below = lowest-failing-below rule (length (designOf image .expressions)) n (sym p ∙ h) in
     let count = expressions-count d in
     let is = d .expressions in
     let most = d .directory .sections Expressions .at-most in
     omega arith
+
+pub place-fits : {f : Found} {n : ℕ} → ((m : ℕ) → f ≡ At m → m < 2048) → f ≡ At n → Fits w64 (1024 + n)
+place-fits {n = n} h e = let small = h n e in record { fits = omega arith }
 
 -- ---- what is known once a pass has found nothing
 pub known-registers : {d : Table} {f : Found} → f ≡ lowestFailing (registerKept d) (length (d .registers)) → f ≡ Nowhere → RegistersKept d

@@ -1,0 +1,40 @@
+use Rattle.rules.specs.Stages.{fromLabels}
+use Rattle.rules.proofs.StageRules.{stage-refuses, stage-passes, known-registers, known-states, known-nodes, shape-known, states-known, commands-known, expressions-known}
+use borrow.Author.Needs.{needs}
+use Rattle.rules.proofs.from_labels.Statement.{statement}
+use Rattle.rules.proofs.from_labels.Tie as tie
+use Rattle.rules.proofs.from_labels.Reads as reads
+use Rattle.rules.proofs.from_labels.Lts as lts
+use Rattle.records.proofs.lattice.labels.Reads as labels-reads
+use Rattle.rules.proofs.from_registers.Reads as from-registers-reads
+
+-- src/lib.rt:152:9
+labels-requires : tie.Need-labels-requires
+labels-requires c κs = search needs
+
+-- src/lib.rt:154:19
+enum-known-found : tie.Need-enum-known-found
+enum-known-found c = search needs
+
+-- src/lib.rt:155:27
+enum-told : tie.Need-enum-told
+enum-told c = search needs
+
+-- src/lib.rt:155:27
+from-registers-requires : tie.Need-from-registers-requires
+from-registers-requires c κs = search needs
+
+-- src/lib.rt:148:1
+returns : tie.Need-returns
+unfolding fromLabels
+returns c = search (stage-refuses, stage-passes, needs)
+
+-- src/lib.rt:148:1
+returns-2 : tie.Need-returns-2
+unfolding fromLabels
+returns-2 c = search (stage-refuses, stage-passes, needs)
+
+pub from-labels-spec : {M : Type 1} → statement M
+from-labels-spec =
+    tie.close
+    (tie.spec labels-requires enum-known-found enum-told from-registers-requires returns returns-2)

@@ -1,0 +1,40 @@
+use Rattle.rules.specs.Stages.{fromRegisters}
+use Rattle.rules.proofs.StageRules.{stage-refuses, stage-passes, known-registers, known-states, known-nodes, shape-known, states-known, commands-known, expressions-known}
+use borrow.Author.Needs.{needs}
+use Rattle.rules.proofs.from_registers.Statement.{statement}
+use Rattle.rules.proofs.from_registers.Tie as tie
+use Rattle.rules.proofs.from_registers.Reads as reads
+use Rattle.rules.proofs.from_registers.Lts as lts
+use Rattle.records.proofs.registers.registers.Reads as registers-reads
+use Rattle.rules.proofs.from_states.Reads as from-states-reads
+
+-- src/lib.rt:140:9
+registers-requires : tie.Need-registers-requires
+registers-requires c κs = search needs
+
+-- src/lib.rt:142:19
+enum-known-found : tie.Need-enum-known-found
+enum-known-found c = search needs
+
+-- src/lib.rt:143:27
+enum-told : tie.Need-enum-told
+enum-told c = search needs
+
+-- src/lib.rt:143:27
+from-states-requires : tie.Need-from-states-requires
+from-states-requires c κs = search (known-registers, known-states, known-nodes, shape-known, states-known, commands-known, expressions-known, needs)
+
+-- src/lib.rt:136:1
+returns : tie.Need-returns
+unfolding fromRegisters
+returns c = search (stage-refuses, stage-passes, needs)
+
+-- src/lib.rt:136:1
+returns-2 : tie.Need-returns-2
+unfolding fromRegisters
+returns-2 c = search (stage-refuses, stage-passes, needs)
+
+pub from-registers-spec : {M : Type 1} → statement M
+from-registers-spec =
+    tie.close
+    (tie.spec registers-requires enum-known-found enum-told from-states-requires returns returns-2)

@@ -1,0 +1,40 @@
+use Rattle.rules.specs.Stages.{fromShape}
+use Rattle.rules.proofs.StageRules.{stage-refuses, stage-passes, known-registers, known-states, known-nodes, shape-known, states-known, commands-known, expressions-known}
+use borrow.Author.Needs.{needs}
+use Rattle.rules.proofs.from_shape.Statement.{statement}
+use Rattle.rules.proofs.from_shape.Tie as tie
+use Rattle.rules.proofs.from_shape.Reads as reads
+use Rattle.rules.proofs.from_shape.Lts as lts
+use Rattle.bodies.proofs.shape.shapes.Reads as shapes-reads
+use Rattle.rules.proofs.from_children.Reads as from-children-reads
+
+-- src/lib.rt:80:9
+shapes-requires : tie.Need-shapes-requires
+shapes-requires c κs = search needs
+
+-- src/lib.rt:82:19
+enum-known-found : tie.Need-enum-known-found
+enum-known-found c = search needs
+
+-- src/lib.rt:83:27
+enum-told : tie.Need-enum-told
+enum-told c = search needs
+
+-- src/lib.rt:83:27
+from-children-requires : tie.Need-from-children-requires
+from-children-requires c κs = search needs
+
+-- src/lib.rt:76:1
+returns : tie.Need-returns
+unfolding fromShape
+returns c = search (stage-refuses, stage-passes, needs)
+
+-- src/lib.rt:76:1
+returns-2 : tie.Need-returns-2
+unfolding fromShape
+returns-2 c = search (stage-refuses, stage-passes, needs)
+
+pub from-shape-spec : {M : Type 1} → statement M
+from-shape-spec =
+    tie.close
+    (tie.spec shapes-requires enum-known-found enum-told from-children-requires returns returns-2)

@@ -1,0 +1,40 @@
+use Rattle.rules.specs.Stages.{fromUses}
+use Rattle.rules.proofs.StageRules.{stage-refuses, stage-passes, known-registers, known-states, known-nodes, shape-known, states-known, commands-known, expressions-known}
+use borrow.Author.Needs.{needs}
+use Rattle.rules.proofs.from_uses.Statement.{statement}
+use Rattle.rules.proofs.from_uses.Tie as tie
+use Rattle.rules.proofs.from_uses.Reads as reads
+use Rattle.rules.proofs.from_uses.Lts as lts
+use Rattle.rules.proofs.from_depths.Reads as from-depths-reads
+use Rattle.rules.proofs.node_uses.Reads as node-uses-reads
+
+-- src/lib.rt:104:9
+node-uses-requires : tie.Need-node-uses-requires
+node-uses-requires c κs = search needs
+
+-- src/lib.rt:106:19
+enum-known-found : tie.Need-enum-known-found
+enum-known-found c = search needs
+
+-- src/lib.rt:107:27
+enum-told : tie.Need-enum-told
+enum-told c = search needs
+
+-- src/lib.rt:107:27
+from-depths-requires : tie.Need-from-depths-requires
+from-depths-requires c κs = search needs
+
+-- src/lib.rt:100:1
+returns : tie.Need-returns
+unfolding fromUses
+returns c = search (stage-refuses, stage-passes, needs)
+
+-- src/lib.rt:100:1
+returns-2 : tie.Need-returns-2
+unfolding fromUses
+returns-2 c = search (stage-refuses, stage-passes, needs)
+
+pub from-uses-spec : {M : Type 1} → statement M
+from-uses-spec =
+    tie.close
+    (tie.spec node-uses-requires enum-known-found enum-told from-depths-requires returns returns-2)
