@@ -1,0 +1,2 @@
+-- Laws of answers in numbers.
+pub mod Answered

@@ -1,0 +1,23 @@
+use Rattle.caisson.proofs.Answered.{same-answer}
+use borrow.Author.Needs.{needs}
+use Rattle.caisson.proofs.caisson_check.Statement.{statement}
+use Rattle.caisson.proofs.caisson_check.Tie as tie
+use Rattle.caisson.proofs.caisson_check.Reads as reads
+use Rattle.caisson.proofs.caisson_check.Lts as lts
+use Rattle.caisson.proofs.in_numbers.Reads as in-numbers-reads
+use Rattle.calls.proofs.check.Reads as check-reads
+
+-- src/lib.rt:64:9
+check-requires : tie.Need-check-requires
+check-requires c κs = search needs
+
+-- src/lib.rt:65:5
+in-numbers-requires : tie.Need-in-numbers-requires
+in-numbers-requires c κs = search needs
+
+-- src/lib.rt:60:1
+returns : tie.Need-returns
+returns c = search (same-answer, needs)
+
+pub caisson-check-spec : {M : Type 1} → statement M
+caisson-check-spec = tie.close (tie.spec check-requires in-numbers-requires returns)

@@ -1,0 +1,2 @@
+-- What the exported functions' contracts cite.
+pub mod Told
