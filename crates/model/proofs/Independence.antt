@@ -2,11 +2,13 @@
 pub mod Relation
 pub mod Labels
 pub mod Endings
+pub mod Unnumbered
 pub mod Agreement
 pub mod Commands
 pub mod Bounded
 pub mod Path
 pub mod Rising
+pub mod Enough
 pub mod Cycle
 pub mod Runs
 pub mod Calls

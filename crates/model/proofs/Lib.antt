@@ -6,3 +6,4 @@ pub mod Promises
 pub mod Designs
 pub mod Opened
 pub mod Cases
+pub mod Boundaries

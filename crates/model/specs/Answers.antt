@@ -1,4 +1,4 @@
--- The number and the values that document 01 gives to each case of an answer. Every promise about an answer goes through these definitions.
+-- The number and the values that document 01 gives to each case of an answer. The promises about answers go through these definitions.
 use Prim.Native.Nat.{ℕ}
 use Rattle.model.specs.declared.Refusal.{Refusal}
 use Rattle.model.specs.declared.Refusal.the-variants.{Directory, LabelRow, RegisterRecord, StateRecord, NodeRecord, NodeUse, Depth, Shape, ChildLabel, AssignFlow, GotoFlow, FallFlow, NoPort, Area, CycleCount}

@@ -1,5 +1,5 @@
 -- 01, 'The image': bytes to sections, sections to records. Nothing else in the definitions knows where a byte stands.
--- An image is the list of its bytes; a field is little-endian; past the end every byte reads as 0.
+-- An image is the list of its bytes.
 use Prim.Native.Nat.{ℕ, zero, suc, _+_, _*_, _/_, _%_, _<_}
 use mathlib.Core.Bool.{Bool, _&&_}
 use mathlib.Core.List.{List, [], _∷_}
@@ -7,7 +7,7 @@ use lib.Dec.{leb, eqb}
 use lib.ListN.{length, getD, drop}
 use Rattle.model.specs.Limits.{directoryLength, labelLength, registerLength, stateLength, nodeLength, labelsMin, labelsMax, registersMax, statesMin, statesMax, commandsMax, expressionsMax}
 
--- "fields little-endian"
+-- past the end every byte reads as 0
 abbrev pub byteAt : List ℕ → ℕ → ℕ
 byteAt bytes i = getD bytes i 0
 
@@ -15,6 +15,7 @@ byteAt bytes i = getD bytes i 0
 abbrev pub AreBytes : List ℕ → Type 0
 AreBytes bytes = (i : ℕ) → byteAt bytes i < 256
 
+-- "fields little-endian"
 abbrev pub word16At : List ℕ → ℕ → ℕ
 word16At bytes i = byteAt bytes i + 256 * byteAt bytes (i + 1)
 

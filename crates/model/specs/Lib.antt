@@ -1,4 +1,5 @@
 -- All that a reader has to believe, in the order of document 01. Every definition here computes.
+-- 'The image'
 pub mod Limits
 pub mod Indices
 pub mod Image
@@ -7,13 +8,18 @@ pub mod States
 pub mod Kinds
 pub mod Trees
 pub mod Nodes
+-- 'Shape and flow'
 pub mod Shape
 pub mod Flow
+-- 'A cycle'
+pub mod Values
+pub mod Machine
+-- 'What a party sees'
+pub mod Parties
+-- 'When the box says no'
 pub mod Answers
 pub mod Rules
 pub mod Verdict
-pub mod Values
-pub mod Machine
 pub mod Calls
+-- 'The lease design'
 pub mod Listing
-pub mod Parties

@@ -25,20 +25,22 @@ use Rattle.model.proofs.Laws.Gotos.{within-self}
 use Rattle.model.proofs.Independence.Relation.{Good}
 use Rattle.model.proofs.Independence.Labels.{state-label}
 use Rattle.model.proofs.Independence.Endings.{holdsFall, Ended}
+use Rattle.model.proofs.Independence.Unnumbered.{unnumbered, exec-alike, holds-alike}
 use Rattle.model.proofs.Independence.Agreement.{Agree, agree-sym, agree-trans}
 use Rattle.model.proofs.Independence.Commands.{OutcomesAgree, SameSeen, exec-same}
 use Rattle.model.proofs.Independence.Bounded.{BoundedCmd}
 use Rattle.model.proofs.Independence.Path.{entryOf, ran, leftBy, target, entry, targetsAfter, left-good, ended, target-state, fall-points}
 use Rattle.model.proofs.Independence.Rising.{Rising, Defaults, default-of-fall, gone-defaults, entry-hidden, run-hidden}
 
--- Two designs with equal labels and registers, and equal state records apart from command numbers, whose bodies are the same in states that are seen.
+-- Two designs with equal labels and registers, and equal state records apart from command numbers, whose bodies are the same commands, apart from node
+-- numbers, in states that are seen.
 pub record Alike (d₁ d₂ : Design) (level : ℕ) : Type 0 where
   pub rows : d₁ .rows ≡ d₂ .rows
   pub registers : d₁ .registers ≡ d₂ .registers
   pub states : length (d₁ .states) ≡ length (d₂ .states)
   pub parents : (s : ℕ) → parent d₁ s ≡ parent d₂ s
   pub labels : (s : ℕ) → stateLabel d₁ s ≡ stateLabel d₂ s
-  pub bodies : (s : ℕ) → stateSeen d₁ level s ≡ true → bodyOf d₁ s ≡ bodyOf d₂ s
+  pub bodies : (s : ℕ) → stateSeen d₁ level s ≡ true → unnumbered (bodyOf d₁ s) ≡ unnumbered (bodyOf d₂ s)
 
 pub alike-self : (d : Design) (level : ℕ) → Alike d d level
 alike-self d level = record { rows = refl; registers = refl; states = refl; parents = λ s. refl; labels = λ s. refl; bodies = λ s h. refl }
@@ -90,6 +92,9 @@ module _ (d₁ d₂ : Design) (level : ℕ) (alike : Alike d₁ d₂ level) wher
   pub same-seen : (s : ℕ) → stateSeen d₁ level s ≡ stateSeen d₂ level s
   same-seen s = rw (alike .rows, alike .labels s) refl
 
+  pub same-holds : (s : ℕ) → stateSeen d₁ level s ≡ true → holdsFall (bodyOf d₁ s) ≡ holdsFall (bodyOf d₂ s)
+  same-holds s seen = holds-alike (bodyOf d₁ s) (bodyOf d₂ s) (alike .bodies s seen)
+
   pub same-child : (s q : ℕ) → isChild d₁ s q ≡ isChild d₂ s q
   unfolding isChild
   same-child s q = rw (alike .states, alike .parents q) refl
@@ -115,7 +120,7 @@ module _ (d₁ d₂ : Design) (level : ℕ) (alike : Alike d₁ d₂ level) wher
       falls-or-not (inr h) further = rw h
 
       seen-or-not : (stateSeen d₁ level q ≡ true) ⊎ (stateSeen d₁ level q ≡ false) → (holdsFall (bodyOf d₁ q) ≡ true → pathSeen d₁ level f (defaultTarget d₁ q) targets₁ ≡ pathSeen d₂ level f (defaultTarget d₁ q) targets₂) → cond (stateSeen d₁ level q) (q ∷ cond (holdsFall (bodyOf d₁ q)) (pathSeen d₁ level f (getD targets₁ q 0) targets₁) []) [] ≡ cond (stateSeen d₂ level q) (q ∷ cond (holdsFall (bodyOf d₂ q)) (pathSeen d₂ level f (getD targets₂ q 0) targets₂) []) []
-      seen-or-not (inl h) further = rw (← (same-seen q), h, ← (alike .bodies q h)) (ap (λ (rest : List ℕ). q ∷ rest) (falls-or-not (decide (holdsFall (bodyOf d₁ q))) further))
+      seen-or-not (inl h) further = rw (← (same-seen q), h, ← (same-holds q h)) (ap (λ (rest : List ℕ). q ∷ rest) (falls-or-not (decide (holdsFall (bodyOf d₁ q))) further))
       seen-or-not (inr h) further = rw (← (same-seen q), h)
 
   pub same-register-seen : (r : ℕ) → registerSeen d₁ level r ≡ registerSeen d₂ level r
@@ -195,7 +200,7 @@ module _ (d₁ d₂ : Design) (level : ℕ) (alike : Alike d₁ d₂ level) wher
       unfolding allFlowTo
       bodies-together agree =
           rw
-          (← (alike .bodies s seen))
+          (← (exec-alike (bodyOf d₁ s) (bodyOf d₂ s) (a₂ .registers) (alike .bodies s seen)))
           (exec-same d₁ level keeps₁ isLabel s seen (stateLabel d₁ s ∷ []) agree (bodyOf d₁ s) (keeps₁ .shaped s l₁) (keeps₁ .flowing s l₁) (state-label d₁ level keeps₁ isLabel s, tt) (and-both (stateSeen d₁ level s) true seen refl))
 
     -- the run from the target of s goes on together
@@ -212,7 +217,7 @@ module _ (d₁ d₂ : Design) (level : ℕ) (alike : Alike d₁ d₂ level) wher
     unfolding runFrom
     seen-together f s a₁ a₂ l₁ l₂ good₁ good₂ seen agree paths further =
         let same = bodies-together f s a₁ a₂ l₁ l₂ good₁ good₂ seen agree in
-        let holds₂ : holdsFall (bodyOf d₁ s) ≡ true → holdsFall (bodyOf d₂ s) ≡ true = λ h. rw (← (alike .bodies s seen)) h in
+        let holds₂ : holdsFall (bodyOf d₁ s) ≡ true → holdsFall (bodyOf d₂ s) ≡ true = λ h. sym (same-holds s seen) ∙ h in
         let on : holdsFall (bodyOf d₁ s) ≡ true → pathSeen d₁ level f (target a₁ s) (a₁ .targets) ≡ pathSeen d₂ level f (target a₂ s) (a₂ .targets) = λ h.
         tail-same s _ _ (sym (path-falls d₁ level f s (a₁ .targets) seen h) ∙ paths ∙ path-falls d₂ level f s (a₂ .targets) (sym (same-seen s) ∙ seen) (holds₂ h)) in
         after-together

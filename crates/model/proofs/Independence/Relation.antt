@@ -1,5 +1,5 @@
 -- What holds of the areas in every run from reset, and what the list of calls needs to know of a relation between two runs.
--- `Lists.antt` carries any such relation through whole lists of calls; `Cycle.antt` gives the one that holds.
+-- `Lists.antt` carries any such relation through whole lists of calls; `Runs.antt` gives the one that holds.
 use Prim.Native.Nat.{ℕ, _<_}
 use mathlib.Core.Path.{_≡_}
 use mathlib.Core.Bool.{true, false}

@@ -32,8 +32,8 @@ module _ (r q p : Refusal) (i j k : ℕ) where
   unfolding nearer
   nearer-three true true true x y z = simp (x, y, z)
   nearer-three true true false x y z = absurd (let a = ltb-true j i x in let b = ltb-true k j y in let c = ltb-false k i z in omega arith)
-  nearer-three true false true x y z = simp (x, y, z)
-  nearer-three true false false x y z = simp (x, y, z)
+  nearer-three true false true x y z = simp (x, y)
+  nearer-three true false false x y z = simp (x, y)
   nearer-three false true true x y z = simp (x, y, z)
   nearer-three false true false x y z = simp (x, y, z)
   nearer-three false false true x y z = absurd (let a = ltb-false j i x in let b = ltb-false k j y in let c = ltb-true k i z in omega arith)

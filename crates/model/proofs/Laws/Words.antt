@@ -101,3 +101,22 @@ words-of-bytes (v ∷ values) = rw (digits-of v, words-of-bytes values)
 
 pub words-of-bytes-bounded : (values : List ℕ) → ((r : ℕ) → getD values r 0 < valueCount) → wordsOf (length values) (bytesOf values) ≡ values
 words-of-bytes-bounded values h = words-of-bytes values ∙ wrapped-same values h
+
+-- ---- bytes that are read as words and written again
+-- four bytes are the digits of their word
+digit-of : (a b c e : ℕ) → a < 256 → b < 256 → c < 256 → e < 256
+    → let v = a + 256 * b + 65536 * (c + 256 * e) in
+    (v % 256 ≡ a) × (v / 256 % 256 ≡ b) × (v / 65536 % 256 ≡ c) × (v / 16777216 % 256 ≡ e)
+digit-of a b c e ha hb hc he = (omega arith, omega arith, omega arith, omega arith)
+
+pub bytes-of-words : (n : ℕ) (bytes : List ℕ) → AreBytes bytes → length bytes ≡ wordLength * n → bytesOf (wordsOf n bytes) ≡ bytes
+unfolding wordsOf recordsOf bytesOf
+bytes-of-words zero [] h l = refl
+bytes-of-words zero (a ∷ more) h l = absurd (omega arith)
+bytes-of-words (suc n) [] h l = absurd (omega arith)
+bytes-of-words (suc n) (a ∷ []) h l = absurd (omega arith)
+bytes-of-words (suc n) (a ∷ b ∷ []) h l = absurd (omega arith)
+bytes-of-words (suc n) (a ∷ b ∷ c ∷ []) h l = absurd (omega arith)
+bytes-of-words (suc n) (a ∷ b ∷ c ∷ e ∷ more) h l =
+    let digits = digit-of a b c e (h 0) (h 1) (h 2) (h 3) in
+    rw (digits .0, digits .1, digits .2, digits .3, bytes-of-words n more (λ i. h (suc (suc (suc (suc i))))) (omega arith))
