@@ -1,0 +1,110 @@
+/*
+ * caisson.h: designs in Caisson tables, checked and run for a C host.
+ *
+ * A design is a binary image of at most CAISSON_LARGEST_IMAGE bytes. The library keeps no state and
+ * allocates nothing: a call works on the slices that it is lent and on its own stack, ends, and
+ * relies on no earlier call. Every image check is made again by every call.
+ *
+ * A slice is a pointer and a length in bytes. The pointer may be NULL where the length is 0. The
+ * slices of one call must not overlap. Nothing is read or written outside them.
+ *
+ * Every call answers a caisson_answer. `number` is 0 on acceptance, else the refusal's number, one of
+ * the caisson_refusal values below: the lowest number that applies, except that 10 to 12 are judged
+ * in one pass where the lowest node counts. `place` says where:
+ *
+ *   a label, register or state   its number, from 0
+ *   a command                    its node number, from 0
+ *   an expression                CAISSON_EXPRESSION_PLACE plus its node number
+ *   nothing of these             0
+ *
+ * It is the lowest that breaks the rule. `count` is what was done, and 0 on every refusal.
+ */
+#ifndef CAISSON_H
+#define CAISSON_H
+
+#include <stddef.h>
+#include <stdint.h>
+
+#ifdef __cplusplus
+extern "C" {
+#endif
+
+/* Limits of a design table. */
+#define CAISSON_LABELS 16u           /* most labels; at least 1 */
+#define CAISSON_REGISTERS 64u        /* most registers */
+#define CAISSON_STATES 64u           /* most states; at least 1 */
+#define CAISSON_COMMANDS 1024u       /* most commands */
+#define CAISSON_EXPRESSIONS 2048u    /* most expressions */
+#define CAISSON_DEPTH 64u            /* how deep commands and expressions nest */
+#define CAISSON_LARGEST_IMAGE 25268u /* bytes of the largest image */
+#define CAISSON_EXPRESSION_PLACE 1024u
+
+/* What is wrong with an image, and where `place` points. */
+enum caisson_refusal {
+    CAISSON_ACCEPTED = 0,
+    /* The directory: five pairs of 16-bit offset and length, sorted; the first offset is 20, each
+       later one the sum of the pair before it, and the last section ends at the image's end. Or a
+       section whose length is no whole number of records, or whose count is out of its limits.
+       Place 0. */
+    CAISSON_DIRECTORY = 1,
+    /* The label rows are no lattice with label 0 least: a bit at or above the label count; not
+       reflexive, antisymmetric or transitive; row 0 not full; or two labels with no least common
+       label above them. Place: the lowest label i whose row, or whose rule with i first, fails. */
+    CAISSON_LABEL_ROW = 2,
+    /* A register's label is no label, or its kind is neither 0 (inner) nor 1 (port). Place: the
+       register. */
+    CAISSON_REGISTER_RECORD = 3,
+    /* A state's parent, label or command number. State 0 is the root, with parent 0 and label 0;
+       any other parent has a lower number than its child. Place: the state. */
+    CAISSON_STATE_RECORD = 4,
+    /* A node of no kind; a byte that its kind does not use and that is not 0; or a part, register
+       or state number that is out of range. A part of the same family has a lower number than its
+       owner. Place: the node. */
+    CAISSON_NODE_RECORD = 5,
+    /* A node that is not used exactly once, by a state or as one part of another node. Place: the
+       node. */
+    CAISSON_NODE_USE = 6,
+    /* A node nested deeper than CAISSON_DEPTH. Place: the node. */
+    CAISSON_TOO_DEEP = 7,
+    /* The shape of a command: a state's command that does not end in a fall or goto; a sequence
+       whose first part does; an if of whose branches one does; a fall in a state without a child;
+       a goto to no sibling, or in the root. Place: the node; a state's command for the first. */
+    CAISSON_SHAPE = 8,
+    /* A child's label is not at or above its parent's. Place: the child. */
+    CAISSON_CHILD_LABEL = 9,
+    /* An assignment: the context and each register read must flow to the label of the register
+       written. The context is the state's label and the labels of all registers read in the
+       conditions of the ifs around. Place: the node. */
+    CAISSON_ASSIGN_FLOW = 10,
+    /* A goto: the context must flow to the named state's label. Place: the node. */
+    CAISSON_GOTO_FLOW = 11,
+    /* A fall: the context must flow to its own state's label. Place: the node. */
+    CAISSON_FALL_FLOW = 12
+};
+
+/* What a call answers. */
+typedef struct {
+    uint32_t number; /* 0: accepted; otherwise a caisson_refusal */
+    size_t place;    /* where; 0 on acceptance */
+    size_t count;    /* what was done; 0 on every refusal, and from caisson_check */
+} caisson_answer;
+
+#if defined(__GNUC__) || defined(__clang__)
+#define CAISSON_LOOK_AT_ANSWER __attribute__((warn_unused_result))
+#else
+#define CAISSON_LOOK_AT_ANSWER
+#endif
+
+/*
+ * Accepts an image exactly when it keeps the rules 1 to 12, or refuses it. Whatever the bytes and
+ * the length, the answer is defined. The time is linear in the image.
+ */
+CAISSON_LOOK_AT_ANSWER
+caisson_answer caisson_check(const uint8_t *image, /* the image's bytes */
+                             size_t image_len);    /* how many there are */
+
+#ifdef __cplusplus
+}
+#endif
+
+#endif

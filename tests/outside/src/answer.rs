@@ -1,0 +1,42 @@
+//! The answer of every call, laid out as the C interface has it.
+
+use std::fmt;
+
+#[repr(C)]
+#[derive(Clone, Copy, Debug, PartialEq, Eq)]
+pub struct Answer {
+    /// 0: accepted; otherwise the refusal's number in document 01.
+    pub number: u32,
+    /// The offending label, register, state or node; an expression is 1,024 plus its number.
+    pub place: usize,
+    /// The cycles done by a run; 0 otherwise.
+    pub count: usize,
+}
+
+impl Answer {
+    pub const fn accepted(count: usize) -> Answer {
+        Answer {
+            number: 0,
+            place: 0,
+            count,
+        }
+    }
+
+    pub const fn refused(number: u32, place: usize) -> Answer {
+        Answer {
+            number,
+            place,
+            count: 0,
+        }
+    }
+}
+
+impl fmt::Display for Answer {
+    fn fmt(&self, f: &mut fmt::Formatter) -> fmt::Result {
+        write!(
+            f,
+            "number {} place {} count {}",
+            self.number, self.place, self.count
+        )
+    }
+}

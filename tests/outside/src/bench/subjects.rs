@@ -1,0 +1,51 @@
+//! The accepted images that are timed.
+
+use crate::designs::lease;
+use crate::generate::random::Random;
+use crate::generate::{design, Size};
+use crate::reference;
+use crate::table::Table;
+
+/// So many images of one size, taken in turns: a processor that meets one image again and
+/// again learns its branches by heart, a small one's better than a large one's.
+const IMAGES: u64 = 16;
+
+pub struct Subject {
+    pub name: &'static str,
+    pub images: Vec<Vec<u8>>,
+}
+
+impl Subject {
+    /// All images of a subject have about this length.
+    pub fn bytes(&self) -> usize {
+        self.images.iter().map(Vec::len).sum::<usize>() / self.images.len()
+    }
+}
+
+pub fn accepted(table: &Table) -> Vec<u8> {
+    let image = table.image();
+    assert_eq!(reference::check(&image).number, 0);
+    image
+}
+
+/// The lease design, then designs of about a quarter, a half and all of the largest image.
+pub fn by_size() -> Vec<Subject> {
+    let of_size = |name, part| Subject {
+        name,
+        images: (1..=IMAGES)
+            .map(|seed| {
+                let size = Size::part_of_largest(part, 4);
+                accepted(&design(&mut Random::new(seed), size))
+            })
+            .collect(),
+    };
+    vec![
+        Subject {
+            name: "lease",
+            images: vec![accepted(&lease())],
+        },
+        of_size("quarter", 1),
+        of_size("half", 2),
+        of_size("largest", 4),
+    ]
+}

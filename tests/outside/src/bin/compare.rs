@@ -1,0 +1,84 @@
+//! Compares the library with the reference on random images, and with the feature `machine`
+//! also on random lists of calls, for a bounded time.
+
+use caisson_tests::compare::arguments::Arguments;
+use caisson_tests::compare::check;
+use caisson_tests::compare::difference::Difference;
+#[cfg(feature = "machine")]
+use caisson_tests::compare::lists;
+use caisson_tests::compare::tally::Tally;
+use std::process::ExitCode;
+use std::time::{Duration, Instant};
+
+fn main() -> ExitCode {
+    let arguments = Arguments::read(40);
+    println!("first seed {}", arguments.seed);
+    let mut good = compare_checks(&arguments);
+    if cfg!(feature = "machine") {
+        good = good && compare_lists(&arguments);
+    }
+    if good {
+        println!("no difference");
+        ExitCode::SUCCESS
+    } else {
+        println!("FAILED");
+        ExitCode::FAILURE
+    }
+}
+
+/// Takes seeds in order until the time is over or two answers differ.
+fn each_seed(
+    arguments: &Arguments,
+    mut compare: impl FnMut(u64) -> Result<(), Difference>,
+) -> bool {
+    let parts = if cfg!(feature = "machine") { 2 } else { 1 };
+    let end = Instant::now() + Duration::from_secs(arguments.seconds) / parts;
+    let mut seed = arguments.seed;
+    loop {
+        if let Err(difference) = compare(seed) {
+            difference.report(&format!("seed {seed}"));
+            return false;
+        }
+        if Instant::now() >= end {
+            println!("last seed {seed}");
+            return true;
+        }
+        seed += 1;
+    }
+}
+
+fn compare_checks(arguments: &Arguments) -> bool {
+    let mut tally = Tally::default();
+    if let Err(difference) = check::fixed_images(&mut tally) {
+        difference.report("the fixed images");
+        return false;
+    }
+    let equal = each_seed(arguments, |seed| check::images_of_seed(seed, &mut tally));
+    tally.print("check");
+    let missing = tally.missing(12);
+    if !missing.is_empty() {
+        println!("never met: {missing:?}");
+    }
+    equal && missing.is_empty()
+}
+
+#[cfg(feature = "machine")]
+fn compare_lists(arguments: &Arguments) -> bool {
+    let mut tallies = lists::Tallies::default();
+    if let Err(difference) = lists::longest_runs(&mut tallies) {
+        difference.report("the longest runs");
+        return false;
+    }
+    let equal = each_seed(arguments, |seed| lists::lists_of_seed(seed, &mut tallies));
+    tallies.print();
+    let missing = tallies.missing();
+    if !missing.is_empty() {
+        println!("never met: {missing:?}");
+    }
+    equal && missing.is_empty()
+}
+
+#[cfg(not(feature = "machine"))]
+fn compare_lists(_: &Arguments) -> bool {
+    true
+}

@@ -1,0 +1,52 @@
+//! Tries demand 3 on the library with random pairs of matching lists, for a bounded time.
+
+use caisson_tests::compare::arguments::Arguments;
+use caisson_tests::compare::independence::{pairs_of_seed, Findings};
+use std::process::ExitCode;
+use std::time::{Duration, Instant};
+
+fn main() -> ExitCode {
+    let arguments = Arguments::read(15);
+    let end = Instant::now() + Duration::from_secs(arguments.seconds);
+    println!("first seed {}", arguments.seed);
+    let mut findings = Findings::default();
+    let mut seed = arguments.seed;
+    while Instant::now() < end {
+        if let Err(difference) = pairs_of_seed(seed, &mut findings) {
+            difference.report(&format!("seed {seed}"));
+            return ExitCode::FAILURE;
+        }
+        seed += 1;
+    }
+    println!("last seed {}", seed - 1);
+    println!(
+        "{} pairs of matching lists, {} cycles: all views equal",
+        findings.pairs, findings.cycles
+    );
+    println!(
+        "  {} designs with a fault in their flow were refused",
+        findings.refused
+    );
+    println!(
+        "  after {} of the pairs registers out of sight differ",
+        findings.hidden_differences
+    );
+    println!(
+        "{} of {} lists made not to match were seen to differ",
+        findings.altered_seen, findings.altered
+    );
+    println!(
+        "{} of {} pairs were seen to differ from the top",
+        findings.from_top_seen, findings.from_top
+    );
+    let able = [
+        findings.hidden_differences,
+        findings.altered_seen,
+        findings.from_top_seen,
+    ];
+    if able.contains(&0) {
+        println!("FAILED: this test would not have found a difference");
+        return ExitCode::FAILURE;
+    }
+    ExitCode::SUCCESS
+}

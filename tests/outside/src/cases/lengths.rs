@@ -1,0 +1,123 @@
+//! Refusals 13 to 15: areas, targets, ports and cycle counts. No lent byte changes.
+
+use super::Areas;
+use crate::answer::Answer;
+use crate::designs::{lease, smallest};
+use crate::reference;
+
+/// Makes the call on copies and sees that a refusal leaves them alone.
+fn refused(
+    areas: &Areas,
+    call: impl Fn(&[u8], &mut Vec<u8>, &mut Vec<u8>) -> Answer,
+) -> (u32, usize) {
+    let (mut registers, mut targets) = (areas.registers.clone(), areas.targets.clone());
+    let answer = call(&areas.image, &mut registers, &mut targets);
+    assert_ne!(answer.number, 0);
+    assert_eq!(answer.count, 0);
+    assert_eq!((&registers, &targets), (&areas.registers, &areas.targets));
+    (answer.number, answer.place)
+}
+
+fn refused_run(areas: &Areas, cycles: u32) -> (u32, usize) {
+    refused(areas, |image, r, t| reference::run(image, r, t, cycles))
+}
+
+#[test]
+fn ports() {
+    let mut areas = Areas::reset(&lease());
+    let write = |areas: &Areas, register| {
+        refused(areas, |i, r, _| reference::write_port(i, r, register, 1))
+    };
+    assert_eq!(write(&areas, 0), (13, 0)); // inner
+    assert_eq!(write(&areas, 2), (13, 2));
+    assert_eq!(write(&areas, u32::MAX), (13, u32::MAX as usize));
+    assert_eq!(areas.write_port(1, 0x01020304), Answer::accepted(0));
+    assert_eq!(areas.registers, [3, 0, 0, 0, 4, 3, 2, 1]);
+    // 14 comes before 13.
+    areas.registers.truncate(4);
+    assert_eq!(write(&areas, 0), (14, 0));
+    assert_eq!(write(&areas, 1), (14, 0));
+}
+
+#[test]
+fn area_lengths() {
+    for (registers, targets) in [(7, 5), (9, 5), (4, 5), (0, 5), (8, 4), (8, 6), (8, 0)] {
+        let mut areas = Areas::reset(&lease());
+        areas.registers.resize(registers, 0xAA);
+        areas.targets.resize(targets, 0xAA);
+        assert_eq!(refused_run(&areas, 0), (14, 0));
+        assert_eq!(refused_run(&areas, 1_000_001), (14, 0));
+        assert_eq!(
+            refused(&areas, |i, r, t| reference::reset(i, r, t)),
+            (14, 0)
+        );
+    }
+}
+
+#[test]
+fn no_registers() {
+    let mut areas = Areas::reset(&smallest());
+    assert_eq!(areas.run(3), Answer::accepted(3));
+    assert_eq!(areas.walk(), [0, 1]);
+    let mut input = vec![1, 0];
+    input.extend(&areas.image);
+    assert_eq!(
+        reference::listing(&input),
+        b"cycle;walk;registers\n1;0 1;\n"
+    );
+}
+
+#[test]
+fn unsound_targets() {
+    for (state, target, place) in [
+        (0, 0, 0), // the root is nobody's child
+        (0, 3, 0),
+        (0, 5, 0),
+        (0, 255, 0),
+        (1, 2, 1), // a childless state's is its own number
+        (2, 2, 2),
+        (2, 1, 2),
+        (4, 3, 4),
+    ] {
+        let mut areas = Areas::reset(&lease());
+        areas.targets[state] = target;
+        for cycles in [0, 1, 1_000_001] {
+            assert_eq!(refused_run(&areas, cycles), (14, place));
+        }
+        // The lowest state counts.
+        areas.targets[4] = 77;
+        assert_eq!(refused_run(&areas, 1), (14, place));
+    }
+}
+
+#[test]
+fn cycle_counts() {
+    let mut areas = Areas::reset(&lease());
+    assert_eq!(refused_run(&areas, 1_000_001), (15, 0));
+    assert_eq!(refused_run(&areas, u32::MAX), (15, 0));
+    assert_eq!(areas.run(1_000_000), Answer::accepted(1_000_000));
+}
+
+#[test]
+fn image_checks_come_first() {
+    let mut areas = Areas::reset(&lease());
+    areas.image.push(0);
+    areas.registers.clear();
+    assert_eq!(refused_run(&areas, 1_000_001), (1, 0));
+    assert_eq!(refused(&areas, |i, r, t| reference::reset(i, r, t)), (1, 0));
+    assert_eq!(
+        refused(&areas, |i, r, _| reference::write_port(i, r, 9, 9)),
+        (1, 0)
+    );
+}
+
+#[test]
+fn reset_judges_lengths_only() {
+    let mut areas = Areas::reset(&lease());
+    areas.targets.fill(200);
+    areas.registers.fill(200);
+    let answer = reference::reset(&areas.image, &mut areas.registers, &mut areas.targets);
+    assert_eq!(answer, Answer::accepted(0));
+    assert_eq!(areas.registers, [3, 0, 0, 0, 0, 0, 0, 0]);
+    assert_eq!(areas.targets, [1, 1, 3, 3, 4]);
+}

@@ -1,0 +1,80 @@
+//! The cycle lister as a program: random inputs, its output compared with the reference's.
+
+use super::difference::Difference;
+use crate::designs;
+use crate::generate::random::Random;
+use crate::generate::{design, faults, Size};
+use crate::reference;
+use std::io::{self, Write};
+use std::process::{Command, Stdio};
+use std::thread;
+
+pub fn listings_of_seed(program: &str, seed: u64) -> Result<(), Difference> {
+    let mut random = Random::new(seed);
+    let input = any_input(&mut random);
+    let expected = reference::listing(&input);
+    let given = listed(program, &input).unwrap_or_else(|error| error.to_string().into_bytes());
+    if given == expected {
+        return Ok(());
+    }
+    let same = given.iter().zip(&expected).take_while(|(g, e)| g == e);
+    let place = same.count();
+    let what = format!("listing of these bytes differs from byte {place} on");
+    let show = |text: &[u8]| {
+        let end = text.len().min(place + 40);
+        String::from_utf8_lossy(&text[place.min(end)..end]).into_owned()
+    };
+    Err(Difference::new(
+        &input,
+        &what,
+        show(&given),
+        show(&expected),
+    ))
+}
+
+fn any_input(random: &mut Random) -> Vec<u8> {
+    let size = Size::random(random);
+    let table = match random.below(10) {
+        0 => designs::lease(),
+        1 => designs::two_groups(),
+        2 => designs::smallest(),
+        _ => design(random, size),
+    };
+    let count = match random.below(8) {
+        0 => 0,
+        1 => 1,
+        2 if table.commands.len() < 20 => u16::MAX,
+        3 => 300,
+        _ => random.below(40) as u16,
+    };
+    let mut input = count.to_le_bytes().to_vec();
+    input.extend(match random.below(10) {
+        0 => faults::damaged(table.image(), random),
+        1 => faults::spoil_directory(&table, random),
+        2 => {
+            let mut spoiled = table.clone();
+            faults::spoil(&mut spoiled, random.between(2, 12) as u32, random);
+            spoiled.image()
+        }
+        _ => table.image(),
+    });
+    match random.below(20) {
+        0 => input.truncate(random.below(5)),
+        1 => input = faults::resized(input, random),
+        _ => {}
+    }
+    input
+}
+
+fn listed(program: &str, input: &[u8]) -> io::Result<Vec<u8>> {
+    let mut child = Command::new(program)
+        .stdin(Stdio::piped())
+        .stdout(Stdio::piped())
+        .spawn()?;
+    let mut to_child = child.stdin.take().expect("a piped input");
+    thread::scope(|scope| {
+        // A lister need not read more than the largest image and one byte.
+        scope.spawn(move || to_child.write_all(input).ok());
+        Ok(child.wait_with_output()?.stdout)
+    })
+}

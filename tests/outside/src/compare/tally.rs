@@ -1,0 +1,54 @@
+//! How often each answer was met, and at how many different places.
+
+use crate::answer::Answer;
+use std::collections::{BTreeMap, HashSet};
+
+#[derive(Default)]
+pub struct Tally {
+    answers: BTreeMap<u32, Hits>,
+}
+
+#[derive(Default)]
+struct Hits {
+    count: u64,
+    places: HashSet<usize>,
+    shortest: Option<usize>,
+    longest: Option<usize>,
+}
+
+impl Tally {
+    pub fn add(&mut self, answer: Answer, image_length: usize) {
+        let hits = self.answers.entry(answer.number).or_default();
+        hits.count += 1;
+        hits.places.insert(answer.place);
+        let shortest = hits.shortest.get_or_insert(image_length);
+        *shortest = image_length.min(*shortest);
+        let longest = hits.longest.get_or_insert(image_length);
+        *longest = image_length.max(*longest);
+    }
+
+    pub fn total(&self) -> u64 {
+        self.answers.values().map(|hits| hits.count).sum()
+    }
+
+    pub fn print(&self, what: &str) {
+        println!("{what}: {} compared", self.total());
+        println!("number       hits     places   shortest    longest (bytes of image)");
+        for (number, hits) in &self.answers {
+            println!(
+                "{number:>6} {:>10} {:>10} {:>10} {:>10}",
+                hits.count,
+                hits.places.len(),
+                hits.shortest.unwrap_or(0),
+                hits.longest.unwrap_or(0)
+            );
+        }
+    }
+
+    /// The numbers up to the last that were never met.
+    pub fn missing(&self, last: u32) -> Vec<u32> {
+        (0..=last)
+            .filter(|number| !self.answers.contains_key(number))
+            .collect()
+    }
+}

@@ -1,0 +1,100 @@
+//! Random designs that keep every rule by construction.
+
+use super::body::Author;
+use super::lattice::{largest_lattice, lattice};
+use super::random::Random;
+use super::size::Size;
+use crate::table::{Node, State, Table};
+
+pub fn design(random: &mut Random, size: Size) -> Table {
+    let rows = if size.labels == 16 {
+        largest_lattice(random)
+    } else {
+        lattice(random, size.labels)
+    };
+    let mut table = Table::new(&rows);
+    for _ in 0..size.registers {
+        let label = random.below(rows.len()) as u8;
+        let kind = random.below(2) as u8;
+        table.register(label, kind, random.value());
+    }
+    table.states = states(random, &table, size.states);
+    write_bodies(random, &mut table, size);
+    table.renumber(random);
+    table
+}
+
+/// A tree of some shape; labels rise from parent to child.
+fn states(random: &mut Random, table: &Table, count: usize) -> Vec<State> {
+    let shape = random.below(4);
+    let stay = random.below(100);
+    let mut states = vec![State::default()];
+    for number in 1..count {
+        let parent = match shape {
+            0 => number - 1,
+            1 => 0,
+            2 => random.between(number.saturating_sub(4), number - 1),
+            _ => random.below(number),
+        };
+        let below = states[parent].label;
+        let above: Vec<u8> = (0..table.rows.len() as u8)
+            .filter(|&label| table.flows(below, label))
+            .collect();
+        // Many equal labels, so that there are siblings to go to.
+        let label = if random.percent(stay) {
+            below
+        } else {
+            *random.pick(&above)
+        };
+        states.push(State {
+            parent: parent as u8,
+            label,
+            command: 0,
+        });
+    }
+    states
+}
+
+fn write_bodies(random: &mut Random, table: &mut Table, size: Size) {
+    let lengths = shares(random, table.states.len(), size.commands);
+    let mut author = Author::new(table, random);
+    for (state, length) in lengths.into_iter().enumerate() {
+        author.write_state(state, length);
+    }
+    author.fit_slots(size.expressions);
+    let slots = author.finish();
+    let lengths = shares(random, slots.len(), size.expressions);
+    for (slot, length) in slots.into_iter().zip(lengths) {
+        let root = Author::new(table, random).write_expression(&slot.palette, length);
+        table.commands[slot.command].a = root;
+    }
+}
+
+/// Cuts a total into odd shares: every tree of nodes with two parts or none is odd.
+fn shares(random: &mut Random, count: usize, total: usize) -> Vec<usize> {
+    let mut shares = vec![1; count];
+    if count == 0 {
+        return shares;
+    }
+    let pairs = total.saturating_sub(count) / 2;
+    // Often one share takes nearly all, for deep trees.
+    let (favourite, favour) = (random.below(count), *random.pick(&[0, 0, 50, 90]));
+    for _ in 0..pairs {
+        let share = if random.percent(favour) {
+            favourite
+        } else {
+            random.below(count)
+        };
+        shares[share] += 2;
+    }
+    shares
+}
+
+/// A node that is not yet written.
+pub const EMPTY: Node = Node {
+    kind: 0,
+    which: 0,
+    a: 0,
+    b: 0,
+    c: 0,
+};

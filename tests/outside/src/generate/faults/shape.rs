@@ -1,0 +1,102 @@
+//! Faults in shape and in the labels of children (refusals 8 and 9).
+
+use super::flow::Tree;
+use crate::generate::random::Random;
+use crate::table::{Node, Table};
+
+pub fn spoil_shape(table: &mut Table, random: &mut Random) {
+    let tree = Tree::of(table);
+    let states = table.states.len();
+    match random.below(6) {
+        // A leaf that transfers where none may, or does not where it must.
+        0 | 1 => {
+            let leaves = numbers(table, |node| matches!(node.kind, 0 | 1 | 3 | 4));
+            let number = *random.pick(&leaves);
+            let own = tree.state(number) as u8;
+            if table.commands[number].kind == 1 {
+                // Its expression would stay unused.
+                return spoil_goto_name(table, &tree, random);
+            }
+            table.commands[number] = match random.below(3) {
+                0 => Node::default(),
+                1 => leaf(3, 0),
+                _ => leaf(4, own),
+            };
+        }
+        // A fall in a state without a child.
+        2 => {
+            let gotos = numbers(table, |node| node.kind == 4);
+            if !gotos.is_empty() {
+                table.commands[*random.pick(&gotos)] = leaf(3, 0);
+            }
+        }
+        // The parts of a sequence change places.
+        3 => {
+            let sequences = numbers(table, |node| node.kind == 2);
+            if !sequences.is_empty() {
+                let node = &mut table.commands[*random.pick(&sequences)];
+                (node.a, node.b) = (node.b, node.a);
+            }
+        }
+        // The root goes to itself or to a child.
+        4 => {
+            let falls = numbers(table, |node| node.kind == 3);
+            let of_root: Vec<usize> = falls.into_iter().filter(|&n| tree.state(n) == 0).collect();
+            if !of_root.is_empty() {
+                let any = random.below(states) as u8;
+                let to = *random.pick(&[0, 1, any]);
+                table.commands[*random.pick(&of_root)] = leaf(4, to);
+            }
+        }
+        _ => spoil_goto_name(table, &tree, random),
+    }
+}
+
+/// A goto names the root, the parent, a child, or any state.
+fn spoil_goto_name(table: &mut Table, tree: &Tree, random: &mut Random) {
+    let gotos = numbers(table, |node| node.kind == 4);
+    if gotos.is_empty() {
+        return;
+    }
+    let number = *random.pick(&gotos);
+    let own = tree.state(number);
+    let child = table.children(own).first().copied().unwrap_or(0);
+    let parent = table.states[own].parent;
+    let any = random.below(table.states.len()) as u8;
+    table.commands[number].which = *random.pick(&[0, parent, child, any]);
+}
+
+/// A label that is not at or above the parent's, in a parent or in a child.
+pub fn spoil_child(table: &mut Table, random: &mut Random) {
+    let labels = table.rows.len();
+    for _ in 0..20 {
+        let child = random.between(1, table.states.len() - 1);
+        let parent = usize::from(table.states[child].parent);
+        // The root keeps its label.
+        let changed = if parent != 0 && random.percent(30) {
+            parent
+        } else {
+            child
+        };
+        let old = table.states[changed].label;
+        table.states[changed].label = random.below(labels) as u8;
+        if !table.flows(table.states[parent].label, table.states[child].label) {
+            return;
+        }
+        table.states[changed].label = old;
+    }
+}
+
+fn leaf(kind: u8, which: u8) -> Node {
+    Node {
+        kind,
+        which,
+        ..Node::default()
+    }
+}
+
+fn numbers(table: &Table, wanted: impl Fn(&Node) -> bool) -> Vec<usize> {
+    (0..table.commands.len())
+        .filter(|&number| wanted(&table.commands[number]))
+        .collect()
+}

@@ -1,0 +1,16 @@
+//! An implementation of document 01 written from the document alone, a generator of images,
+//! and the means to compare both with the proved library.
+
+pub mod answer;
+#[cfg(feature = "library")]
+pub mod bench;
+pub mod compare;
+pub mod designs;
+pub mod generate;
+#[cfg(feature = "library")]
+pub mod library;
+pub mod reference;
+pub mod table;
+
+#[cfg(test)]
+mod cases;

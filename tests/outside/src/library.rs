@@ -1,0 +1,102 @@
+//! The proved library through its C interface.
+
+use crate::answer::Answer;
+use std::ptr;
+
+extern "C" {
+    fn caisson_check(image: *const u8, image_len: usize) -> Answer;
+}
+
+#[cfg(feature = "machine")]
+extern "C" {
+    fn caisson_reset(
+        image: *const u8,
+        image_len: usize,
+        registers: *mut u8,
+        registers_len: usize,
+        targets: *mut u8,
+        targets_len: usize,
+    ) -> Answer;
+    fn caisson_write_port(
+        image: *const u8,
+        image_len: usize,
+        registers: *mut u8,
+        registers_len: usize,
+        reg: u32,
+        value: u32,
+    ) -> Answer;
+    fn caisson_run(
+        image: *const u8,
+        image_len: usize,
+        registers: *mut u8,
+        registers_len: usize,
+        targets: *mut u8,
+        targets_len: usize,
+        cycles: u32,
+    ) -> Answer;
+}
+
+// The wrappers are sound because a slice is what each pair of pointer and length asks for:
+// readable (areas: writable) for its length, and apart from every other slice.
+
+pub fn check(image: &[u8]) -> Answer {
+    unsafe { caisson_check(image.as_ptr(), image.len()) }
+}
+
+/// The empty image as a C host may lend it: a null pointer with length 0.
+pub fn check_null() -> Answer {
+    unsafe { caisson_check(ptr::null(), 0) }
+}
+
+#[cfg(feature = "machine")]
+pub fn reset(image: &[u8], registers: &mut [u8], targets: &mut [u8]) -> Answer {
+    unsafe {
+        caisson_reset(
+            image.as_ptr(),
+            image.len(),
+            lend(registers),
+            registers.len(),
+            lend(targets),
+            targets.len(),
+        )
+    }
+}
+
+#[cfg(feature = "machine")]
+pub fn write_port(image: &[u8], registers: &mut [u8], register: u32, value: u32) -> Answer {
+    unsafe {
+        caisson_write_port(
+            image.as_ptr(),
+            image.len(),
+            lend(registers),
+            registers.len(),
+            register,
+            value,
+        )
+    }
+}
+
+#[cfg(feature = "machine")]
+pub fn run(image: &[u8], registers: &mut [u8], targets: &mut [u8], cycles: u32) -> Answer {
+    unsafe {
+        caisson_run(
+            image.as_ptr(),
+            image.len(),
+            lend(registers),
+            registers.len(),
+            lend(targets),
+            targets.len(),
+            cycles,
+        )
+    }
+}
+
+/// An empty area is lent as null, the harder case of the two.
+#[cfg(feature = "machine")]
+fn lend(area: &mut [u8]) -> *mut u8 {
+    if area.is_empty() {
+        ptr::null_mut()
+    } else {
+        area.as_mut_ptr()
+    }
+}

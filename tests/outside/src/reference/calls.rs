@@ -1,0 +1,134 @@
+//! Check, reset, port write and run on bytes. A refusal changes no lent byte.
+
+use super::image::Image;
+use super::labels::Labels;
+use super::limits::MOST_CYCLES;
+use super::machine::Machine;
+use super::refusal::Refusal;
+use super::{nodes, records, rules};
+use crate::answer::Answer;
+
+/// The image checks 1 to 12, which every call makes first.
+pub fn judge(bytes: &[u8]) -> Result<Image<'_>, Refusal> {
+    let image = Image::open(bytes)?;
+    let labels = Labels::judge(&image)?;
+    records::judge_registers(&image, &labels)?;
+    records::judge_states(&image, &labels)?;
+    nodes::judge_fields(&image)?;
+    nodes::judge_uses(&image)?;
+    nodes::judge_depth(&image)?;
+    rules::judge(&image, &labels)?;
+    Ok(image)
+}
+
+pub fn check(image: &[u8]) -> Answer {
+    answer(judge(image).map(|_| 0))
+}
+
+pub fn reset(image: &[u8], registers: &mut [u8], targets: &mut [u8]) -> Answer {
+    answer(try_reset(image, registers, targets))
+}
+
+pub fn write_port(image: &[u8], registers: &mut [u8], register: u32, value: u32) -> Answer {
+    answer(try_write_port(image, registers, register, value))
+}
+
+pub fn run(image: &[u8], registers: &mut [u8], targets: &mut [u8], cycles: u32) -> Answer {
+    answer(try_run(image, registers, targets, cycles))
+}
+
+/// The walk of the next cycle from these areas, which stay as they are.
+pub fn walk(image: &[u8], registers: &[u8], targets: &[u8]) -> Result<Vec<u8>, Refusal> {
+    let image = judge(image)?;
+    let machine = Machine::new(&image);
+    judge_areas(&image, registers, Some(targets))?;
+    judge_targets(&machine, targets)?;
+    let mut walk = Vec::new();
+    machine.cycle(&mut values(registers), &mut targets.to_vec(), |state| {
+        walk.push(state)
+    });
+    Ok(walk)
+}
+
+fn answer(result: Result<usize, Refusal>) -> Answer {
+    result.map_or_else(Answer::from, Answer::accepted)
+}
+
+fn try_reset(bytes: &[u8], registers: &mut [u8], targets: &mut [u8]) -> Result<usize, Refusal> {
+    let image = judge(bytes)?;
+    judge_areas(&image, registers, Some(targets))?;
+    for (place, register) in registers.chunks_exact_mut(4).zip(image.registers()) {
+        place.copy_from_slice(&register.reset.to_le_bytes());
+    }
+    targets.copy_from_slice(Machine::new(&image).default_children());
+    Ok(0)
+}
+
+fn try_write_port(
+    bytes: &[u8],
+    registers: &mut [u8],
+    number: u32,
+    value: u32,
+) -> Result<usize, Refusal> {
+    let image = judge(bytes)?;
+    // Port write judges 14 before 13.
+    judge_areas(&image, registers, None)?;
+    let place = number as usize;
+    match image.registers().nth(place) {
+        Some(register) if register.kind == 1 => {
+            registers[4 * place..4 * place + 4].copy_from_slice(&value.to_le_bytes());
+            Ok(0)
+        }
+        _ => Err(Refusal::new(13, place)),
+    }
+}
+
+fn try_run(
+    bytes: &[u8],
+    registers: &mut [u8],
+    targets: &mut [u8],
+    cycles: u32,
+) -> Result<usize, Refusal> {
+    let image = judge(bytes)?;
+    judge_areas(&image, registers, Some(targets))?;
+    let machine = Machine::new(&image);
+    judge_targets(&machine, targets)?;
+    if cycles > MOST_CYCLES {
+        return Err(Refusal::new(15, 0));
+    }
+    let mut now = values(registers);
+    for _ in 0..cycles {
+        machine.cycle(&mut now, targets, |_| {});
+    }
+    for (place, value) in registers.chunks_exact_mut(4).zip(now) {
+        place.copy_from_slice(&value.to_le_bytes());
+    }
+    Ok(cycles as usize)
+}
+
+/// Refusal 14, a wrong length: place 0.
+fn judge_areas(image: &Image, registers: &[u8], targets: Option<&[u8]>) -> Result<(), Refusal> {
+    let fitting = registers.len() == 4 * image.registers().len()
+        && targets.is_none_or(|targets| targets.len() == image.states().len());
+    if fitting {
+        Ok(())
+    } else {
+        Err(Refusal::new(14, 0))
+    }
+}
+
+/// Refusal 14, an unsound target: the lowest such state.
+fn judge_targets(machine: &Machine, targets: &[u8]) -> Result<(), Refusal> {
+    match machine.unsound_target(targets) {
+        Some(state) => Err(Refusal::new(14, state)),
+        None => Ok(()),
+    }
+}
+
+fn values(registers: &[u8]) -> Vec<u32> {
+    let (values, _) = registers.as_chunks::<4>();
+    values
+        .iter()
+        .map(|value| u32::from_le_bytes(*value))
+        .collect()
+}

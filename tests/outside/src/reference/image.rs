@@ -1,0 +1,139 @@
+//! The image as five slices of records, once its directory holds (refusal 1).
+
+use super::limits::*;
+use super::refusal::Refusal;
+
+pub const CONSTANT: u8 = 0;
+pub const READ: u8 = 1;
+pub const LAST_OPERATION: u8 = 8;
+
+pub const SKIP: u8 = 0;
+pub const ASSIGN: u8 = 1;
+pub const SEQUENCE: u8 = 2;
+pub const FALL: u8 = 3;
+pub const GOTO: u8 = 4;
+pub const IF: u8 = 5;
+
+#[derive(Clone, Copy)]
+pub struct Image<'a> {
+    rows: &'a [[u8; ROW_BYTES]],
+    registers: &'a [[u8; REGISTER_BYTES]],
+    states: &'a [[u8; STATE_BYTES]],
+    commands: &'a [[u8; NODE_BYTES]],
+    expressions: &'a [[u8; NODE_BYTES]],
+}
+
+pub struct Register {
+    pub label: u8,
+    pub kind: u8,
+    pub reset: u32,
+}
+
+pub struct State {
+    pub parent: u8,
+    pub label: u8,
+    pub command: u16,
+}
+
+#[derive(Clone, Copy)]
+pub struct Node {
+    pub kind: u8,
+    /// Byte 1: a register or a state.
+    pub which: u8,
+    pub a: u16,
+    pub b: u16,
+    pub c: u16,
+}
+
+impl Node {
+    fn read(bytes: &[u8; NODE_BYTES]) -> Node {
+        let [kind, which, a0, a1, b0, b1, c0, c1] = *bytes;
+        Node {
+            kind,
+            which,
+            a: u16::from_le_bytes([a0, a1]),
+            b: u16::from_le_bytes([b0, b1]),
+            c: u16::from_le_bytes([c0, c1]),
+        }
+    }
+
+    /// The 32 bits in bytes 4 to 7.
+    pub fn constant(&self) -> u32 {
+        u32::from(self.b) | u32::from(self.c) << 16
+    }
+}
+
+impl<'a> Image<'a> {
+    /// Refusal 1: directory, count or section length.
+    pub fn open(bytes: &'a [u8]) -> Result<Image<'a>, Refusal> {
+        let [rows, registers, states, commands, expressions] =
+            sections(bytes).ok_or(Refusal::new(1, 0))?;
+        Ok(Image {
+            rows: records(rows, 1, MOST_LABELS)?,
+            registers: records(registers, 0, MOST_REGISTERS)?,
+            states: records(states, 1, MOST_STATES)?,
+            commands: records(commands, 0, MOST_COMMANDS)?,
+            expressions: records(expressions, 0, MOST_EXPRESSIONS)?,
+        })
+    }
+
+    pub fn rows(&self) -> impl ExactSizeIterator<Item = u16> + 'a {
+        self.rows.iter().map(|row| u16::from_le_bytes(*row))
+    }
+
+    pub fn registers(&self) -> impl ExactSizeIterator<Item = Register> + 'a {
+        self.registers
+            .iter()
+            .map(|&[label, kind, r0, r1, r2, r3]| Register {
+                label,
+                kind,
+                reset: u32::from_le_bytes([r0, r1, r2, r3]),
+            })
+    }
+
+    pub fn states(&self) -> impl ExactSizeIterator<Item = State> + 'a {
+        self.states.iter().map(|&[parent, label, c0, c1]| State {
+            parent,
+            label,
+            command: u16::from_le_bytes([c0, c1]),
+        })
+    }
+
+    pub fn commands(&self) -> impl DoubleEndedIterator<Item = Node> + ExactSizeIterator + 'a {
+        self.commands.iter().map(Node::read)
+    }
+
+    pub fn expressions(&self) -> impl ExactSizeIterator<Item = Node> + 'a {
+        self.expressions.iter().map(Node::read)
+    }
+}
+
+/// The five sections, if they stand one after the other from byte 20 to the image's end.
+fn sections(bytes: &[u8]) -> Option<[&[u8]; 5]> {
+    let (directory, mut rest) = bytes.split_at_checked(DIRECTORY_BYTES)?;
+    let mut sections = [rest; 5];
+    let mut expected = DIRECTORY_BYTES;
+    for (section, pair) in sections.iter_mut().zip(directory.chunks_exact(4)) {
+        let offset = usize::from(u16::from_le_bytes([pair[0], pair[1]]));
+        let length = usize::from(u16::from_le_bytes([pair[2], pair[3]]));
+        if offset != expected {
+            return None;
+        }
+        (*section, rest) = rest.split_at_checked(length)?;
+        expected += length;
+    }
+    rest.is_empty().then_some(sections)
+}
+
+fn records<const N: usize>(
+    section: &[u8],
+    fewest: usize,
+    most: usize,
+) -> Result<&[[u8; N]], Refusal> {
+    let (records, rest) = section.as_chunks::<N>();
+    if rest.is_empty() && (fewest..=most).contains(&records.len()) {
+        Ok(records)
+    } else {
+        Err(Refusal::new(1, 0))
+    }
+}

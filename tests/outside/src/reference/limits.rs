@@ -1,0 +1,27 @@
+//! The numbers of document 01.
+
+pub const DIRECTORY_BYTES: usize = 20;
+
+pub const ROW_BYTES: usize = 2;
+pub const REGISTER_BYTES: usize = 6;
+pub const STATE_BYTES: usize = 4;
+pub const NODE_BYTES: usize = 8;
+
+pub const MOST_LABELS: usize = 16;
+pub const MOST_REGISTERS: usize = 64;
+pub const MOST_STATES: usize = 64;
+pub const MOST_COMMANDS: usize = 1_024;
+pub const MOST_EXPRESSIONS: usize = 2_048;
+
+pub const DEEPEST: u8 = 64;
+pub const MOST_CYCLES: u32 = 1_000_000;
+
+/// An expression's place in an answer is this plus its number.
+pub const EXPRESSION_PLACE: usize = 1_024;
+
+/// The largest image that can be accepted.
+pub const LARGEST_IMAGE: usize = DIRECTORY_BYTES
+    + MOST_LABELS * ROW_BYTES
+    + MOST_REGISTERS * REGISTER_BYTES
+    + MOST_STATES * STATE_BYTES
+    + (MOST_COMMANDS + MOST_EXPRESSIONS) * NODE_BYTES;

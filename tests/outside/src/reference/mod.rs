@@ -1,0 +1,16 @@
+//! Document 01, implemented for clarity: tables and passes over node numbers, no recursion in
+//! the checker, so that it shares as little as possible with the proved library.
+
+pub mod calls;
+pub mod image;
+pub mod labels;
+pub mod limits;
+mod listing;
+pub mod machine;
+mod nodes;
+mod records;
+pub mod refusal;
+mod rules;
+
+pub use calls::{check, reset, run, walk, write_port};
+pub use listing::listing;

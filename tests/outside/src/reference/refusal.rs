@@ -1,0 +1,21 @@
+//! A refusal: its number and its place.
+
+use crate::answer::Answer;
+
+#[derive(Clone, Copy, Debug, PartialEq, Eq)]
+pub struct Refusal {
+    pub number: u32,
+    pub place: usize,
+}
+
+impl Refusal {
+    pub const fn new(number: u32, place: usize) -> Refusal {
+        Refusal { number, place }
+    }
+}
+
+impl From<Refusal> for Answer {
+    fn from(refusal: Refusal) -> Answer {
+        Answer::refused(refusal.number, refusal.place)
+    }
+}

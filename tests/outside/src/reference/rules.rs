@@ -1,0 +1,171 @@
+//! Shape and flow (refusals 8 to 12), on an image whose nodes form one tree for each state.
+
+use super::image::*;
+use super::labels::{only, LabelSet, Labels};
+use super::limits::*;
+use super::refusal::Refusal;
+
+/// For each command the state that holds it and the labels of its context.
+struct Surroundings {
+    state: [u8; MOST_COMMANDS],
+    context: [LabelSet; MOST_COMMANDS],
+}
+
+/// The states' fields as tables, for reading by number.
+struct States {
+    count: usize,
+    parent: [u8; MOST_STATES],
+    label: [u8; MOST_STATES],
+    has_child: [bool; MOST_STATES],
+}
+
+pub fn judge(image: &Image, labels: &Labels) -> Result<(), Refusal> {
+    let states = States::of(image);
+    let around = Surroundings::of(image);
+    judge_shape(image, &states, &around)?;
+    judge_children(&states, labels)?;
+    judge_flow(image, &states, &around, labels)
+}
+
+impl States {
+    fn of(image: &Image) -> States {
+        let mut states = States {
+            count: image.states().len(),
+            parent: [0; MOST_STATES],
+            label: [0; MOST_STATES],
+            has_child: [false; MOST_STATES],
+        };
+        for (number, state) in image.states().enumerate() {
+            states.parent[number] = state.parent;
+            states.label[number] = state.label;
+            if number != 0 {
+                states.has_child[usize::from(state.parent)] = true;
+            }
+        }
+        states
+    }
+
+    /// A goto names a sibling or the state itself; the root holds no goto and is no sibling.
+    fn may_go(&self, from: u8, to: u8) -> bool {
+        let parent = |state: u8| self.parent[usize::from(state)];
+        from != 0 && to != 0 && parent(from) == parent(to)
+    }
+}
+
+impl Surroundings {
+    /// Owners stand above their parts, so one pass downwards meets every owner first.
+    fn of(image: &Image) -> Surroundings {
+        let mut register_labels = [0; MOST_REGISTERS];
+        for (label, register) in register_labels.iter_mut().zip(image.registers()) {
+            *label = only(register.label);
+        }
+        let reads = reads(image, &register_labels);
+        let mut around = Surroundings {
+            state: [0; MOST_COMMANDS],
+            context: [0; MOST_COMMANDS],
+        };
+        for (number, state) in image.states().enumerate() {
+            around.set(state.command, number as u8, only(state.label));
+        }
+        for (number, node) in image.commands().enumerate().rev() {
+            let (state, context) = (around.state[number], around.context[number]);
+            match node.kind {
+                // An assignment's flow is judged with what it reads, so keep that with it.
+                ASSIGN => around.context[number] |= reads[usize::from(node.a)],
+                SEQUENCE => {
+                    around.set(node.a, state, context);
+                    around.set(node.b, state, context);
+                }
+                IF => {
+                    let inner = context | reads[usize::from(node.a)];
+                    around.set(node.b, state, inner);
+                    around.set(node.c, state, inner);
+                }
+                _ => {}
+            }
+        }
+        around
+    }
+
+    fn set(&mut self, command: u16, state: u8, context: LabelSet) {
+        self.state[usize::from(command)] = state;
+        self.context[usize::from(command)] = context;
+    }
+}
+
+/// For each expression the labels of all registers read in it.
+fn reads(
+    image: &Image,
+    register_labels: &[LabelSet; MOST_REGISTERS],
+) -> [LabelSet; MOST_EXPRESSIONS] {
+    let mut reads = [0; MOST_EXPRESSIONS];
+    for (number, node) in image.expressions().enumerate() {
+        reads[number] = match node.kind {
+            CONSTANT => 0,
+            READ => register_labels[usize::from(node.which)],
+            _ => reads[usize::from(node.a)] | reads[usize::from(node.b)],
+        };
+    }
+    reads
+}
+
+/// Refusal 8: the lowest node at which any shape rule fails.
+fn judge_shape(image: &Image, states: &States, around: &Surroundings) -> Result<(), Refusal> {
+    let mut heads_state = [false; MOST_COMMANDS];
+    for state in image.states() {
+        heads_state[usize::from(state.command)] = true;
+    }
+    let mut transfers = [false; MOST_COMMANDS];
+    for (number, node) in image.commands().enumerate() {
+        let state = around.state[number];
+        let part = |part: u16| transfers[usize::from(part)];
+        let (transfer, holds) = match node.kind {
+            SEQUENCE => (part(node.b), !part(node.a)),
+            IF => (part(node.b) && part(node.c), part(node.b) == part(node.c)),
+            FALL => (true, states.has_child[usize::from(state)]),
+            GOTO => (true, states.may_go(state, node.which)),
+            _ => (false, true),
+        };
+        transfers[number] = transfer;
+        if !holds || (heads_state[number] && !transfer) {
+            return Err(Refusal::new(8, number));
+        }
+    }
+    Ok(())
+}
+
+/// Refusal 9: every child's label is at or above its parent's.
+fn judge_children(states: &States, labels: &Labels) -> Result<(), Refusal> {
+    for child in 1..states.count {
+        let parent = usize::from(states.parent[child]);
+        if !labels.flow(only(states.label[parent]), states.label[child]) {
+            return Err(Refusal::new(9, child));
+        }
+    }
+    Ok(())
+}
+
+/// Refusals 10 to 12: one pass, the lowest node counts.
+fn judge_flow(
+    image: &Image,
+    states: &States,
+    around: &Surroundings,
+    labels: &Labels,
+) -> Result<(), Refusal> {
+    let mut register_labels = [0; MOST_REGISTERS];
+    for (label, register) in register_labels.iter_mut().zip(image.registers()) {
+        *label = register.label;
+    }
+    for (number, node) in image.commands().enumerate() {
+        let (refusal, destination) = match node.kind {
+            ASSIGN => (10, register_labels[usize::from(node.which)]),
+            GOTO => (11, states.label[usize::from(node.which)]),
+            FALL => (12, states.label[usize::from(around.state[number])]),
+            _ => continue,
+        };
+        if !labels.flow(around.context[number], destination) {
+            return Err(Refusal::new(refusal, number));
+        }
+    }
+    Ok(())
+}

@@ -1,0 +1,133 @@
+//! A design as editable records. It may keep the rules or break any of them: it only knows
+//! how to be written as an image.
+
+mod build;
+mod renumber;
+
+#[derive(Clone, Debug, Default, PartialEq, Eq)]
+pub struct Table {
+    pub rows: Vec<u16>,
+    pub registers: Vec<Register>,
+    pub states: Vec<State>,
+    pub commands: Vec<Node>,
+    pub expressions: Vec<Node>,
+}
+
+#[derive(Clone, Copy, Debug, Default, PartialEq, Eq)]
+pub struct Register {
+    pub label: u8,
+    pub kind: u8,
+    pub reset: u32,
+}
+
+#[derive(Clone, Copy, Debug, Default, PartialEq, Eq)]
+pub struct State {
+    pub parent: u8,
+    pub label: u8,
+    pub command: u16,
+}
+
+#[derive(Clone, Copy, Debug, Default, PartialEq, Eq)]
+pub struct Node {
+    pub kind: u8,
+    pub which: u8,
+    pub a: u16,
+    pub b: u16,
+    pub c: u16,
+}
+
+/// The two families of nodes.
+#[derive(Clone, Copy, Debug, PartialEq, Eq)]
+pub enum Family {
+    Command,
+    Expression,
+}
+
+impl Node {
+    pub fn bytes(&self) -> [u8; 8] {
+        let [a0, a1] = self.a.to_le_bytes();
+        let [b0, b1] = self.b.to_le_bytes();
+        let [c0, c1] = self.c.to_le_bytes();
+        [self.kind, self.which, a0, a1, b0, b1, c0, c1]
+    }
+
+    pub fn from_bytes(bytes: [u8; 8]) -> Node {
+        let [kind, which, a0, a1, b0, b1, c0, c1] = bytes;
+        Node {
+            kind,
+            which,
+            a: u16::from_le_bytes([a0, a1]),
+            b: u16::from_le_bytes([b0, b1]),
+            c: u16::from_le_bytes([c0, c1]),
+        }
+    }
+
+    /// The fields that name parts of the node's own family.
+    pub fn own_parts(&mut self, family: Family) -> Vec<&mut u16> {
+        match (family, self.kind) {
+            (Family::Command, 2) | (Family::Expression, 2..=8) => vec![&mut self.a, &mut self.b],
+            (Family::Command, 5) => vec![&mut self.b, &mut self.c],
+            _ => Vec::new(),
+        }
+    }
+
+    /// The field that names an expression of a command.
+    pub fn expression(&mut self) -> Option<&mut u16> {
+        matches!(self.kind, 1 | 5).then_some(&mut self.a)
+    }
+}
+
+impl Table {
+    pub fn image(&self) -> Vec<u8> {
+        let lengths = [
+            2 * self.rows.len(),
+            6 * self.registers.len(),
+            4 * self.states.len(),
+            8 * self.commands.len(),
+            8 * self.expressions.len(),
+        ];
+        let mut image = Vec::with_capacity(20 + lengths.iter().sum::<usize>());
+        let mut offset = 20;
+        for length in lengths {
+            image.extend((offset as u16).to_le_bytes());
+            image.extend((length as u16).to_le_bytes());
+            offset += length;
+        }
+        for row in &self.rows {
+            image.extend(row.to_le_bytes());
+        }
+        for register in &self.registers {
+            image.extend([register.label, register.kind]);
+            image.extend(register.reset.to_le_bytes());
+        }
+        for state in &self.states {
+            image.extend([state.parent, state.label]);
+            image.extend(state.command.to_le_bytes());
+        }
+        for node in self.commands.iter().chain(&self.expressions) {
+            image.extend(node.bytes());
+        }
+        image
+    }
+
+    pub fn nodes(&mut self, family: Family) -> &mut Vec<Node> {
+        match family {
+            Family::Command => &mut self.commands,
+            Family::Expression => &mut self.expressions,
+        }
+    }
+
+    /// Label `from` flows to label `to`; a label that is none flows nowhere.
+    pub fn flows(&self, from: u8, to: u8) -> bool {
+        let row = self.rows.get(usize::from(from)).copied().unwrap_or(0);
+        to < 16 && row >> to & 1 == 1
+    }
+
+    /// The states with this parent; the root is nobody's child.
+    pub fn children(&self, parent: usize) -> Vec<u8> {
+        (1..self.states.len())
+            .filter(|&child| usize::from(self.states[child].parent) == parent)
+            .map(|child| child as u8)
+            .collect()
+    }
+}
