@@ -1,2 +1,3 @@
 -- Laws of the passes one after the other.
 pub mod StageRules
+pub mod Accepted

@@ -1,48 +1,37 @@
-//! Times of two functions, taken in turns so that both meet the same disturbances.
+//! Times of several calls, taken in turns so that all meet the same disturbances.
 
 use std::time::Instant;
 
 const ROUND_SECONDS: f64 = 0.004;
 
-/// The medians, in seconds for each call.
-pub struct Medians {
-    pub library: f64,
-    pub reference: f64,
-}
+pub type Call<'a> = Box<dyn FnMut() + 'a>;
 
-pub fn side_by_side(
-    rounds: usize,
-    mut library: impl FnMut(),
-    mut reference: impl FnMut(),
-) -> Medians {
-    let library_calls = calls_for_a_round(&mut library);
-    let reference_calls = calls_for_a_round(&mut reference);
-    let mut library_times = Vec::new();
-    let mut reference_times = Vec::new();
+/// The median time of each call, in seconds.
+pub fn in_turns(rounds: usize, calls: &mut [Call]) -> Vec<f64> {
+    let repetitions: Vec<u32> = calls.iter_mut().map(repetitions_for_a_round).collect();
+    let mut times = vec![Vec::new(); calls.len()];
     for _ in 0..rounds {
-        library_times.push(time(&mut library, library_calls));
-        reference_times.push(time(&mut reference, reference_calls));
+        for (i, call) in calls.iter_mut().enumerate() {
+            times[i].push(time(call, repetitions[i]));
+        }
     }
-    Medians {
-        library: median(library_times),
-        reference: median(reference_times),
-    }
+    times.into_iter().map(median).collect()
 }
 
-fn calls_for_a_round(call: &mut impl FnMut()) -> u32 {
-    let mut calls = 1;
-    while time(call, calls) * f64::from(calls) < ROUND_SECONDS / 2.0 && calls < 1 << 24 {
-        calls *= 2;
+fn repetitions_for_a_round(call: &mut Call) -> u32 {
+    let mut repetitions = 1;
+    while time(call, repetitions) * f64::from(repetitions) < ROUND_SECONDS / 2.0 {
+        repetitions *= 2;
     }
-    calls
+    repetitions
 }
 
-fn time(call: &mut impl FnMut(), calls: u32) -> f64 {
+fn time(call: &mut Call, repetitions: u32) -> f64 {
     let start = Instant::now();
-    for _ in 0..calls {
+    for _ in 0..repetitions {
         call();
     }
-    start.elapsed().as_secs_f64() / f64::from(calls)
+    start.elapsed().as_secs_f64() / f64::from(repetitions)
 }
 
 fn median(mut times: Vec<f64>) -> f64 {

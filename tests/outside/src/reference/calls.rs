@@ -15,8 +15,9 @@ pub fn judge(bytes: &[u8]) -> Result<Image<'_>, Refusal> {
     records::judge_registers(&image, &labels)?;
     records::judge_states(&image, &labels)?;
     nodes::judge_fields(&image)?;
-    nodes::judge_uses(&image)?;
-    nodes::judge_depth(&image)?;
+    let survey = nodes::Survey::of(&image);
+    survey.judge_uses()?;
+    survey.judge_depth()?;
     rules::judge(&image, &labels)?;
     Ok(image)
 }

@@ -44,64 +44,81 @@ fn expression_holds(image: &Image, number: usize, node: Node) -> bool {
     }
 }
 
-/// Refusal 6: node not used exactly once.
-pub fn judge_uses(image: &Image) -> Result<(), Refusal> {
-    let mut commands = [0u8; MOST_COMMANDS];
-    let mut expressions = [0u8; MOST_EXPRESSIONS];
-    let mark = |uses: &mut [u8], part: u16| {
-        let uses = &mut uses[usize::from(part)];
-        *uses = uses.saturating_add(1);
-    };
-    for state in image.states() {
-        mark(&mut commands, state.command);
-    }
-    for node in image.commands() {
-        match node.kind {
-            ASSIGN => mark(&mut expressions, node.a),
-            SEQUENCE => {
-                mark(&mut commands, node.a);
-                mark(&mut commands, node.b);
-            }
-            IF => {
-                mark(&mut expressions, node.a);
-                mark(&mut commands, node.b);
-                mark(&mut commands, node.c);
-            }
-            _ => {}
-        }
-    }
-    for node in image.expressions() {
-        if node.kind > READ {
-            mark(&mut expressions, node.a);
-            mark(&mut expressions, node.b);
-        }
-    }
-    let commands = &commands[..image.commands().len()];
-    let expressions = &expressions[..image.expressions().len()];
-    lowest(6, commands, expressions, |&uses| uses != 1)
+/// How often each node is used, and its depth.
+pub struct Survey {
+    commands: Family<MOST_COMMANDS>,
+    expressions: Family<MOST_EXPRESSIONS>,
 }
 
-/// Refusal 7: depth above 64.
-pub fn judge_depth(image: &Image) -> Result<(), Refusal> {
-    let mut commands = [0u8; MOST_COMMANDS];
-    for (number, node) in image.commands().enumerate() {
-        commands[number] = match node.kind {
-            SEQUENCE => above(&commands, node.a, node.b),
-            IF => above(&commands, node.b, node.c),
-            _ => 1,
-        };
+struct Family<const MOST: usize> {
+    count: usize,
+    uses: [u8; MOST],
+    depths: [u8; MOST],
+}
+
+impl<const MOST: usize> Family<MOST> {
+    fn new(count: usize) -> Family<MOST> {
+        Family {
+            count,
+            uses: [0; MOST],
+            depths: [1; MOST],
+        }
     }
-    let mut expressions = [0u8; MOST_EXPRESSIONS];
-    for (number, node) in image.expressions().enumerate() {
-        expressions[number] = if node.kind > READ {
-            above(&expressions, node.a, node.b)
-        } else {
-            1
-        };
+
+    fn mark(&mut self, part: u16) {
+        let uses = &mut self.uses[usize::from(part)];
+        *uses = uses.saturating_add(1);
     }
-    let commands = &commands[..image.commands().len()];
-    let expressions = &expressions[..image.expressions().len()];
-    lowest(7, commands, expressions, |&depth| depth > DEEPEST)
+
+    fn own(&mut self, owner: usize, one: u16, other: u16) {
+        self.mark(one);
+        self.mark(other);
+        self.depths[owner] = above(&self.depths, one, other);
+    }
+}
+
+impl Survey {
+    /// One pass upwards: parts stand below their owners, so their depths are known.
+    pub fn of(image: &Image) -> Survey {
+        let mut survey = Survey {
+            commands: Family::new(image.commands().len()),
+            expressions: Family::new(image.expressions().len()),
+        };
+        for state in image.states() {
+            survey.commands.mark(state.command);
+        }
+        for (number, node) in image.commands().enumerate() {
+            match node.kind {
+                ASSIGN => survey.expressions.mark(node.a),
+                SEQUENCE => survey.commands.own(number, node.a, node.b),
+                IF => {
+                    survey.expressions.mark(node.a);
+                    survey.commands.own(number, node.b, node.c);
+                }
+                _ => {}
+            }
+        }
+        for (number, node) in image.expressions().enumerate() {
+            if node.kind > READ {
+                survey.expressions.own(number, node.a, node.b);
+            }
+        }
+        survey
+    }
+
+    /// Refusal 6: node not used exactly once.
+    pub fn judge_uses(&self) -> Result<(), Refusal> {
+        let commands = &self.commands.uses[..self.commands.count];
+        let expressions = &self.expressions.uses[..self.expressions.count];
+        lowest(6, commands, expressions, |&uses| uses != 1)
+    }
+
+    /// Refusal 7: depth above 64.
+    pub fn judge_depth(&self) -> Result<(), Refusal> {
+        let commands = &self.commands.depths[..self.commands.count];
+        let expressions = &self.expressions.depths[..self.expressions.count];
+        lowest(7, commands, expressions, |&depth| depth > DEEPEST)
+    }
 }
 
 /// One more than the deeper of two parts; any depth that is too large is as good as another.
