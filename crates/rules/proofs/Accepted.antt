@@ -75,5 +75,5 @@ accepted-known {image} keeps describes =
       registers = record { kept = λ r l. register-iff d r .1 (rules .registers r l) };
       states = record { kept = λ s l. state-iff d s .1 (rules .states s l) };
       commands = record { kept = λ n l. command-iff d n .1 (rules .commands n l) };
-      expressions = record { kept = λ n l. expression-iff d n .1 (rules .expressions n l) }
+      expressions = record { kept = λ n l. expression-iff d n .1 (rules .expressions n l) };
     }
