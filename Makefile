@@ -4,7 +4,7 @@
 test:
 	.ci/run
 
-# The tests outside Rattle alone, over the crates as last proved.
+# The tests outside Rattle alone; only what has changed is proved again.
 quick:
 	tests/run
 

@@ -97,7 +97,8 @@ typedef struct {
 
 /*
  * Accepts an image exactly when it keeps the rules 1 to 12, or refuses it. Whatever the bytes and
- * the length, the answer is defined. The time is linear in the image.
+ * the length, the answer is defined. Each pass looks at each record a fixed number of times, within
+ * the limits above.
  */
 CAISSON_LOOK_AT_ANSWER
 caisson_answer caisson_check(const uint8_t *image, /* the image's bytes */

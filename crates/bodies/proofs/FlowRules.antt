@@ -1,4 +1,4 @@
--- What the flow pass finds at a command, from what it finds at the parts: the laws that the recursion over parts cites, one for each kind.
+-- What the flow pass finds at an expression and at an assignment: the nearer of two refusals, the labels that are read, and the labels of states.
 use Prim.Native.Nat.{ℕ, zero, suc, _+_, _*_, _/_, _%_, _^_, _≤_, _<_}
 use mathlib.Core.Path.{_≡_, refl, sym, _∙_, ap}
 use mathlib.Core.Logic.{_⊎_, inl, inr, ⊎-elim}

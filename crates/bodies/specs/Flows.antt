@@ -23,7 +23,7 @@ pub record RegistersKept (d : Table) : Type 0 where
 pub record ExpressionsKept (d : Table) : Type 0 where
   pub kept : (n : ℕ) → n < length (d .expressions) → expressionKept d n ≡ true
 
--- what the passes before refusal 10 have established
+-- what the passes up to refusal 5 have established, and the flow pass needs
 pub record FlowKnown (image : List ℕ) (x : Design) : Type 0 where
   pub describes : Describes image x
   pub registers : RegistersKept (designOf image)

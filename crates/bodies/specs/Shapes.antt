@@ -45,7 +45,7 @@ pub record Judging (image : List ℕ) (x : Design) (s n : ℕ) (falls : Bool) : 
 pub record StatesKept (d : Table) : Type 0 where
   pub kept : (s : ℕ) → s < length (d .states) → stateKept d s ≡ true
 
--- what the passes before refusal 8 have established
+-- what the passes up to refusal 5 have established, and the shape pass needs
 pub record ShapeKnown (image : List ℕ) (x : Design) : Type 0 where
   pub describes : Describes image x
   pub states : StatesKept (designOf image)

@@ -1,4 +1,4 @@
--- The theorems about the meaning alone. `Promises` restates those that a reader looks for; the proved cases of document 01 stand last.
+-- The theorems about the meaning alone. `Promises` restates those that a reader looks for; the proved cases of document 01, and those that hold its sentences in place, stand last.
 pub mod Laws
 pub mod Exact
 pub mod Independence

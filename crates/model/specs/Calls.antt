@@ -1,5 +1,5 @@
 -- 01, 'A cycle' and 'When the box says no': the four calls. For each, one function from everything lent and given to the answer and every byte of the
--- areas afterwards, refusals included. The contracts of the exported functions are equations with these.
+-- areas afterwards, refusals included. The contracts of the calls are equations with these.
 use Prim.Native.Nat.{ℕ, _*_}
 use mathlib.Core.Bool.{Bool, _&&_, cond}
 use mathlib.Core.List.{List}

@@ -1,4 +1,5 @@
--- All that a reader has to believe, in the order of document 01. Every definition here computes.
+-- All that a reader has to believe, in the order of document 01. Every definition here computes, but for
+-- the propositions of `Rules` and the statement of demand 3 in `Parties`.
 -- 'The image'
 pub mod Limits
 pub mod Indices

@@ -1,2 +1,2 @@
--- What the contracts of this crate cite: the tests of two or three labels, by name.
+-- What the contracts of this crate cite: the tests of two, three and four labels, by name.
 pub mod LabelTests

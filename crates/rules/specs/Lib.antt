@@ -1,2 +1,2 @@
--- The verdict from each pass on, and what is known when a pass begins.
+-- The verdict from each pass on.
 pub mod Stages

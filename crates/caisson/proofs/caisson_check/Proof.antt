@@ -7,15 +7,12 @@ use Rattle.caisson.proofs.caisson_check.Lts as lts
 use Rattle.caisson.proofs.in_numbers.Reads as in-numbers-reads
 use Rattle.calls.proofs.check.Reads as check-reads
 
--- src/lib.rt:64:9
 check-requires : tie.Need-check-requires
 check-requires c κs = search needs
 
--- src/lib.rt:65:5
 in-numbers-requires : tie.Need-in-numbers-requires
 in-numbers-requires c κs = search needs
 
--- src/lib.rt:60:1
 returns : tie.Need-returns
 returns c = search (same-answer, needs)
 

@@ -6,23 +6,18 @@ use Rattle.caisson.proofs.in_numbers.Reads as reads
 use Rattle.caisson.proofs.in_numbers.Lts as lts
 use Rattle.caisson.proofs.number.Reads as number-reads
 
--- src/lib.rt:46:26
 enum-known-answer : tie.Need-enum-known-answer
 enum-known-answer c = search needs
 
--- src/lib.rt:51:25
 enum-known-answer-2 : tie.Need-enum-known-answer-2
 enum-known-answer-2 c = search needs
 
--- src/lib.rt:52:21
 number-requires : tie.Need-number-requires
 number-requires c κs = search needs
 
--- src/lib.rt:42:1
 returns : tie.Need-returns
 returns c = search (accepted-numbers, refused-numbers, needs)
 
--- src/lib.rt:42:1
 returns-2 : tie.Need-returns-2
 returns-2 c = search (accepted-numbers, refused-numbers, needs)
 

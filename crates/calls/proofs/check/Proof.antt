@@ -6,11 +6,9 @@ use Rattle.calls.proofs.check.Reads as reads
 use Rattle.calls.proofs.check.Lts as lts
 use Rattle.rules.proofs.verdict.Reads as verdict-reads
 
--- src/lib.rt:11:5
 verdict-requires : tie.Need-verdict-requires
 verdict-requires c κs = search needs
 
--- src/lib.rt:8:1
 returns : tie.Need-returns
 unfolding check
 returns c = search needs

@@ -7,47 +7,36 @@ use Rattle.design.proofs.offsets_kept.Lts as lts
 use Rattle.design.proofs.end.Reads as end-reads
 use Rattle.design.proofs.offset.Reads as offset-reads
 
--- src/lib.rt:83:12
 offset-requires : tie.Need-offset-requires
 offset-requires c κs = search needs
 
--- src/lib.rt:84:12
 offset-requires-2 : tie.Need-offset-requires-2
 offset-requires-2 c κs = search needs
 
--- src/lib.rt:84:32
 end-requires : tie.Need-end-requires
 end-requires c κs = search needs
 
--- src/lib.rt:85:12
 offset-requires-3 : tie.Need-offset-requires-3
 offset-requires-3 c κs = search needs
 
--- src/lib.rt:85:32
 end-requires-2 : tie.Need-end-requires-2
 end-requires-2 c κs = search needs
 
--- src/lib.rt:86:12
 offset-requires-4 : tie.Need-offset-requires-4
 offset-requires-4 c κs = search needs
 
--- src/lib.rt:86:32
 end-requires-3 : tie.Need-end-requires-3
 end-requires-3 c κs = search needs
 
--- src/lib.rt:87:12
 offset-requires-5 : tie.Need-offset-requires-5
 offset-requires-5 c κs = search needs
 
--- src/lib.rt:87:32
 end-requires-4 : tie.Need-end-requires-4
 end-requires-4 c κs = search needs
 
--- src/lib.rt:88:27
 end-requires-5 : tie.Need-end-requires-5
 end-requires-5 c κs = search needs
 
--- src/lib.rt:78:1
 returns : tie.Need-returns
 returns c = search (offsets-rule, needs)
 

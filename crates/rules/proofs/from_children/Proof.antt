@@ -8,28 +8,22 @@ use Rattle.rules.proofs.from_children.Lts as lts
 use Rattle.bodies.proofs.flow.faults.Reads as faults-reads
 use Rattle.records.proofs.states.child_labels.Reads as child-labels-reads
 
--- src/lib.rt:68:9
 child-labels-requires : tie.Need-child-labels-requires
 child-labels-requires c κs = search needs
 
--- src/lib.rt:70:19
 enum-known-found : tie.Need-enum-known-found
 enum-known-found c = search needs
 
--- src/lib.rt:71:27
 enum-told : tie.Need-enum-told
 enum-told c = search needs
 
--- src/lib.rt:71:27
 faults-requires : tie.Need-faults-requires
 faults-requires c κs = search needs
 
--- src/lib.rt:64:1
 returns : tie.Need-returns
 unfolding fromChildren
 returns c = search (stage-refuses, stage-passes, needs)
 
--- src/lib.rt:64:1
 returns-2 : tie.Need-returns-2
 unfolding fromChildren
 returns-2 c = search (stage-refuses, stage-passes, needs)

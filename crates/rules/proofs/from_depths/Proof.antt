@@ -8,28 +8,22 @@ use Rattle.rules.proofs.from_depths.Lts as lts
 use Rattle.rules.proofs.from_shape.Reads as from-shape-reads
 use Rattle.rules.proofs.node_depths.Reads as node-depths-reads
 
--- src/lib.rt:92:9
 node-depths-requires : tie.Need-node-depths-requires
 node-depths-requires c κs = search needs
 
--- src/lib.rt:94:19
 enum-known-found : tie.Need-enum-known-found
 enum-known-found c = search needs
 
--- src/lib.rt:95:27
 enum-told : tie.Need-enum-told
 enum-told c = search needs
 
--- src/lib.rt:95:27
 from-shape-requires : tie.Need-from-shape-requires
 from-shape-requires c κs = search needs
 
--- src/lib.rt:88:1
 returns : tie.Need-returns
 unfolding fromDepths
 returns c = search (stage-refuses, stage-passes, needs)
 
--- src/lib.rt:88:1
 returns-2 : tie.Need-returns-2
 unfolding fromDepths
 returns-2 c = search (stage-refuses, stage-passes, needs)

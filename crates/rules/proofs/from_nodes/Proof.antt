@@ -8,28 +8,22 @@ use Rattle.rules.proofs.from_nodes.Lts as lts
 use Rattle.rules.proofs.from_uses.Reads as from-uses-reads
 use Rattle.rules.proofs.node_records.Reads as node-records-reads
 
--- src/lib.rt:116:9
 node-records-requires : tie.Need-node-records-requires
 node-records-requires c κs = search needs
 
--- src/lib.rt:118:19
 enum-known-found : tie.Need-enum-known-found
 enum-known-found c = search needs
 
--- src/lib.rt:119:27
 enum-told : tie.Need-enum-told
 enum-told c = search needs
 
--- src/lib.rt:119:27
 from-uses-requires : tie.Need-from-uses-requires
 from-uses-requires c κs = search (known-registers, known-states, known-nodes, shape-known, states-known, commands-known, expressions-known, needs)
 
--- src/lib.rt:112:1
 returns : tie.Need-returns
 unfolding fromNodes
 returns c = search (stage-refuses, stage-passes, needs)
 
--- src/lib.rt:112:1
 returns-2 : tie.Need-returns-2
 unfolding fromNodes
 returns-2 c = search (stage-refuses, stage-passes, needs)

@@ -8,28 +8,22 @@ use Rattle.rules.proofs.from_shape.Lts as lts
 use Rattle.bodies.proofs.shape.shapes.Reads as shapes-reads
 use Rattle.rules.proofs.from_children.Reads as from-children-reads
 
--- src/lib.rt:80:9
 shapes-requires : tie.Need-shapes-requires
 shapes-requires c κs = search needs
 
--- src/lib.rt:82:19
 enum-known-found : tie.Need-enum-known-found
 enum-known-found c = search needs
 
--- src/lib.rt:83:27
 enum-told : tie.Need-enum-told
 enum-told c = search needs
 
--- src/lib.rt:83:27
 from-children-requires : tie.Need-from-children-requires
 from-children-requires c κs = search needs
 
--- src/lib.rt:76:1
 returns : tie.Need-returns
 unfolding fromShape
 returns c = search (stage-refuses, stage-passes, needs)
 
--- src/lib.rt:76:1
 returns-2 : tie.Need-returns-2
 unfolding fromShape
 returns-2 c = search (stage-refuses, stage-passes, needs)

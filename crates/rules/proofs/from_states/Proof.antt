@@ -8,28 +8,22 @@ use Rattle.rules.proofs.from_states.Lts as lts
 use Rattle.records.proofs.states.states.Reads as states-reads
 use Rattle.rules.proofs.from_nodes.Reads as from-nodes-reads
 
--- src/lib.rt:128:9
 states-requires : tie.Need-states-requires
 states-requires c κs = search needs
 
--- src/lib.rt:130:19
 enum-known-found : tie.Need-enum-known-found
 enum-known-found c = search needs
 
--- src/lib.rt:131:27
 enum-told : tie.Need-enum-told
 enum-told c = search needs
 
--- src/lib.rt:131:27
 from-nodes-requires : tie.Need-from-nodes-requires
 from-nodes-requires c κs = search (known-registers, known-states, known-nodes, shape-known, states-known, commands-known, expressions-known, needs)
 
--- src/lib.rt:124:1
 returns : tie.Need-returns
 unfolding fromStates
 returns c = search (stage-refuses, stage-passes, needs)
 
--- src/lib.rt:124:1
 returns-2 : tie.Need-returns-2
 unfolding fromStates
 returns-2 c = search (stage-refuses, stage-passes, needs)

@@ -8,28 +8,22 @@ use Rattle.rules.proofs.from_uses.Lts as lts
 use Rattle.rules.proofs.from_depths.Reads as from-depths-reads
 use Rattle.rules.proofs.node_uses.Reads as node-uses-reads
 
--- src/lib.rt:104:9
 node-uses-requires : tie.Need-node-uses-requires
 node-uses-requires c κs = search needs
 
--- src/lib.rt:106:19
 enum-known-found : tie.Need-enum-known-found
 enum-known-found c = search needs
 
--- src/lib.rt:107:27
 enum-told : tie.Need-enum-told
 enum-told c = search needs
 
--- src/lib.rt:107:27
 from-depths-requires : tie.Need-from-depths-requires
 from-depths-requires c κs = search needs
 
--- src/lib.rt:100:1
 returns : tie.Need-returns
 unfolding fromUses
 returns c = search (stage-refuses, stage-passes, needs)
 
--- src/lib.rt:100:1
 returns-2 : tie.Need-returns-2
 unfolding fromUses
 returns-2 c = search (stage-refuses, stage-passes, needs)

@@ -8,19 +8,15 @@ use Rattle.nodes.proofs.depths.command_depths.Reads as command-depths-reads
 use Rattle.nodes.proofs.depths.expression_depths.Reads as expression-depths-reads
 use Rattle.rules.proofs.commands_first.Reads as commands-first-reads
 
--- src/lib.rt:58:9
 command-depths-requires : tie.Need-command-depths-requires
 command-depths-requires c κs = search needs
 
--- src/lib.rt:59:9
 expression-depths-requires : tie.Need-expression-depths-requires
 expression-depths-requires c κs = search needs
 
--- src/lib.rt:60:5
 commands-first-requires : tie.Need-commands-first-requires
 commands-first-requires c κs = λ n e. search (expression-small, needs)
 
--- src/lib.rt:54:1
 returns : tie.Need-returns
 returns c = search (both-families, needs)
 

@@ -8,19 +8,15 @@ use Rattle.nodes.proofs.kinds.commands.Reads as commands-reads
 use Rattle.nodes.proofs.kinds.expressions.Reads as expressions-reads
 use Rattle.rules.proofs.commands_first.Reads as commands-first-reads
 
--- src/lib.rt:38:9
 commands-requires : tie.Need-commands-requires
 commands-requires c κs = search needs
 
--- src/lib.rt:39:9
 expressions-requires : tie.Need-expressions-requires
 expressions-requires c κs = search needs
 
--- src/lib.rt:40:5
 commands-first-requires : tie.Need-commands-first-requires
 commands-first-requires c κs = λ n e. search (expression-small, needs)
 
--- src/lib.rt:34:1
 returns : tie.Need-returns
 returns c = search (both-families, needs)
 

@@ -8,19 +8,15 @@ use Rattle.nodes.proofs.uses.command_uses.Reads as command-uses-reads
 use Rattle.nodes.proofs.uses.expression_uses.Reads as expression-uses-reads
 use Rattle.rules.proofs.commands_first.Reads as commands-first-reads
 
--- src/lib.rt:48:9
 command-uses-requires : tie.Need-command-uses-requires
 command-uses-requires c κs = search needs
 
--- src/lib.rt:49:9
 expression-uses-requires : tie.Need-expression-uses-requires
 expression-uses-requires c κs = search needs
 
--- src/lib.rt:50:5
 commands-first-requires : tie.Need-commands-first-requires
 commands-first-requires c κs = λ n e. search (expression-small, needs)
 
--- src/lib.rt:44:1
 returns : tie.Need-returns
 returns c = search (both-families, needs)
 

@@ -32,103 +32,78 @@ flow-below t = and 1 flow-kinds.ps (falls 1 flow-kinds.ps _<_ μ-flow t) flow.Pr
 abbrev flow-calls : ℕ → flow-lts.Claims
 flow-calls t = (kind-reads.Asked, kind-reads.Learnt, assign-flow-reads.Asked, assign-flow-reads.Learnt, part-a-reads.Asked, part-a-reads.Learnt, part-b-reads.Asked, part-b-reads.Learnt, flow-below t, flow.Post, nearer-reads.Asked, nearer-reads.Learnt, flows-to-state-reads.Asked, flows-to-state-reads.Learnt, refused-unless-reads.Asked, refused-unless-reads.Learnt, item-reads.Asked, item-reads.Learnt, part-c-reads.Asked, part-c-reads.Learnt, reads-reads.Asked, reads-reads.Learnt)
 
--- src/flow.rt:110:9
 flow-kind-requires : (t : ℕ) → flow-lts.Need-kind-requires (flow-calls t) (flow-at t) flow.Post
 flow-kind-requires t c κs = search (flow-laws, needs)
 
--- src/flow.rt:112:14
 flow-assign-flow-requires : (t : ℕ) → flow-lts.Need-assign-flow-requires (flow-calls t) (flow-at t) flow.Post
 flow-assign-flow-requires t c κs = search (flow-laws, needs)
 
--- src/flow.rt:114:17
 flow-part-a-requires : (t : ℕ) → flow-lts.Need-part-a-requires (flow-calls t) (flow-at t) flow.Post
 flow-part-a-requires t c κs = search (flow-laws, needs)
 
--- src/flow.rt:115:17
 flow-part-b-requires : (t : ℕ) → flow-lts.Need-part-b-requires (flow-calls t) (flow-at t) flow.Post
 flow-part-b-requires t c κs = search (flow-laws, needs)
 
--- src/flow.rt:116:17
 flow-flow-requires : (t : ℕ) → flow-lts.Need-flow-requires (flow-calls t) (flow-at t) flow.Post
 flow-flow-requires t c κs = (search sequence-a-falls, (search sequence-a-flowing, search (mask-small, needs)))
 
--- src/flow.rt:117:17
 flow-flow-requires-2 : (t : ℕ) → flow-lts.Need-flow-requires-2 (flow-calls t) (flow-at t) flow.Post
 flow-flow-requires-2 t c κs = (search sequence-b-falls, (search sequence-b-flowing, search (mask-small, needs)))
 
--- src/flow.rt:118:13
 flow-nearer-requires : (t : ℕ) → flow-lts.Need-nearer-requires (flow-calls t) (flow-at t) flow.Post
 flow-nearer-requires t c κs = search (flow-laws, needs)
 
--- src/flow.rt:121:17
 flow-flows-to-state-requires : (t : ℕ) → flow-lts.Need-flows-to-state-requires (flow-calls t) (flow-at t) flow.Post
 flow-flows-to-state-requires t c κs = search (flow-laws, needs)
 
--- src/flow.rt:122:13
 flow-refused-unless-requires : (t : ℕ) → flow-lts.Need-refused-unless-requires (flow-calls t) (flow-at t) flow.Post
 flow-refused-unless-requires t c κs = search (flow-laws, needs)
 
--- src/flow.rt:125:17
 flow-item-requires : (t : ℕ) → flow-lts.Need-item-requires (flow-calls t) (flow-at t) flow.Post
 flow-item-requires t c κs = search (flow-laws, needs)
 
--- src/flow.rt:126:17
 flow-flows-to-state-requires-2 : (t : ℕ) → flow-lts.Need-flows-to-state-requires-2 (flow-calls t) (flow-at t) flow.Post
 flow-flows-to-state-requires-2 t c κs = search (flow-laws, needs)
 
--- src/flow.rt:127:13
 flow-refused-unless-requires-2 : (t : ℕ) → flow-lts.Need-refused-unless-requires-2 (flow-calls t) (flow-at t) flow.Post
 flow-refused-unless-requires-2 t c κs = search (flow-laws, needs)
 
--- src/flow.rt:130:17
 flow-part-a-requires-2 : (t : ℕ) → flow-lts.Need-part-a-requires-2 (flow-calls t) (flow-at t) flow.Post
 flow-part-a-requires-2 t c κs = search (flow-laws, needs)
 
--- src/flow.rt:131:17
 flow-part-b-requires-2 : (t : ℕ) → flow-lts.Need-part-b-requires-2 (flow-calls t) (flow-at t) flow.Post
 flow-part-b-requires-2 t c κs = search (flow-laws, needs)
 
--- src/flow.rt:132:17
 flow-part-c-requires : (t : ℕ) → flow-lts.Need-part-c-requires (flow-calls t) (flow-at t) flow.Post
 flow-part-c-requires t c κs = search (flow-laws, needs)
 
--- src/flow.rt:133:35
 flow-reads-requires : (t : ℕ) → flow-lts.Need-reads-requires (flow-calls t) (flow-at t) flow.Post
 flow-reads-requires t c κs = search (flow-laws, needs)
 
--- src/flow.rt:134:17
 flow-flow-requires-3 : (t : ℕ) → flow-lts.Need-flow-requires-3 (flow-calls t) (flow-at t) flow.Post
 flow-flow-requires-3 t c κs = (search branch-b-falls, (search branch-b-flowing, search (mask-small, needs)))
 
--- src/flow.rt:135:17
 flow-flow-requires-4 : (t : ℕ) → flow-lts.Need-flow-requires-4 (flow-calls t) (flow-at t) flow.Post
 flow-flow-requires-4 t c κs = (search branch-c-falls, (search (branch-c-flowing (c .before .before .before .before .before .before .before .before .pre .1 .0)), search (mask-small, needs)))
 
--- src/flow.rt:136:13
 flow-nearer-requires-2 : (t : ℕ) → flow-lts.Need-nearer-requires-2 (flow-calls t) (flow-at t) flow.Post
 flow-nearer-requires-2 t c κs = search (flow-laws, needs)
 
--- src/flow.rt:105:1
 flow-returns : (t : ℕ) → flow-lts.Need-returns (flow-calls t) (flow-at t) flow.Post
 flow-returns t c = λ labels mask. c .assign-flow .ensures _ labels mask
 
--- src/flow.rt:105:1
 flow-returns-2 : (t : ℕ) → flow-lts.Need-returns-2 (flow-calls t) (flow-at t) flow.Post
 flow-returns-2 t c = search (flow-laws, needs)
 
--- src/flow.rt:105:1
 flow-returns-3 : (t : ℕ) → flow-lts.Need-returns-3 (flow-calls t) (flow-at t) flow.Post
 flow-returns-3 t c = search (flow-laws, needs)
 
--- src/flow.rt:105:1
 flow-returns-4 : (t : ℕ) → flow-lts.Need-returns-4 (flow-calls t) (flow-at t) flow.Post
 flow-returns-4 t c = search (flow-laws, needs)
 
--- src/flow.rt:105:1
 flow-returns-5 : (t : ℕ) → flow-lts.Need-returns-5 (flow-calls t) (flow-at t) flow.Post
 flow-returns-5 t c = search (flow-laws, needs)
 
--- src/flow.rt:105:1
 flow-returns-6 : (t : ℕ) → flow-lts.Need-returns-6 (flow-calls t) (flow-at t) flow.Post
 flow-returns-6 t c = search (flow-laws, needs)
 

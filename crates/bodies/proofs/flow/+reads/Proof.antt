@@ -27,47 +27,36 @@ reads-below t = and 1 reads-kinds.ps (falls 1 reads-kinds.ps _<_ μ-reads t) rea
 abbrev reads-calls : ℕ → reads-lts.Claims
 reads-calls t = (kind-reads.Asked, kind-reads.Learnt, item-reads.Asked, item-reads.Learnt, register-mask-reads.Asked, register-mask-reads.Learnt, part-a-reads.Asked, part-a-reads.Learnt, part-b-reads.Asked, part-b-reads.Learnt, reads-below t, reads′.Post)
 
--- src/flow.rt:63:9
 reads-kind-requires : (t : ℕ) → reads-lts.Need-kind-requires (reads-calls t) (reads-at t) reads′.Post
 reads-kind-requires t c κs = search (reads-laws, needs)
 
--- src/flow.rt:66:17
 reads-item-requires : (t : ℕ) → reads-lts.Need-item-requires (reads-calls t) (reads-at t) reads′.Post
 reads-item-requires t c κs = search (reads-laws, needs)
 
--- src/flow.rt:67:13
 reads-register-mask-requires : (t : ℕ) → reads-lts.Need-register-mask-requires (reads-calls t) (reads-at t) reads′.Post
 reads-register-mask-requires t c κs = search (reads-laws, needs)
 
--- src/flow.rt:70:17
 reads-part-a-requires : (t : ℕ) → reads-lts.Need-part-a-requires (reads-calls t) (reads-at t) reads′.Post
 reads-part-a-requires t c κs = search (reads-laws, needs)
 
--- src/flow.rt:71:17
 reads-part-b-requires : (t : ℕ) → reads-lts.Need-part-b-requires (reads-calls t) (reads-at t) reads′.Post
 reads-part-b-requires t c κs = search (reads-laws, needs)
 
--- src/flow.rt:72:17
 reads-reads-requires : (t : ℕ) → reads-lts.Need-reads-requires (reads-calls t) (reads-at t) reads′.Post
 reads-reads-requires t c κs = (search part-a-falls, search part-a-reading)
 
--- src/flow.rt:73:17
 reads-reads-requires-2 : (t : ℕ) → reads-lts.Need-reads-requires-2 (reads-calls t) (reads-at t) reads′.Post
 reads-reads-requires-2 t c κs = (search part-b-falls, search part-b-reading)
 
--- src/flow.rt:58:1
 reads-returns : (t : ℕ) → reads-lts.Need-returns (reads-calls t) (reads-at t) reads′.Post
 reads-returns t c = search (reads-laws, needs)
 
--- src/flow.rt:58:1
 reads-returns-2 : (t : ℕ) → reads-lts.Need-returns-2 (reads-calls t) (reads-at t) reads′.Post
 reads-returns-2 t c = search (reads-laws, needs)
 
--- src/flow.rt:58:1
 reads-returns-3 : (t : ℕ) → reads-lts.Need-returns-3 (reads-calls t) (reads-at t) reads′.Post
 reads-returns-3 t c = search (reads-laws, needs)
 
--- src/flow.rt:58:1
 reads-returns-4 : (t : ℕ) → reads-lts.Need-returns-4 (reads-calls t) (reads-at t) reads′.Post
 reads-returns-4 t c = search (reads-laws, needs)
 

@@ -11,31 +11,24 @@ use Rattle.bodies.proofs.flow.bit.Reads as bit-reads
 use Rattle.bodies.proofs.flow.reads.Reads as reads-reads
 use Rattle.bodies.proofs.flow.refused_unless.Reads as refused-unless-reads
 
--- src/flow.rt:86:9
 item-requires : tie.Need-item-requires
 item-requires c κs = search (assignment-inside, assigned-inside, assigned-reading, assigned-label-small, assign-rule, needs)
 
--- src/flow.rt:87:9
 part-a-requires : tie.Need-part-a-requires
 part-a-requires c κs = search (assignment-inside, assigned-inside, assigned-reading, assigned-label-small, assign-rule, needs)
 
--- src/flow.rt:88:26
 reads-requires : tie.Need-reads-requires
 reads-requires c κs = search (assignment-inside, assigned-inside, assigned-reading, assigned-label-small, assign-rule, needs)
 
--- src/flow.rt:90:9
 register-label-requires : tie.Need-register-label-requires
 register-label-requires c κs = search (assignment-inside, assigned-inside, assigned-reading, assigned-label-small, assign-rule, needs)
 
--- src/flow.rt:91:20
 bit-requires : tie.Need-bit-requires
 bit-requires c κs = search (assignment-inside, assigned-inside, assigned-reading, assigned-label-small, assign-rule, needs)
 
--- src/flow.rt:91:5
 refused-unless-requires : tie.Need-refused-unless-requires
 refused-unless-requires c κs = search (assignment-inside, assigned-inside, assigned-reading, assigned-label-small, assign-rule, needs)
 
--- src/flow.rt:81:1
 returns : tie.Need-returns
 returns c = search (assignment-inside, assigned-inside, assigned-reading, assigned-label-small, assign-rule, needs)
 

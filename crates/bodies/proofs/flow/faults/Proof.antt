@@ -15,31 +15,24 @@ Inv-loop image design lowest₀ s₀ lowest s = NearestSo (designOf image) s low
 abbrev μ-loop : tie.MeasureT-loop
 μ-loop image design lowest₀ s₀ lowest s = design .states - s
 
--- src/flow.rt:161:5
 loop-holds : tie.Need-loop-holds Inv-loop μ-loop
 loop-holds c = search (nearest-none-yet, nearest-one-more, nearest-of-all, needs)
 
--- src/flow.rt:162:13
 state-flow-requires : tie.Need-state-flow-requires Inv-loop μ-loop
 state-flow-requires c κs = search (nearest-none-yet, nearest-one-more, nearest-of-all, needs)
 
--- src/flow.rt:163:9
 nearer-requires : tie.Need-nearer-requires Inv-loop μ-loop
 nearer-requires c κs = search (nearest-none-yet, nearest-one-more, nearest-of-all, needs)
 
--- src/flow.rt:164:9
 add-s : tie.Need-add-s Inv-loop μ-loop
 add-s c = search (nearest-none-yet, nearest-one-more, nearest-of-all, needs)
 
--- src/flow.rt:161:5
 loop-less : tie.Need-loop-less Inv-loop μ-loop
 loop-less c = search (nearest-none-yet, nearest-one-more, nearest-of-all, needs)
 
--- src/flow.rt:161:5
 loop-again : tie.Need-loop-again Inv-loop μ-loop
 loop-again c = search (nearest-none-yet, nearest-one-more, nearest-of-all, needs)
 
--- src/flow.rt:155:1
 returns : tie.Need-returns Inv-loop μ-loop
 returns c = search (nearest-none-yet, nearest-one-more, nearest-of-all, needs)
 

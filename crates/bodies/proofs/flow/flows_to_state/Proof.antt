@@ -8,15 +8,12 @@ use Rattle.bodies.proofs.flow.flows_to_state.Lts as lts
 use Rattle.design.proofs.Design.state_label.Reads as state-label-reads
 use Rattle.bodies.proofs.flow.bit.Reads as bit-reads
 
--- src/flow.rt:100:9
 state-label-requires : tie.Need-state-label-requires
 state-label-requires c κs = search (state-inside, needs)
 
--- src/flow.rt:101:5
 bit-requires : tie.Need-bit-requires
 bit-requires c κs = search (state-label-small, needs)
 
--- src/flow.rt:95:1
 returns : tie.Need-returns
 returns c = search (state-bit, needs)
 

@@ -5,35 +5,27 @@ use Rattle.bodies.proofs.flow.nearer.Tie as tie
 use Rattle.bodies.proofs.flow.nearer.Reads as reads
 use Rattle.bodies.proofs.flow.nearer.Lts as lts
 
--- src/flow.rt:28:28
 enum-known-a : tie.Need-enum-known-a
 enum-known-a c = search needs
 
--- src/flow.rt:29:9
 enum-told : tie.Need-enum-told
 enum-told c = search needs
 
--- src/flow.rt:29:9
 returns : tie.Need-returns
 returns c = search (nearer-accepted, nearer-only, nearer-second, nearer-first, needs)
 
--- src/flow.rt:31:28
 enum-known-b : tie.Need-enum-known-b
 enum-known-b c = search needs
 
--- src/flow.rt:32:9
 enum-told-2 : tie.Need-enum-told-2
 enum-told-2 c = search needs
 
--- src/flow.rt:32:9
 returns-2 : tie.Need-returns-2
 returns-2 c = search (nearer-accepted, nearer-only, nearer-second, nearer-first, needs)
 
--- src/flow.rt:25:1
 returns-3 : tie.Need-returns-3
 returns-3 c = search (nearer-accepted, nearer-only, nearer-second, nearer-first, needs)
 
--- src/flow.rt:25:1
 returns-4 : tie.Need-returns-4
 returns-4 c = search (nearer-accepted, nearer-only, nearer-second, nearer-first, needs)
 

@@ -4,11 +4,9 @@ use Rattle.bodies.proofs.flow.refused_unless.Tie as tie
 use Rattle.bodies.proofs.flow.refused_unless.Reads as reads
 use Rattle.bodies.proofs.flow.refused_unless.Lts as lts
 
--- src/flow.rt:42:9
 returns : tie.Need-returns
 returns c = search (refused-kept, refused-broken)
 
--- src/flow.rt:38:1
 returns-2 : tie.Need-returns-2
 returns-2 c = search (refused-kept, refused-broken)
 

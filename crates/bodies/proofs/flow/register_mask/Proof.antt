@@ -8,15 +8,12 @@ use Rattle.bodies.proofs.flow.register_mask.Lts as lts
 use Rattle.design.proofs.Design.register_label.Reads as register-label-reads
 use Rattle.design.proofs.Design.row.Reads as row-reads
 
--- src/flow.rt:53:9
 register-label-requires : tie.Need-register-label-requires
 register-label-requires c κs = search (register-inside, needs)
 
--- src/flow.rt:54:5
 row-requires : tie.Need-row-requires
 row-requires c κs = search (label-inside, needs)
 
--- src/flow.rt:48:1
 returns : tie.Need-returns
 returns c = search (register-mask-rule, needs)
 

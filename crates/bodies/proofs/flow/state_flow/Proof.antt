@@ -10,23 +10,18 @@ use Rattle.design.proofs.Design.state_command.Reads as state-command-reads
 use Rattle.design.proofs.Design.state_label.Reads as state-label-reads
 use Rattle.bodies.proofs.flow.flow.Reads as flow-reads
 
--- src/flow.rt:148:9
 state-label-requires : tie.Need-state-label-requires
 state-label-requires c κs = search (state-inside, state-row-inside, state-flowing, state-flow-rule, needs)
 
--- src/flow.rt:149:9
 state-command-requires : tie.Need-state-command-requires
 state-command-requires c κs = search (state-inside, state-row-inside, state-flowing, state-flow-rule, needs)
 
--- src/flow.rt:150:9
 row-requires : tie.Need-row-requires
 row-requires c κs = search (state-inside, state-row-inside, state-flowing, state-flow-rule, needs)
 
--- src/flow.rt:151:5
 flow-requires : tie.Need-flow-requires
 flow-requires c κs = search (state-inside, state-row-inside, state-flowing, state-flow-rule, needs)
 
--- src/flow.rt:143:1
 returns : tie.Need-returns
 returns c = search (state-inside, state-row-inside, state-flowing, state-flow-rule, needs)
 

@@ -31,83 +31,63 @@ judge-below t = and 1 judge-kinds.ps (falls 1 judge-kinds.ps _<_ μ-judge t) jud
 abbrev judge-calls : ℕ → judge-lts.Claims
 judge-calls t = (kind-reads.Asked, kind-reads.Learnt, part-a-reads.Asked, part-a-reads.Learnt, part-b-reads.Asked, part-b-reads.Learnt, judge-below t, judge.Post, sequenced-reads.Asked, sequenced-reads.Learnt, charged-unless-reads.Asked, charged-unless-reads.Learnt, item-reads.Asked, item-reads.Learnt, sibling-or-self-reads.Asked, sibling-or-self-reads.Learnt, part-c-reads.Asked, part-c-reads.Learnt, branched-reads.Asked, branched-reads.Learnt)
 
--- src/shape.rt:89:9
 judge-kind-requires : (t : ℕ) → judge-lts.Need-kind-requires (judge-calls t) (judge-at t) judge.Post
 judge-kind-requires t c κs = search (judge-laws, needs)
 
--- src/shape.rt:92:17
 judge-part-a-requires : (t : ℕ) → judge-lts.Need-part-a-requires (judge-calls t) (judge-at t) judge.Post
 judge-part-a-requires t c κs = search (judge-laws, needs)
 
--- src/shape.rt:93:17
 judge-part-b-requires : (t : ℕ) → judge-lts.Need-part-b-requires (judge-calls t) (judge-at t) judge.Post
 judge-part-b-requires t c κs = search (judge-laws, needs)
 
--- src/shape.rt:94:17
 judge-judge-requires : (t : ℕ) → judge-lts.Need-judge-requires (judge-calls t) (judge-at t) judge.Post
 judge-judge-requires t c κs = search (judge-laws, needs)
 
--- src/shape.rt:95:17
 judge-judge-requires-2 : (t : ℕ) → judge-lts.Need-judge-requires-2 (judge-calls t) (judge-at t) judge.Post
 judge-judge-requires-2 t c κs = search (judge-laws, needs)
 
--- src/shape.rt:96:13
 judge-sequenced-requires : (t : ℕ) → judge-lts.Need-sequenced-requires (judge-calls t) (judge-at t) judge.Post
 judge-sequenced-requires t c κs = search (judge-laws, needs)
 
--- src/shape.rt:100:21
 judge-charged-unless-requires : (t : ℕ) → judge-lts.Need-charged-unless-requires (judge-calls t) (judge-at t) judge.Post
 judge-charged-unless-requires t c κs = search (judge-laws, needs)
 
--- src/shape.rt:103:17
 judge-item-requires : (t : ℕ) → judge-lts.Need-item-requires (judge-calls t) (judge-at t) judge.Post
 judge-item-requires t c κs = search (judge-laws, needs)
 
--- src/shape.rt:106:40
 judge-sibling-or-self-requires : (t : ℕ) → judge-lts.Need-sibling-or-self-requires (judge-calls t) (judge-at t) judge.Post
 judge-sibling-or-self-requires t c κs = search (judge-laws, needs)
 
--- src/shape.rt:106:25
 judge-charged-unless-requires-2 : (t : ℕ) → judge-lts.Need-charged-unless-requires-2 (judge-calls t) (judge-at t) judge.Post
 judge-charged-unless-requires-2 t c κs = search (judge-laws, needs)
 
--- src/shape.rt:110:17
 judge-part-b-requires-2 : (t : ℕ) → judge-lts.Need-part-b-requires-2 (judge-calls t) (judge-at t) judge.Post
 judge-part-b-requires-2 t c κs = search (judge-laws, needs)
 
--- src/shape.rt:111:17
 judge-part-c-requires : (t : ℕ) → judge-lts.Need-part-c-requires (judge-calls t) (judge-at t) judge.Post
 judge-part-c-requires t c κs = search (judge-laws, needs)
 
--- src/shape.rt:112:17
 judge-judge-requires-3 : (t : ℕ) → judge-lts.Need-judge-requires-3 (judge-calls t) (judge-at t) judge.Post
 judge-judge-requires-3 t c κs = (search branch-b-falls, search branch-b)
 
--- src/shape.rt:113:17
 judge-judge-requires-4 : (t : ℕ) → judge-lts.Need-judge-requires-4 (judge-calls t) (judge-at t) judge.Post
 judge-judge-requires-4 t c κs = (search branch-c-falls, search branch-c)
 
--- src/shape.rt:114:13
 judge-branched-requires : (t : ℕ) → judge-lts.Need-branched-requires (judge-calls t) (judge-at t) judge.Post
 judge-branched-requires t c κs = search (judge-laws, needs)
 
--- src/shape.rt:84:1
 judge-returns : (t : ℕ) → judge-lts.Need-returns (judge-calls t) (judge-at t) judge.Post
 judge-returns t c = search (judge-laws, needs)
 
--- src/shape.rt:84:1
 judge-returns-2 : (t : ℕ) → judge-lts.Need-returns-2 (judge-calls t) (judge-at t) judge.Post
 judge-returns-2 t c = search (judge-laws, needs)
 
--- src/shape.rt:84:1
 judge-returns-3 : (t : ℕ) → judge-lts.Need-returns-3 (judge-calls t) (judge-at t) judge.Post
 judge-returns-3 t c = search (judge-laws, needs)
 
--- src/shape.rt:84:1
 judge-returns-4 : (t : ℕ) → judge-lts.Need-returns-4 (judge-calls t) (judge-at t) judge.Post
 judge-returns-4 t c = search (judge-laws, needs)
 
--- src/shape.rt:84:1
 judge-returns-5 : (t : ℕ) → judge-lts.Need-returns-5 (judge-calls t) (judge-at t) judge.Post
 judge-returns-5 t c = search (judge-laws, needs)
 

@@ -7,19 +7,15 @@ use Rattle.bodies.proofs.shape.branched.Lts as lts
 use Rattle.bodies.proofs.shape.charged_unless.Reads as charged-unless-reads
 use Rattle.bodies.proofs.shape.lower.Reads as lower-reads
 
--- src/shape.rt:74:9
 lower-requires : tie.Need-lower-requires
 lower-requires c κs = search needs
 
--- src/shape.rt:75:9
 charged-unless-requires : tie.Need-charged-unless-requires
 charged-unless-requires c κs = search needs
 
--- src/shape.rt:76:9
 lower-requires-2 : tie.Need-lower-requires-2
 lower-requires-2 c κs = search needs
 
--- src/shape.rt:69:1
 returns : tie.Need-returns
 returns c = search (branched-rule, needs)
 

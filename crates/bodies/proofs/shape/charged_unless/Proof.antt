@@ -4,11 +4,9 @@ use Rattle.bodies.proofs.shape.charged_unless.Tie as tie
 use Rattle.bodies.proofs.shape.charged_unless.Reads as reads
 use Rattle.bodies.proofs.shape.charged_unless.Lts as lts
 
--- src/shape.rt:38:9
 returns : tie.Need-returns
 returns c = search (charged-kept, charged-broken)
 
--- src/shape.rt:34:1
 returns-2 : tie.Need-returns-2
 returns-2 c = search (charged-kept, charged-broken)
 

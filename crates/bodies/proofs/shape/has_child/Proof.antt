@@ -16,31 +16,24 @@ Inv-loop image design s q₀ q = Missed (isChild (designOf image) s) q
 abbrev μ-loop : tie.MeasureT-loop
 μ-loop image design s q₀ q = design .states - q
 
--- src/shape.rt:140:5
 loop-holds : tie.Need-loop-holds Inv-loop μ-loop
 loop-holds c = search (some-child, no-child, pass-laws, needs)
 
--- src/shape.rt:141:12
 is-child-requires : tie.Need-is-child-requires Inv-loop μ-loop
 is-child-requires c κs = search (some-child, no-child, pass-laws, needs)
 
--- src/shape.rt:142:13
 returns : tie.Need-returns Inv-loop μ-loop
 returns c = search (some-child, no-child, pass-laws, needs)
 
--- src/shape.rt:144:9
 add-q : tie.Need-add-q Inv-loop μ-loop
 add-q c = search (some-child, no-child, pass-laws, needs)
 
--- src/shape.rt:140:5
 loop-less : tie.Need-loop-less Inv-loop μ-loop
 loop-less c = search (some-child, no-child, pass-laws, needs)
 
--- src/shape.rt:140:5
 loop-again : tie.Need-loop-again Inv-loop μ-loop
 loop-again c = search (some-child, no-child, pass-laws, needs)
 
--- src/shape.rt:135:1
 returns-2 : tie.Need-returns-2 Inv-loop μ-loop
 returns-2 c = search (some-child, no-child, pass-laws, needs)
 

@@ -7,11 +7,9 @@ use Rattle.bodies.proofs.shape.is_child.Reads as reads
 use Rattle.bodies.proofs.shape.is_child.Lts as lts
 use Rattle.design.proofs.Design.parent.Reads as parent-reads
 
--- src/shape.rt:132:39
 parent-requires : tie.Need-parent-requires
 parent-requires c κs = search (state-inside, needs)
 
--- src/shape.rt:127:1
 returns : tie.Need-returns
 returns c = search (child-rule, needs)
 

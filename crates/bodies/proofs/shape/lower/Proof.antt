@@ -5,35 +5,27 @@ use Rattle.bodies.proofs.shape.lower.Tie as tie
 use Rattle.bodies.proofs.shape.lower.Reads as reads
 use Rattle.bodies.proofs.shape.lower.Lts as lts
 
--- src/shape.rt:24:19
 enum-known-a : tie.Need-enum-known-a
 enum-known-a c = search needs
 
--- src/shape.rt:25:9
 enum-told : tie.Need-enum-told
 enum-told c = search needs
 
--- src/shape.rt:25:9
 returns : tie.Need-returns
 returns c = search needs
 
--- src/shape.rt:27:19
 enum-known-b : tie.Need-enum-known-b
 enum-known-b c = search needs
 
--- src/shape.rt:28:9
 enum-told-2 : tie.Need-enum-told-2
 enum-told-2 c = search needs
 
--- src/shape.rt:28:9
 returns-2 : tie.Need-returns-2
 returns-2 c = search (lower-only, lower-second, lower-first, needs)
 
--- src/shape.rt:21:1
 returns-3 : tie.Need-returns-3
 returns-3 c = search (lower-only, lower-second, lower-first, needs)
 
--- src/shape.rt:21:1
 returns-4 : tie.Need-returns-4
 returns-4 c = search (lower-only, lower-second, lower-first, needs)
 

@@ -15,31 +15,24 @@ Inv-loop image design lowest₀ s₀ lowest s = LowestSo (designOf image) s lowe
 abbrev μ-loop : tie.MeasureT-loop
 μ-loop image design lowest₀ s₀ lowest s = design .states - s
 
--- src/shape.rt:171:5
 loop-holds : tie.Need-loop-holds Inv-loop μ-loop
 loop-holds c = search (lowest-none-yet, lowest-one-more, lowest-of-all, needs)
 
--- src/shape.rt:172:13
 state-shape-requires : tie.Need-state-shape-requires Inv-loop μ-loop
 state-shape-requires c κs = search (lowest-none-yet, lowest-one-more, lowest-of-all, needs)
 
--- src/shape.rt:173:9
 lower-requires : tie.Need-lower-requires Inv-loop μ-loop
 lower-requires c κs = search (lowest-none-yet, lowest-one-more, lowest-of-all, needs)
 
--- src/shape.rt:174:9
 add-s : tie.Need-add-s Inv-loop μ-loop
 add-s c = search (lowest-none-yet, lowest-one-more, lowest-of-all, needs)
 
--- src/shape.rt:171:5
 loop-less : tie.Need-loop-less Inv-loop μ-loop
 loop-less c = search (lowest-none-yet, lowest-one-more, lowest-of-all, needs)
 
--- src/shape.rt:171:5
 loop-again : tie.Need-loop-again Inv-loop μ-loop
 loop-again c = search (lowest-none-yet, lowest-one-more, lowest-of-all, needs)
 
--- src/shape.rt:165:1
 returns : tie.Need-returns Inv-loop μ-loop
 returns c = search (lowest-none-yet, lowest-one-more, lowest-of-all, needs)
 

@@ -7,15 +7,12 @@ use Rattle.bodies.proofs.shape.sibling_or_self.Reads as reads
 use Rattle.bodies.proofs.shape.sibling_or_self.Lts as lts
 use Rattle.design.proofs.Design.parent.Reads as parent-reads
 
--- src/shape.rt:50:50
 parent-requires : tie.Need-parent-requires
 parent-requires c κs = search (state-inside, needs)
 
--- src/shape.rt:50:82
 parent-requires-2 : tie.Need-parent-requires-2
 parent-requires-2 c κs = search (state-inside, needs)
 
--- src/shape.rt:45:1
 returns : tie.Need-returns
 returns c = search (sibling-rule, needs)
 

@@ -11,27 +11,21 @@ use Rattle.bodies.proofs.shape.has_child.Reads as has-child-reads
 use Rattle.bodies.proofs.shape.judge.Reads as judge-reads
 use Rattle.bodies.proofs.shape.lower.Reads as lower-reads
 
--- src/shape.rt:156:9
 state-command-requires : tie.Need-state-command-requires
 state-command-requires c κs = search (state-inside, needs)
 
--- src/shape.rt:157:9
 has-child-requires : tie.Need-has-child-requires
 has-child-requires c κs = search needs
 
--- src/shape.rt:158:9
 judge-requires : tie.Need-judge-requires
 judge-requires c κs = search (body-judging, needs)
 
--- src/shape.rt:159:9
 charged-unless-requires : tie.Need-charged-unless-requires
 charged-unless-requires c κs = search needs
 
--- src/shape.rt:161:5
 lower-requires : tie.Need-lower-requires
 lower-requires c κs = search needs
 
--- src/shape.rt:151:1
 returns : tie.Need-returns
 returns c = search (state-shape-rule, needs)
 

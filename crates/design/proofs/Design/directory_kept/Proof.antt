@@ -8,55 +8,42 @@ use Rattle.design.proofs.offsets_kept.Reads as offsets-kept-reads
 use Rattle.design.proofs.section_kept.Reads as section-kept-reads
 use Rattle.design.proofs.size.Reads as size-reads
 
--- src/lib.rt:234:13
 returns : tie.Need-returns
 returns c = too-short _ (c .if1 .taken)
 
--- src/lib.rt:236:9
 offsets-kept-requires : tie.Need-offsets-kept-requires
 offsets-kept-requires c κs = search needs
 
--- src/lib.rt:237:28
 size-requires : tie.Need-size-requires
 size-requires c κs = search needs
 
--- src/lib.rt:237:15
 section-kept-requires : tie.Need-section-kept-requires
 section-kept-requires c κs = search needs
 
--- src/lib.rt:238:28
 size-requires-2 : tie.Need-size-requires-2
 size-requires-2 c κs = search needs
 
--- src/lib.rt:238:15
 section-kept-requires-2 : tie.Need-section-kept-requires-2
 section-kept-requires-2 c κs = search needs
 
--- src/lib.rt:239:28
 size-requires-3 : tie.Need-size-requires-3
 size-requires-3 c κs = search needs
 
--- src/lib.rt:239:15
 section-kept-requires-3 : tie.Need-section-kept-requires-3
 section-kept-requires-3 c κs = search needs
 
--- src/lib.rt:240:28
 size-requires-4 : tie.Need-size-requires-4
 size-requires-4 c κs = search needs
 
--- src/lib.rt:240:15
 section-kept-requires-4 : tie.Need-section-kept-requires-4
 section-kept-requires-4 c κs = search needs
 
--- src/lib.rt:241:28
 size-requires-5 : tie.Need-size-requires-5
 size-requires-5 c κs = search needs
 
--- src/lib.rt:241:15
 section-kept-requires-5 : tie.Need-section-kept-requires-5
 section-kept-requires-5 c κs = search needs
 
--- src/lib.rt:230:5
 returns-2 : tie.Need-returns-2
 returns-2 c = search (directory-rule, needs)
 

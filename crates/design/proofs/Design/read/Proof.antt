@@ -7,43 +7,33 @@ use Rattle.design.proofs.Design.read.Lts as lts
 use Rattle.design.proofs.offset.Reads as offset-reads
 use Rattle.design.proofs.size.Reads as size-reads
 
--- src/lib.rt:250:21
 size-requires : tie.Need-size-requires
 size-requires c κs = search needs
 
--- src/lib.rt:251:24
 size-requires-2 : tie.Need-size-requires-2
 size-requires-2 c κs = search needs
 
--- src/lib.rt:252:21
 size-requires-3 : tie.Need-size-requires-3
 size-requires-3 c κs = search needs
 
--- src/lib.rt:253:23
 size-requires-4 : tie.Need-size-requires-4
 size-requires-4 c κs = search needs
 
--- src/lib.rt:254:26
 size-requires-5 : tie.Need-size-requires-5
 size-requires-5 c κs = search needs
 
--- src/lib.rt:255:27
 offset-requires : tie.Need-offset-requires
 offset-requires c κs = search needs
 
--- src/lib.rt:256:24
 offset-requires-2 : tie.Need-offset-requires-2
 offset-requires-2 c κs = search needs
 
--- src/lib.rt:257:26
 offset-requires-3 : tie.Need-offset-requires-3
 offset-requires-3 c κs = search needs
 
--- src/lib.rt:258:29
 offset-requires-4 : tie.Need-offset-requires-4
 offset-requires-4 c κs = search needs
 
--- src/lib.rt:245:5
 returns : tie.Need-returns
 returns c = search (describes, needs)
 

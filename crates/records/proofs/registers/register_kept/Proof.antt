@@ -8,15 +8,12 @@ use Rattle.records.proofs.registers.register_kept.Lts as lts
 use Rattle.design.proofs.Design.register_kind.Reads as register-kind-reads
 use Rattle.design.proofs.Design.register_label.Reads as register-label-reads
 
--- src/records.rt:18:6
 register-label-requires : tie.Need-register-label-requires
 register-label-requires c κs = search (register-inside, needs)
 
--- src/records.rt:18:63
 register-kind-requires : tie.Need-register-kind-requires
 register-kind-requires c κs = search (register-inside, needs)
 
--- src/records.rt:13:1
 returns : tie.Need-returns
 returns c = search (register-rule, needs)
 

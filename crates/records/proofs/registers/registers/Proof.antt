@@ -16,31 +16,24 @@ Inv-loop image design r₀ r = Passed (registerKept (designOf image)) r
 abbrev μ-loop : tie.MeasureT-loop
 μ-loop image design r₀ r = design .registers - r
 
--- src/records.rt:27:5
 loop-holds : tie.Need-loop-holds Inv-loop μ-loop
 loop-holds c = search (pass-laws, registers-count, needs)
 
--- src/records.rt:28:13
 register-kept-requires : tie.Need-register-kept-requires Inv-loop μ-loop
 register-kept-requires c κs = search (pass-laws, registers-count, needs)
 
--- src/records.rt:29:13
 returns : tie.Need-returns Inv-loop μ-loop
 returns c = search (pass-laws, registers-count, needs)
 
--- src/records.rt:31:9
 add-r : tie.Need-add-r Inv-loop μ-loop
 add-r c = search (pass-laws, registers-count, needs)
 
--- src/records.rt:27:5
 loop-less : tie.Need-loop-less Inv-loop μ-loop
 loop-less c = search (pass-laws, registers-count, needs)
 
--- src/records.rt:27:5
 loop-again : tie.Need-loop-again Inv-loop μ-loop
 loop-again c = search (pass-laws, registers-count, needs)
 
--- src/records.rt:22:1
 returns-2 : tie.Need-returns-2 Inv-loop μ-loop
 returns-2 c = search (pass-laws, registers-count, needs)
 
