@@ -1,5 +1,5 @@
 -- 01, 'What a party sees': lists of calls, what remains of them at a level, the view, and demand 3 as one statement about whole lists.
--- The calls are made by the very definitions that the exported functions' contracts cite.
+-- The calls are made by the very definitions that the contracts of the calls cite.
 use Prim.Native.Nat.{ℕ, _*_, _<_}
 use mathlib.Core.Path.{_≡_}
 use mathlib.Core.Bool.{Bool, cond}

@@ -1,4 +1,4 @@
-// Refusal 6: passes that count the uses of every node in one table, and then look for a node that
+// Refusal 6: passes that count the uses of every node of a family in a table, and then look for one that
 // is not used exactly once. A count stops at 2.
 use design::Design;
 use model::Found;

@@ -1,5 +1,4 @@
--- Laws of the tree of states and of the target table (`specs/States.antt`, `specs/Machine.antt`): children, default children, what a goto clears and sets.
--- They rest on one rule: a parent has a lower number than its child.
+-- Laws of the tree of states and of the target table (`specs/States.antt`, `specs/Machine.antt`): children, default children, sound targets.
 use Prim.Native.Nat.{ℕ, _<_}
 use mathlib.Core.Path.{_≡_, refl}
 use mathlib.Core.Logic.{_⊎_, inl, inr, _≢_}
