@@ -5,7 +5,8 @@ use mathlib.Core.Bool.{Bool, true, false, _&&_}
 use mathlib.Core.List.{List, [], _∷_, _++_, map}
 use native.Mathlib.Omega.{arith}
 use native.Mathlib.Nat.{mod-lt, lt-of-le-of-lt}
-use lib.Bits.{bitAnd, and-shr, and-mod, and-le-l}
+use lib.Bits.{bitAnd, and-le-l}
+use Rattle.model.proofs.Laws.Bits.{bit-and}
 use lib.Dec.{eqb}
 use lib.ListN.{length, getD}
 use Rattle.model.specs.Indices.{allBelow}
@@ -18,20 +19,6 @@ use Rattle.design.specs.Describes.{Describes}
 use Rattle.design.proofs.Laws.{labels-count, registers-count, row-inside, row-in, register-in}
 use Rattle.model.proofs.Exact.Records.{register-iff}
 use Rattle.bodies.specs.Flows.{MaskOf, FlowKnown}
-
--- ---- bits
-bit-of-bits : (u v : ℕ) → u < 2 → v < 2 → eqb (bitAnd u v) 1 ≡ (eqb u 1 && eqb v 1)
-bit-of-bits zero v h k = refl
-bit-of-bits (suc zero) zero h k = refl
-bit-of-bits (suc zero) (suc zero) h k = refl
-bit-of-bits (suc zero) (suc (suc v)) h k = absurd (omega arith)
-bit-of-bits (suc (suc u)) v h k = absurd (omega arith)
-
-pub bit-and : (a b l : ℕ) → eqb (bitAnd a b / 2 ^ l % 2) 1 ≡ (eqb (a / 2 ^ l % 2) 1 && eqb (b / 2 ^ l % 2) 1)
-bit-and a b l =
-    ap (λ (n : ℕ). eqb (n % 2) 1) (and-shr a b l)
-    ∙ ap (λ (n : ℕ). eqb n 1) (and-mod (a / 2 ^ l) (b / 2 ^ l) 1)
-    ∙ bit-of-bits (a / 2 ^ l % 2) (b / 2 ^ l % 2) (omega arith) (omega arith)
 
 -- ---- contexts
 and-assoc : (a b c : Bool) → (a && (b && c)) ≡ (a && b && c)

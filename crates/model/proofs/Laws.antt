@@ -1,5 +1,6 @@
 -- Laws of the definitions, by file of specs/. Users cite the laws and do not unfold.
 pub mod Booleans
+pub mod Bits
 pub mod Equivalences
 pub mod Indices
 pub mod Words

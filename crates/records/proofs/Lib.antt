@@ -1,3 +1,4 @@
 -- Laws of the rules as the code tests them.
+pub mod Subsets
 pub mod LatticeRules
 pub mod RecordRules

@@ -1,32 +1,30 @@
--- The tests that the rules of the lattice make of two, three and four labels, by name. Each stands under an `allBelow` or a `someBelow` of the meaning's rule.
-use Prim.Native.Nat.{ℕ}
+-- Rows as masks, and the tests that the rules of the lattice make of two labels, by name. Each of these stands under an `allBelow` or a `someBelow` of the meaning's rule.
+use Prim.Native.Nat.{ℕ, _/_, _%_, _^_}
 use mathlib.Core.Bool.{Bool, _&&_}
 use mathlib.Core.List.{List}
+use lib.Bits.{bitAnd}
 use lib.Dec.{eqb}
-use lib.ListN.{length}
+use lib.ListN.{length, getD}
 use Rattle.model.specs.Indices.{allBelow, someBelow}
 use Rattle.model.specs.Lattice.{flowsTo, implies, leastAbove}
+
+module _ (rows : List ℕ) where
+  -- row i, cut to the bits of labels
+  unfoldable pub rowMask : ℕ → ℕ
+  rowMask i = getD rows i 0 % 2 ^ length rows
+
+  -- k is one of a mask's labels, and its row has every bit of the mask
+  unfoldable pub leastIn : ℕ → ℕ → Bool
+  leastIn among k = eqb (among / 2 ^ k % 2) 1 && eqb (bitAnd among (getD rows k 0)) among
 
 module _ (rows : List ℕ) (i j : ℕ) where
   -- labels that flow to each other are one
   unfoldable pub distinct : Bool
   distinct = implies (flowsTo rows i j && flowsTo rows j i) (eqb i j)
 
-  -- where i flows to j, and j to k, i flows to k
-  unfoldable pub carried : ℕ → Bool
-  carried k = implies (flowsTo rows i j && flowsTo rows j k) (flowsTo rows i k)
-
   -- where i flows to j, i flows to whatever j flows to
   unfoldable pub carries : Bool
-  carries = allBelow carried (length rows)
-
-  -- where i and j flow to m, k flows to m
-  unfoldable pub under : ℕ → ℕ → Bool
-  under k m = implies (flowsTo rows i m && flowsTo rows j m) (flowsTo rows k m)
-
-  -- k flows to whatever i and j flow to
-  unfoldable pub underAll : ℕ → Bool
-  underAll k = allBelow (under k) (length rows)
+  carries = allBelow (λ k. implies (flowsTo rows i j && flowsTo rows j k) (flowsTo rows i k)) (length rows)
 
   -- i and j have a least common label above them
   unfoldable pub joins : Bool

@@ -1,2 +1,2 @@
--- What the contracts of this crate cite: the tests of two, three and four labels, by name.
+-- What the contracts of this crate cite: rows as masks, and the tests of two labels, by name.
 pub mod LabelTests

@@ -1,16 +1,16 @@
 // Refusal 2: the label rows are a lattice with label 0 least. One function for each rule of the
-// meaning, over one test of a bit.
+// meaning, over tests of one bit and of whole rows as masks.
 use design::Design;
 use model::Found;
-ghost use Prim.Native.Nat.{_/_, _%_, _^_, _<_};
+ghost use Prim.Native.Nat.{_-_, _/_, _%_, _^_, _<_};
 ghost use mathlib.Core.Path.{_≡_};
 ghost use lib.Dec.{eqb};
-ghost use lib.ListN.{length};
+ghost use lib.ListN.{length, getD};
 ghost use Rattle.model.specs.Indices.{lowestFailing};
 ghost use Rattle.model.specs.Image.{designOf};
-ghost use Rattle.model.specs.Lattice.{flowsTo, rowInside, antisymmetric, transitive, leastFull, leastAbove, joined, labelKept};
+ghost use Rattle.model.specs.Lattice.{flowsTo, rowInside, antisymmetric, transitive, leastFull, joined, labelKept};
 ghost use Rattle.design.specs.Describes.{Describes};
-ghost use Rattle.records.specs.LabelTests.{distinct, carried, carries, under, underAll, joins};
+ghost use Rattle.records.specs.LabelTests.{rowMask, distinct, carries, leastIn, joins};
 
 // Bit j of a row.
 pub fn bit(row: usize, j: usize) -> bool
@@ -20,12 +20,36 @@ pub fn bit(row: usize, j: usize) -> bool
     (row >> j) % 2 == 1
 }
 
+// The row of label i.
+fn row(image: &[u8], design: Design, i: usize) -> usize
+    requires { ⌜ Describes (now image) design × (i < design .labels) ⌝ }
+    ensures { λ r. ⌜ r ≡ getD (designOf (now (image .entry)) .rows) i 0 ⌝ }
+{
+    Design::row(image, i)
+}
+
+// A mask with the bit of each label.
+fn full(design: Design) -> usize
+    requires { ⌜ design .labels < 64 ⌝ }
+    ensures { λ m. ⌜ m ≡ 2 ^ design .labels - 1 ⌝ }
+{
+    (1 << design.labels) - 1
+}
+
+// The row of label i, cut to the bits of labels.
+fn mask(image: &[u8], design: Design, i: usize) -> usize
+    requires { ⌜ Describes (now image) design × (i < design .labels) ⌝ }
+    ensures { λ m. ⌜ m ≡ rowMask (designOf (now (image .entry)) .rows) i ⌝ }
+{
+    row(image, design, i) & full(design)
+}
+
 // Label i flows to label j.
 pub fn flows(image: &[u8], design: Design, i: usize, j: usize) -> bool
     requires { ⌜ Describes (now image) design × (i < design .labels) × (j < 16) ⌝ }
     ensures { λ x. ⌜ x ≡ flowsTo (designOf (now (image .entry)) .rows) i j ⌝ }
 {
-    bit(Design::row(image, i), j)
+    bit(row(image, design, i), j)
 }
 
 // The row of label i has no bit at or above the label count.
@@ -33,7 +57,7 @@ fn row_inside(image: &[u8], design: Design, i: usize) -> bool
     requires { ⌜ Describes (now image) design × (i < design .labels) ⌝ }
     ensures { λ x. ⌜ x ≡ rowInside (designOf (now (image .entry)) .rows) i ⌝ }
 {
-    Design::row(image, i) >> design.labels == 0
+    row(image, design, i) >> design.labels == 0
 }
 
 // Labels i and j do not flow to each other, or are one label.
@@ -41,7 +65,10 @@ fn distinct(image: &[u8], design: Design, i: usize, j: usize) -> bool
     requires { ⌜ Describes (now image) design × (i < design .labels) × (j < design .labels) ⌝ }
     ensures { λ x. ⌜ x ≡ distinct (designOf (now (image .entry)) .rows) i j ⌝ }
 {
-    !(flows(image, design, i, j) & flows(image, design, j, i)) | (i == j)
+    if !flows(image, design, i, j) {
+        return true;
+    }
+    !flows(image, design, j, i) | (i == j)
 }
 
 // No other label flows to label i and from it.
@@ -59,30 +86,17 @@ fn antisymmetric(image: &[u8], design: Design, i: usize) -> bool
     true
 }
 
-// Where label i flows to j, and j to k, label i flows to k.
-fn carried(image: &[u8], design: Design, i: usize, j: usize, k: usize) -> bool
-    requires { ⌜ Describes (now image) design × (i < design .labels) × (j < design .labels) × (k < design .labels) ⌝ }
-    ensures { λ x. ⌜ x ≡ carried (designOf (now (image .entry)) .rows) i j k ⌝ }
-{
-    !(flows(image, design, i, j) & flows(image, design, j, k)) | flows(image, design, i, k)
-}
-
 // Where label i flows to j, it flows to whatever j flows to.
 fn carries(image: &[u8], design: Design, i: usize, j: usize) -> bool
     requires { ⌜ Describes (now image) design × (i < design .labels) × (j < design .labels) ⌝ }
     ensures { λ x. ⌜ x ≡ carries (designOf (now (image .entry)) .rows) i j ⌝ }
 {
-    if !flows(image, design, i, j) {
+    let from = row(image, design, i);
+    if !bit(from, j) {
         return true;
     }
-    let mut k = 0;
-    while k < design.labels {
-        if !carried(image, design, i, j, k) {
-            return false;
-        }
-        k += 1;
-    }
-    true
+    let further = mask(image, design, j);
+    further & from == further
 }
 
 // Label i flows to whatever a label that it flows to flows to.
@@ -108,48 +122,19 @@ fn least_full(image: &[u8], design: Design, i: usize) -> bool
     if i != 0 {
         return true;
     }
-    let mut j = 0;
-    while j < design.labels {
-        if !flows(image, design, 0, j) {
-            return false;
-        }
-        j += 1;
-    }
-    true
+    let every = full(design);
+    every & row(image, design, 0) == every
 }
 
-// Where labels i and j flow to m, label k flows to m.
-fn under(image: &[u8], design: Design, i: usize, j: usize, k: usize, m: usize) -> bool
-    requires { ⌜ Describes (now image) design × (i < design .labels) × (j < design .labels) × (k < design .labels) × (m < design .labels) ⌝ }
-    ensures { λ x. ⌜ x ≡ under (designOf (now (image .entry)) .rows) i j k m ⌝ }
+// Label k is one of a mask's labels, and flows to each of them.
+fn least_in(image: &[u8], design: Design, among: usize, k: usize) -> bool
+    requires { ⌜ Describes (now image) design × (k < design .labels) ⌝ }
+    ensures { λ x. ⌜ x ≡ leastIn (designOf (now (image .entry)) .rows) among k ⌝ }
 {
-    !(flows(image, design, i, m) & flows(image, design, j, m)) | flows(image, design, k, m)
-}
-
-// Label k flows to whatever labels i and j both flow to.
-fn under_all(image: &[u8], design: Design, i: usize, j: usize, k: usize) -> bool
-    requires { ⌜ Describes (now image) design × (i < design .labels) × (j < design .labels) × (k < design .labels) ⌝ }
-    ensures { λ x. ⌜ x ≡ underAll (designOf (now (image .entry)) .rows) i j k ⌝ }
-{
-    let mut m = 0;
-    while m < design.labels {
-        if !under(image, design, i, j, k, m) {
-            return false;
-        }
-        m += 1;
-    }
-    true
-}
-
-// Label k is the least label above labels i and j.
-fn least_above(image: &[u8], design: Design, i: usize, j: usize, k: usize) -> bool
-    requires { ⌜ Describes (now image) design × (i < design .labels) × (j < design .labels) × (k < design .labels) ⌝ }
-    ensures { λ x. ⌜ x ≡ leastAbove (designOf (now (image .entry)) .rows) i j k ⌝ }
-{
-    if !(flows(image, design, i, k) & flows(image, design, j, k)) {
+    if !bit(among, k) {
         return false;
     }
-    under_all(image, design, i, j, k)
+    among & row(image, design, k) == among
 }
 
 // Labels i and j have a least label above them.
@@ -157,9 +142,10 @@ fn joins(image: &[u8], design: Design, i: usize, j: usize) -> bool
     requires { ⌜ Describes (now image) design × (i < design .labels) × (j < design .labels) ⌝ }
     ensures { λ x. ⌜ x ≡ joins (designOf (now (image .entry)) .rows) i j ⌝ }
 {
+    let above = mask(image, design, i) & row(image, design, j);
     let mut k = 0;
     while k < design.labels {
-        if least_above(image, design, i, j, k) {
+        if least_in(image, design, above, k) {
             return true;
         }
         k += 1;
@@ -187,12 +173,22 @@ fn label_kept(image: &[u8], design: Design, i: usize) -> bool
     requires { ⌜ Describes (now image) design × (i < design .labels) ⌝ }
     ensures { λ x. ⌜ x ≡ labelKept (designOf (now (image .entry)) .rows) i ⌝ }
 {
-    row_inside(image, design, i)
-        & flows(image, design, i, i)
-        & antisymmetric(image, design, i)
-        & transitive(image, design, i)
-        & least_full(image, design, i)
-        & joined(image, design, i)
+    if !row_inside(image, design, i) {
+        return false;
+    }
+    if !flows(image, design, i, i) {
+        return false;
+    }
+    if !antisymmetric(image, design, i) {
+        return false;
+    }
+    if !transitive(image, design, i) {
+        return false;
+    }
+    if !least_full(image, design, i) {
+        return false;
+    }
+    joined(image, design, i)
 }
 
 // Refusal 2, at the lowest label.

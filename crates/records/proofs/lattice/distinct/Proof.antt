@@ -1,4 +1,4 @@
-use Rattle.records.proofs.LatticeRules.{distinct-rule, label-small}
+use Rattle.records.proofs.LatticeRules.{distinct-apart, distinct-rule, label-small}
 use borrow.Author.Needs.{needs}
 use Rattle.records.proofs.lattice.distinct.Statement.{statement}
 use Rattle.records.proofs.lattice.distinct.Tie as tie
@@ -6,11 +6,14 @@ use Rattle.records.proofs.lattice.distinct.Tie as tie
 flows-requires : tie.Need-flows-requires
 flows-requires c κs = search (label-small, needs)
 
+returns : tie.Need-returns
+returns c = search (distinct-apart, needs)
+
 flows-requires-2 : tie.Need-flows-requires-2
 flows-requires-2 c κs = search (label-small, needs)
 
-returns : tie.Need-returns
-returns c = search (distinct-rule, needs)
+returns-2 : tie.Need-returns-2
+returns-2 c = search (distinct-rule, needs)
 
 pub distinct-spec : {M : Type 1} → statement M
-distinct-spec = tie.close (tie.spec flows-requires flows-requires-2 returns)
+distinct-spec = tie.close (tie.spec flows-requires returns flows-requires-2 returns-2)

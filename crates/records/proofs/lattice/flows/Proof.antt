@@ -1,11 +1,10 @@
 use Rattle.records.proofs.LatticeRules.{flow-rule}
-use Rattle.design.proofs.Laws.{row-inside}
 use borrow.Author.Needs.{needs}
 use Rattle.records.proofs.lattice.flows.Statement.{statement}
 use Rattle.records.proofs.lattice.flows.Tie as tie
 
 row-requires : tie.Need-row-requires
-row-requires c κs = search (row-inside, needs)
+row-requires c κs = search needs
 
 bit-requires : tie.Need-bit-requires
 bit-requires c κs = search needs

@@ -1,7 +1,7 @@
 use Rattle.records.proofs.LatticeRules.{joins-rule}
 use Rattle.model.proofs.Laws.Passes.{pass-laws, Missed}
 use Rattle.design.proofs.Laws.{labels-count}
-use Rattle.model.specs.Lattice.{leastAbove}
+use Rattle.records.specs.LabelTests.{leastIn}
 use Rattle.model.specs.Image.{designOf}
 use Prim.Native.Nat.{_-_}
 use borrow.Author.Needs.{needs}
@@ -9,16 +9,22 @@ use Rattle.records.proofs.lattice.joins.Statement.{statement}
 use Rattle.records.proofs.lattice.joins.Tie as tie
 
 abbrev Inv-loop : tie.InvT-loop
-Inv-loop image design i j k₀ k = Missed (leastAbove (designOf image .rows) i j) k
+Inv-loop image design i j above k₀ k = Missed (leastIn (designOf image .rows) above) k
 
 abbrev μ-loop : tie.MeasureT-loop
-μ-loop image design i j k₀ k = design .labels - k
+μ-loop image design i j above k₀ k = design .labels - k
+
+mask-requires : tie.Need-mask-requires Inv-loop μ-loop
+mask-requires c κs = search needs
+
+row-requires : tie.Need-row-requires Inv-loop μ-loop
+row-requires c κs = search needs
 
 loop-holds : tie.Need-loop-holds Inv-loop μ-loop
 loop-holds c = search (pass-laws, needs)
 
-least-above-requires : tie.Need-least-above-requires Inv-loop μ-loop
-least-above-requires c κs = search needs
+least-in-requires : tie.Need-least-in-requires Inv-loop μ-loop
+least-in-requires c κs = search needs
 
 returns : tie.Need-returns Inv-loop μ-loop
 returns c = search (joins-rule, pass-laws, labels-count, needs)
@@ -41,8 +47,10 @@ joins-spec =
     (tie.spec
     Inv-loop
     μ-loop
+    mask-requires
+    row-requires
     loop-holds
-    least-above-requires
+    least-in-requires
     returns
     add-k
     loop-less

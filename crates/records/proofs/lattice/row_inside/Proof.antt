@@ -1,11 +1,10 @@
 use Rattle.records.proofs.LatticeRules.{inside-rule, labels-small}
-use Rattle.design.proofs.Laws.{row-inside}
 use borrow.Author.Needs.{needs}
 use Rattle.records.proofs.lattice.row_inside.Statement.{statement}
 use Rattle.records.proofs.lattice.row_inside.Tie as tie
 
 row-requires : tie.Need-row-requires
-row-requires c κs = search (row-inside, needs)
+row-requires c κs = search needs
 
 shr-result : tie.Need-shr-result
 shr-result c = search (labels-small, needs)

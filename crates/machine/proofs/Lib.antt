@@ -1,0 +1,3 @@
+-- Laws of the words of a register area, and of the values of expressions.
+pub mod WordRules
+pub mod EvaluateRules

@@ -1,0 +1,2 @@
+-- What the contracts of this crate cite: a register area with one word written.
+pub mod Words
