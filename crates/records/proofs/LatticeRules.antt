@@ -22,7 +22,8 @@ use Rattle.design.specs.Records.{rowIn}
 use Rattle.design.specs.Describes.{Describes}
 use Rattle.design.proofs.Laws.{labels-count, row-in}
 use Rattle.records.specs.LabelTests.{rowMask, leastIn, distinct, carries, joins}
-use Rattle.records.proofs.Subsets.{bitOf, bit-and, inside, cut-bit, ones-bit}
+use Rattle.model.proofs.Laws.Bits.{bit-and}
+use Rattle.records.proofs.Subsets.{bitOf, inside, cut-bit, ones-bit}
 
 -- a number has no bit at k or above exactly where it is below 2 ^ k
 shifted-out : (a k : ℕ) → eqb (a / 2 ^ k) 0 ≡ ltb a (2 ^ k)
