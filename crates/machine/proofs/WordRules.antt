@@ -85,3 +85,13 @@ inside-fourth bytes r i j k a b c l =
     let then = length-set (set bytes i a) j b in
     let last = length-set (set (set bytes i a) j b) k c in
     omega arith
+
+pub length-put : (bytes : List ℕ) (r v : ℕ) → length (putWord bytes r v) ≡ length bytes
+length-put bytes r v =
+    let first = set bytes (4 * r) (v % 256) in
+    let second = set first (4 * r + 1) (v / 256 % 256) in
+    let third = set second (4 * r + 2) (v / 65536 % 256) in
+    length-set third (4 * r + 3) (v / 16777216 % 256)
+    ∙ length-set second (4 * r + 2) (v / 65536 % 256)
+    ∙ length-set first (4 * r + 1) (v / 256 % 256)
+    ∙ length-set bytes (4 * r) (v % 256)
