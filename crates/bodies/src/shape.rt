@@ -124,7 +124,7 @@ fn judge(image: &[u8], design: Design, s: usize, falls: bool, n: usize) -> Judge
 }
 
 // State q is a child of s.
-fn is_child(image: &[u8], design: Design, s: usize, q: usize) -> bool
+pub fn is_child(image: &[u8], design: Design, s: usize, q: usize) -> bool
     requires { ⌜ Describes (now image) design × (q < design .states) ⌝ }
     ensures { λ r. ⌜ r ≡ isChild (designOf (now (image .entry))) s q ⌝ }
 {
@@ -132,7 +132,7 @@ fn is_child(image: &[u8], design: Design, s: usize, q: usize) -> bool
     (q != 0) & (q < design.states) & (Design::parent(image, at, q) == s)
 }
 
-fn has_child(image: &[u8], design: Design, s: usize) -> bool
+pub fn has_child(image: &[u8], design: Design, s: usize) -> bool
     requires { ⌜ Describes (now image) design ⌝ }
     ensures { λ r. ⌜ r ≡ hasChild (designOf (now (image .entry))) s ⌝ }
 {

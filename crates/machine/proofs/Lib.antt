@@ -1,4 +1,5 @@
--- Laws of the words of a register area, of the values of expressions, and of the effects of commands.
+-- Laws of the words of a register area, of the values of expressions, of the effects of commands, and of the targets of states.
 pub mod WordRules
 pub mod EvaluateRules
 pub mod ExecuteRules
+pub mod TargetRules

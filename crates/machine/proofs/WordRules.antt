@@ -46,7 +46,7 @@ four-behind :
     → four (a ∷ b ∷ c ∷ e ∷ more) i j k l v ≡ a ∷ b ∷ c ∷ e ∷ four more i′ j′ k′ l′ v
 four-behind a b c e more v p q r s = rw (p, q, r, s)
 
-put-behind : (a b c e : ℕ) (more : List ℕ) (r v : ℕ) → putWord (a ∷ b ∷ c ∷ e ∷ more) (suc r) v ≡ a ∷ b ∷ c ∷ e ∷ putWord more r v
+pub put-behind : (a b c e : ℕ) (more : List ℕ) (r v : ℕ) → putWord (a ∷ b ∷ c ∷ e ∷ more) (suc r) v ≡ a ∷ b ∷ c ∷ e ∷ putWord more r v
 put-behind a b c e more r v =
     let first : 4 * suc r ≡ suc (suc (suc (suc (4 * r)))) = omega arith in
     let second : 4 * suc r + 1 ≡ suc (suc (suc (suc (4 * r + 1)))) = omega arith in

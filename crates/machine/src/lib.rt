@@ -1,4 +1,6 @@
-// One machine: the words of its register area, the values of expressions, and the effects of commands.
+// One machine: the words of its register area, the values of expressions, the effects of commands, and
+// the targets of states.
 pub mod evaluate;
 pub mod execute;
+pub mod targets;
 pub mod words;
