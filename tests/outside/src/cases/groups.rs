@@ -1,6 +1,6 @@
 //! The worked design with two groups, and small designs that leak.
 
-use super::{judged, Areas, ACCEPTED};
+use super::{judged, three_states, Areas, ACCEPTED};
 use crate::designs::two_groups;
 use crate::table::Table;
 
@@ -50,17 +50,9 @@ fn timer_counted_by_a_high_state_is_refused() {
     assert_eq!(judged(&table), (10, usize::from(count)));
 }
 
-/// Root falls; state 1 with the given body, state 2 beside it; r0 low, r1 high.
+/// `three_states` with a child below state 1, so that its body may fall.
 fn branching_state(body: impl Fn(&mut Table) -> u16) -> Table {
-    let mut table = Table::new(&[3, 2]);
-    table.inner(0, 0);
-    table.port(1, 0);
-    let fall = table.fall();
-    table.state(0, 0, fall);
-    let body = body(&mut table);
-    table.state(0, 0, body);
-    let go = table.goto(2);
-    table.state(0, 0, go);
+    let mut table = three_states(body);
     let go = table.goto(3);
     table.state(1, 0, go);
     table

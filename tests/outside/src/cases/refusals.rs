@@ -1,24 +1,10 @@
 //! The examples of "When the box says no", 1 to 12, and the decided points on them.
 
-use super::{judged, ACCEPTED};
+use super::{judged, three_states, ACCEPTED};
 use crate::designs::{lease, smallest};
 use crate::reference;
 use crate::reference::limits::LARGEST_IMAGE;
 use crate::table::Table;
-
-/// Root falls, states 1 and 2 below it, of label 0; r0 and r1 with labels 0 and 1.
-fn three_states(body: impl Fn(&mut Table) -> u16) -> Table {
-    let mut table = Table::new(&[3, 2]);
-    table.inner(0, 0);
-    table.inner(1, 0);
-    let fall = table.fall();
-    table.state(0, 0, fall);
-    let body = body(&mut table);
-    table.state(0, 0, body);
-    let go = table.goto(2);
-    table.state(0, 0, go);
-    table
-}
 
 #[test]
 fn refusal_1() {
