@@ -26,7 +26,7 @@ use Rattle.design.specs.Records.{nodeIn, stateIn}
 use Rattle.design.specs.Describes.{Describes}
 use Rattle.design.proofs.Laws.{states-count, commands-count, command-inside, state-in, command-in}
 use Rattle.bodies.specs.declared.shape.Judged.{Judged}
-use Rattle.bodies.specs.Shapes.{judgedOf, sequencedOf, branchedOf, CommandsKept, Judging, ShapeKnown}
+use Rattle.bodies.specs.Shapes.{judgedOf, sequencedOf, branchedOf, Judging, ShapeKnown}
 
 -- ---- the lower of two finds
 pub lower-only : {a b : Found} {i : ℕ} → a ≡ At i → b ≡ Nowhere → At i ≡ lower a b

@@ -1,27 +1,18 @@
 -- What the pass for refusals 10 to 12 knows at a node, and contexts as masks: bit l of a mask is set where the whole context flows to label l.
 use Prim.Native.Nat.{ℕ, _/_, _%_, _^_, _<_}
 use mathlib.Core.Path.{_≡_}
-use mathlib.Core.Bool.{true}
 use mathlib.Core.List.{List, []}
 use lib.Dec.{eqb}
 use lib.ListN.{length}
-use Rattle.model.specs.Image.{designOf, commandAt, Design as Table}
+use Rattle.model.specs.Image.{designOf, commandAt}
 use Rattle.model.specs.Lattice.{allFlowTo}
-use Rattle.model.specs.States.{registerKept}
-use Rattle.model.specs.Kinds.{expressionKept}
 use Rattle.design.specs.declared.Design.{Design}
 use Rattle.design.specs.Describes.{Describes}
-use Rattle.bodies.specs.Shapes.{StatesKept, CommandsKept}
+use Rattle.design.specs.Kept.{RegistersKept, StatesKept, CommandsKept, ExpressionsKept}
 
 pub record MaskOf (rows context : List ℕ) (mask : ℕ) : Type 0 where
   pub small : mask < 65536
   pub bits : (l : ℕ) → l < length rows → eqb (mask / 2 ^ l % 2) 1 ≡ allFlowTo rows context l
-
-pub record RegistersKept (d : Table) : Type 0 where
-  pub kept : (r : ℕ) → r < length (d .registers) → registerKept d r ≡ true
-
-pub record ExpressionsKept (d : Table) : Type 0 where
-  pub kept : (n : ℕ) → n < length (d .expressions) → expressionKept d n ≡ true
 
 -- what the passes up to refusal 5 have established, and the flow pass needs
 pub record FlowKnown (image : List ℕ) (x : Design) : Type 0 where

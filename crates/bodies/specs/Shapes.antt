@@ -1,18 +1,17 @@
 -- What the pass for refusal 8 knows and finds at a command.
 use Prim.Native.Nat.{ℕ, _<_}
 use mathlib.Core.Path.{_≡_}
-use mathlib.Core.Bool.{Bool, true, _&&_, not, Bool·beq}
+use mathlib.Core.Bool.{Bool, _&&_, not, Bool·beq}
 use mathlib.Core.List.{List}
-use lib.ListN.{length}
 use Rattle.bodies.specs.declared.shape.Judged.{Judged}
 use Rattle.model.specs.Indices.{lower, lowestOf}
 use Rattle.model.specs.Image.{designOf, Design as Table}
-use Rattle.model.specs.States.{stateKept, hasChild}
-use Rattle.model.specs.Kinds.{commandKept}
+use Rattle.model.specs.States.{hasChild}
 use Rattle.model.specs.Trees.{Cmd}
 use Rattle.model.specs.Shape.{transfers, chargedUnless, shapeFaults}
 use Rattle.design.specs.declared.Design.{Design}
 use Rattle.design.specs.Describes.{Describes}
+use Rattle.design.specs.Kept.{StatesKept, CommandsKept}
 
 -- whether a command transfers, and the lowest node at which a shape rule of it fails
 unfoldable pub judgedOf : Table → ℕ → Cmd → Judged
@@ -29,10 +28,6 @@ branchedOf n p q =
       lowest = lower (lowestOf (chargedUnless (Bool·beq (p .transfers) (q .transfers)) n)) (lower (p .lowest) (q .lowest));
     }
 
--- every command's node keeps its rule
-pub record CommandsKept (d : Table) : Type 0 where
-  pub kept : (n : ℕ) → n < length (d .commands) → commandKept d n ≡ true
-
 -- what is known where command n of state s is judged
 pub record Judging (image : List ℕ) (x : Design) (s n : ℕ) (falls : Bool) : Type 0 where
   pub describes : Describes image x
@@ -40,10 +35,6 @@ pub record Judging (image : List ℕ) (x : Design) (s n : ℕ) (falls : Bool) : 
   pub state : s < x .states
   pub node : n < x .commands
   pub children : falls ≡ hasChild (designOf image) s
-
--- every state's record keeps its rule
-pub record StatesKept (d : Table) : Type 0 where
-  pub kept : (s : ℕ) → s < length (d .states) → stateKept d s ≡ true
 
 -- what the passes up to refusal 5 have established, and the shape pass needs
 pub record ShapeKnown (image : List ℕ) (x : Design) : Type 0 where

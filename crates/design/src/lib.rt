@@ -1,5 +1,7 @@
 // The design table in bytes: its limits, its directory, and one accessor for each field. No code of
 // another crate knows where a byte stands.
+pub mod words;
+
 ghost use Prim.Native.Nat.{ℕ, _+_, _*_, _/_, _%_, _<_, _≤_};
 ghost use mathlib.Core.Bool.{_&&_};
 ghost use lib.Dec.{eqb, leb};

@@ -19,7 +19,7 @@ use Rattle.design.specs.Records.{nodeIn, constantIn}
 use Rattle.design.proofs.Laws.{expressions-count, expression-in}
 use Rattle.bodies.specs.Flows.{Reading}
 use Rattle.bodies.proofs.FlowRules.{read-register, part-a-falls, part-b-falls}
-use Rattle.machine.proofs.WordRules.{words-at}
+use Rattle.design.proofs.WordRules.{words-at}
 
 -- ---- operations
 -- the operation of a kind

@@ -21,9 +21,9 @@ use Rattle.design.specs.declared.Design.{Design}
 use Rattle.design.specs.Records.{nodeIn}
 use Rattle.design.proofs.Laws.{registers-count, commands-count, expressions-count, command-inside, command-in}
 use Rattle.bodies.specs.Flows.{Reading}
-use Rattle.machine.specs.Words.{putWord}
+use Rattle.design.specs.Words.{putWord}
 use Rattle.machine.specs.Executions.{Executing, executedAs}
-use Rattle.machine.proofs.WordRules.{words-put, length-put}
+use Rattle.design.proofs.WordRules.{words-put, length-put}
 
 -- a kind that is no assignment, sequence, fall, goto or if is a skip
 skip-kind : (d : Table) (n k : ℕ) (x : Node) → (k ≡ 1 → ⊥) → (k ≡ 2 → ⊥) → (k ≡ 3 → ⊥) → (k ≡ 4 → ⊥) → (k ≡ 5 → ⊥) → CommandHolds d n (commandKind k) x → commandKind k ≡ skips

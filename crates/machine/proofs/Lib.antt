@@ -1,5 +1,4 @@
--- Laws of the words of a register area, of the values of expressions, of the effects of commands, and of the targets of states.
-pub mod WordRules
+-- Laws of the values of expressions, of the effects of commands, and of the targets of states.
 pub mod EvaluateRules
 pub mod ExecuteRules
 pub mod TargetRules

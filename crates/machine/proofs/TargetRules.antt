@@ -27,9 +27,9 @@ use Rattle.design.specs.declared.Design.{Design}
 use Rattle.design.specs.Records.{registerIn, stateIn}
 use Rattle.design.specs.Describes.{Describes}
 use Rattle.design.proofs.Laws.{states-count, registers-count, state-in, register-in}
-use Rattle.bodies.specs.Shapes.{StatesKept}
-use Rattle.machine.specs.Words.{putWord}
-use Rattle.machine.proofs.WordRules.{put-behind}
+use Rattle.design.specs.Kept.{StatesKept}
+use Rattle.design.specs.Words.{putWord}
+use Rattle.design.proofs.WordRules.{put-behind}
 
 -- ---- the lowest child
 same-index : (i j : ℕ) → (i < j → ⊥) → (j < i → ⊥) → i ≡ j

@@ -1,3 +1,2 @@
--- What the contracts of this crate cite: a register area with one word written, and what is known where a command runs.
-pub mod Words
+-- What the contracts of this crate cite: what is known where a command runs.
 pub mod Executions

@@ -1,5 +1,5 @@
 // The value of an expression, by recursion over parts.
-use crate::words::word;
+use design::words::word;
 use design::Design;
 ghost use Prim.Native.Nat.{_*_, _≤_};
 ghost use mathlib.Core.Path.{_≡_};

@@ -1,6 +1,6 @@
 // What a command does to the registers, and what it comes to, by recursion over parts.
 use crate::evaluate::evaluate;
-use crate::words::put_word;
+use design::words::put_word;
 use design::Design;
 use model::Ending;
 use model::Outcome;

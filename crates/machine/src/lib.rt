@@ -1,6 +1,4 @@
-// One machine: the words of its register area, the values of expressions, the effects of commands, and
-// the targets of states.
+// One machine: the values of expressions, the effects of commands, and the targets of states.
 pub mod evaluate;
 pub mod execute;
 pub mod targets;
-pub mod words;

@@ -1,5 +1,5 @@
 // The target area: one byte for each state. And what reset writes.
-use crate::words::put_word;
+use design::words::put_word;
 use bodies::shape::has_child;
 use bodies::shape::is_child;
 use design::Design;
@@ -14,7 +14,7 @@ ghost use Rattle.model.specs.States.{isChild, defaultTarget, within as withinOf
 ghost use Rattle.model.specs.Values.{bytesOf};
 ghost use Rattle.model.specs.Machine.{targetSound, resetAreas, cleared, goneTo};
 ghost use Rattle.design.specs.Describes.{Describes};
-ghost use Rattle.bodies.specs.Shapes.{StatesKept};
+ghost use Rattle.design.specs.Kept.{StatesKept};
 
 // The lowest child of state s, or s where it has none.
 fn default_target(image: &[u8], design: Design, s: usize) -> usize

@@ -30,8 +30,9 @@ use Rattle.model.proofs.Exact.Directories.{directory-iff}
 use Rattle.design.specs.declared.Design.{Design}
 use Rattle.design.specs.Describes.{Describes}
 use Rattle.design.proofs.Laws.{expressions-count}
-use Rattle.bodies.specs.Shapes.{StatesKept, CommandsKept, ShapeKnown}
-use Rattle.bodies.specs.Flows.{RegistersKept, ExpressionsKept, FlowKnown}
+use Rattle.design.specs.Kept.{RegistersKept, StatesKept, CommandsKept, ExpressionsKept}
+use Rattle.bodies.specs.Shapes.{ShapeKnown}
+use Rattle.bodies.specs.Flows.{FlowKnown}
 use Rattle.rules.specs.Stages.{fromChildren, fromShape, fromDepths, fromUses, fromNodes, fromStates, fromRegisters, fromLabels}
 
 -- ---- a pass, and all that follow

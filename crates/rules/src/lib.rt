@@ -12,8 +12,8 @@ ghost use Rattle.model.specs.Kinds.{commandKept, expressionKept};
 ghost use Rattle.model.specs.Nodes.{commandUsedOnce, expressionUsedOnce, commandDepthKept, expressionDepthKept};
 ghost use Rattle.model.specs.Verdict.{commandsFirst, lowestNode, verdict as verdictOf};
 ghost use Rattle.design.specs.Describes.{Describes};
-ghost use Rattle.bodies.specs.Shapes.{StatesKept};
-ghost use Rattle.bodies.specs.Flows.{RegistersKept, FlowKnown};
+ghost use Rattle.design.specs.Kept.{RegistersKept, StatesKept};
+ghost use Rattle.bodies.specs.Flows.{FlowKnown};
 ghost use Rattle.rules.specs.Stages.{fromChildren, fromShape, fromDepths, fromUses, fromNodes, fromStates, fromRegisters, fromLabels};
 
 // A command's number, else an expression's place.

@@ -14,7 +14,7 @@ use Rattle.design.proofs.Design.kind.Reads as kind-reads
 use Rattle.design.proofs.Design.part_a.Reads as part-a-reads
 use Rattle.design.proofs.Design.part_b.Reads as part-b-reads
 use Rattle.machine.proofs.evaluate.apply.Reads as apply-reads
-use Rattle.machine.proofs.words.word.Reads as word-reads
+use Rattle.design.proofs.words.word.Reads as word-reads
 use Rattle.machine.proofs.evaluate.+evaluate.{statement}
 use Rattle.machine.proofs.evaluate.+evaluate.Tie.{close}
 

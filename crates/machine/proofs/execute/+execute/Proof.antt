@@ -12,7 +12,7 @@ use Rattle.design.proofs.Design.part_a.Reads as part-a-reads
 use Rattle.design.proofs.Design.part_b.Reads as part-b-reads
 use Rattle.design.proofs.Design.part_c.Reads as part-c-reads
 use Rattle.machine.proofs.evaluate.evaluate.Reads as evaluate-reads
-use Rattle.machine.proofs.words.put_word.Reads as put-word-reads
+use Rattle.design.proofs.words.put_word.Reads as put-word-reads
 use Rattle.machine.proofs.execute.+execute.{statement}
 use Rattle.machine.proofs.execute.+execute.Tie.{close}
 

@@ -7,7 +7,7 @@ use Rattle.machine.proofs.targets.reset_registers.Tie as tie
 use Rattle.machine.proofs.targets.reset_registers.Reads as reads
 use Rattle.machine.proofs.targets.reset_registers.Lts as lts
 use Rattle.design.proofs.Design.register_reset.Reads as register-reset-reads
-use Rattle.machine.proofs.words.put_word.Reads as put-word-reads
+use Rattle.design.proofs.words.put_word.Reads as put-word-reads
 
 abbrev Inv-loop : tie.InvT-loop
 Inv-loop image design registers₀ r₀ registers r = ResetSo (designOf image) registers₀ r registers × (r ≤ design .registers)

@@ -1,9 +1,9 @@
-use Rattle.machine.proofs.WordRules.{inside-second, inside-third, inside-fourth}
+use Rattle.design.proofs.WordRules.{inside-second, inside-third, inside-fourth}
 use borrow.Author.Needs.{needs}
-use Rattle.machine.proofs.words.put_word.Statement.{statement}
-use Rattle.machine.proofs.words.put_word.Tie as tie
-use Rattle.machine.proofs.words.put_word.Reads as reads
-use Rattle.machine.proofs.words.put_word.Lts as lts
+use Rattle.design.proofs.words.put_word.Statement.{statement}
+use Rattle.design.proofs.words.put_word.Tie as tie
+use Rattle.design.proofs.words.put_word.Reads as reads
+use Rattle.design.proofs.words.put_word.Lts as lts
 
 mul-at : tie.Need-mul-at
 mul-at c = search needs

@@ -11,7 +11,7 @@ use Rattle.model.specs.Image.{byteAt, word32At, recordsOf}
 use Rattle.model.specs.Values.{wordsOf, bytesOf}
 use Rattle.model.proofs.Laws.Words.{words-of-bytes}
 use Rattle.model.proofs.Laws.Images.{record-at}
-use Rattle.machine.specs.Words.{putWord}
+use Rattle.design.specs.Words.{putWord}
 
 -- ---- reading
 byte-behind : (k : ℕ) (bytes : List ℕ) (i j : ℕ) → k + i ≡ j → byteAt (drop k bytes) i ≡ byteAt bytes j

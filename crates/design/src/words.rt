@@ -3,7 +3,7 @@ ghost use Prim.Native.Nat.{_+_, _*_, _<_, _≤_};
 ghost use mathlib.Core.Path.{_≡_};
 ghost use lib.ListN.{length};
 ghost use Rattle.model.specs.Image.{word32At};
-ghost use Rattle.machine.specs.Words.{putWord};
+ghost use Rattle.design.specs.Words.{putWord};
 
 // A byte as a value.
 fn wide(b: u8) -> u32

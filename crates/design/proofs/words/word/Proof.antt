@@ -1,10 +1,10 @@
-use Rattle.machine.proofs.WordRules.{word-of}
+use Rattle.design.proofs.WordRules.{word-of}
 use borrow.Author.Needs.{needs}
-use Rattle.machine.proofs.words.word.Statement.{statement}
-use Rattle.machine.proofs.words.word.Tie as tie
-use Rattle.machine.proofs.words.word.Reads as reads
-use Rattle.machine.proofs.words.word.Lts as lts
-use Rattle.machine.proofs.words.wide.Reads as wide-reads
+use Rattle.design.proofs.words.word.Statement.{statement}
+use Rattle.design.proofs.words.word.Tie as tie
+use Rattle.design.proofs.words.word.Reads as reads
+use Rattle.design.proofs.words.word.Lts as lts
+use Rattle.design.proofs.words.wide.Reads as wide-reads
 
 mul-at : tie.Need-mul-at
 mul-at c = search needs
