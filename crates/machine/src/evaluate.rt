@@ -1,6 +1,6 @@
 // The value of an expression, by recursion over parts.
-use design::words::word;
 use design::Design;
+use design::words::word;
 ghost use Prim.Native.Nat.{_*_, _≤_};
 ghost use mathlib.Core.Path.{_≡_};
 ghost use lib.ListN.{length};
@@ -49,8 +49,9 @@ pub fn evaluate(image: &[u8], design: Design, registers: &[u8], e: usize) -> u32
         2..=8 => {
             let a = Design::part_a(image, at, e);
             let b = Design::part_b(image, at, e);
-            let x = evaluate(image, design, registers, a);
-            let y = evaluate(image, design, registers, b);
+            // A reborrow keeps the slice in registers of the processor; image itself would go through memory.
+            let x = evaluate(&*image, design, &*registers, a);
+            let y = evaluate(&*image, design, &*registers, b);
             apply(kind, x, y)
         }
         _ => Design::constant(image, at, e),

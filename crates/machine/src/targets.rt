@@ -1,8 +1,8 @@
 // The target area: one byte for each state. And what reset writes.
-use design::words::put_word;
 use bodies::shape::has_child;
 use bodies::shape::is_child;
 use design::Design;
+use design::words::put_word;
 use model::Found;
 ghost use Prim.Native.Nat.{_*_, _<_};
 ghost use mathlib.Core.Path.{_≡_};

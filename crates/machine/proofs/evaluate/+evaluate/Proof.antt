@@ -48,10 +48,10 @@ evaluate-part-b-requires : (t : ℕ) → evaluate-lts.Need-part-b-requires (eval
 evaluate-part-b-requires t c κs = search (evaluate-laws, expression-node-inside, needs)
 
 evaluate-evaluate-requires : (t : ℕ) → evaluate-lts.Need-evaluate-requires (evaluate-calls t) (evaluate-at t) evaluate.Post
-evaluate-evaluate-requires t c κs = (search part-a-falls, search (part-a-reading, needs))
+evaluate-evaluate-requires t c κs = (search part-a-falls, (search part-a-reading, search needs))
 
 evaluate-evaluate-requires-2 : (t : ℕ) → evaluate-lts.Need-evaluate-requires-2 (evaluate-calls t) (evaluate-at t) evaluate.Post
-evaluate-evaluate-requires-2 t c κs = (search part-b-falls, search (part-b-reading, needs))
+evaluate-evaluate-requires-2 t c κs = (search part-b-falls, (search (part-b-reading (c .before .before .before .before .before .before .before .before .before .pre .1 .0)), search needs))
 
 evaluate-apply-requires : (t : ℕ) → evaluate-lts.Need-apply-requires (evaluate-calls t) (evaluate-at t) evaluate.Post
 evaluate-apply-requires t c κs = search (evaluate-laws, expression-node-inside, needs)
