@@ -1,3 +1,4 @@
--- Laws that tie the accessors and the directory to the meaning. The crates above cite them.
+-- Laws that tie the accessors and the directory to the meaning, and of words and reset. The crates above cite them.
 pub mod Laws
 pub mod WordRules
+pub mod ResetRules

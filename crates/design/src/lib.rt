@@ -1,5 +1,6 @@
 // The design table in bytes: its limits, its directory, and one accessor for each field. No code of
 // another crate knows where a byte stands.
+pub mod reset;
 pub mod words;
 
 ghost use Prim.Native.Nat.{ℕ, _+_, _*_, _/_, _%_, _<_, _≤_};
@@ -7,11 +8,15 @@ ghost use mathlib.Core.Bool.{_&&_};
 ghost use lib.Dec.{eqb, leb};
 ghost use mathlib.Core.Path.{_≡_};
 ghost use lib.ListN.{length};
-ghost use Rattle.model.specs.Image.{word16At, word32At, offsetsKept, directoryKept};
+ghost use Rattle.model.specs.Image.{word16At, word32At, offsetsKept, directoryKept, designOf};
 ghost use Rattle.model.specs.Limits.{directoryLength, labelLength, registerLength, stateLength, nodeLength, labelsMax, registersMax, statesMax, commandsMax, expressionsMax, depthMax, expressionPlace};
 ghost use Rattle.model.specs.Rules.{DirectoryKeeps};
+ghost use Rattle.model.specs.Machine.{resetAreas};
+ghost use Rattle.model.specs.Calls.{lentOf};
 ghost use Rattle.design.specs.Records.{rowIn, registerIn, stateIn, nodeIn, constantIn};
 ghost use Rattle.design.specs.Describes.{Describes};
+ghost use Rattle.design.specs.Kept.{StatesKept};
+ghost use Rattle.design.specs.Resets.{lends};
 
 // What an image's directory says: how many records each section has, and where it begins. The
 // labels begin behind the directory.
@@ -266,5 +271,14 @@ impl Design {
             commands_at: offset(image, 3),
             expressions_at: offset(image, 4),
         }
+    }
+
+    // Reset writes the reset values and default children.
+    pub fn reset(self, image: &[u8], registers: &mut [u8], targets: &mut [u8])
+        requires { ⌜ Describes (now image) self × StatesKept (designOf (now image)) × (length (now registers) ≡ 4 * self .registers) × (length (now targets) ≡ self .states) ⌝ }
+        ensures { λ _. ⌜ lends (now (registers .exit)) (now (targets .exit)) ≡ lentOf (resetAreas (designOf (now (image .entry)))) ⌝ }
+    {
+        reset::reset_registers(image, self, registers);
+        reset::default_targets(image, self, targets);
     }
 }
