@@ -81,7 +81,7 @@ module _ (d : Design) where
   unfolding goneTo
   gone-parent t targets l = getD-set-same (cleared d t targets) (parent d t) t 0 (rw (length-cleared t targets) l)
 
-  gone-other : (t : ℕ) (targets : List ℕ) (q : ℕ) → q < length targets → q ≢ parent d t → getD (goneTo d t targets) q 0 ≡ cond (within d t q) (defaultTarget d q) (getD targets q 0)
+  pub gone-other : (t : ℕ) (targets : List ℕ) (q : ℕ) → q < length targets → q ≢ parent d t → getD (goneTo d t targets) q 0 ≡ cond (within d t q) (defaultTarget d q) (getD targets q 0)
   unfolding goneTo
   gone-other t targets q l other = getD-set-other (cleared d t targets) (parent d t) q t 0 other ∙ cleared-at t targets q l
 
