@@ -1,64 +1,121 @@
--- The targets of states: the lowest child, tables that a loop fills, the way up to a state; and a register area that a loop fills.
-use Prim.Native.Nat.{ℕ, zero, suc, _+_, _*_, _/_, _%_, _≤_, _<_}
+-- The targets of states: a state is its own default target exactly where it has no child; and a state with a higher number than t is within t exactly where
+-- its parent is, which has a lower number, so one pass upwards marks all that is within t.
+use Prim.Native.Nat.{ℕ, zero, suc, _+_, _≤_, _<_}
 use mathlib.Core.Path.{_≡_, refl, sym, _∙_, ap}
-use mathlib.Core.Logic.{_⊎_, inl, inr}
+use mathlib.Core.Logic.{_⊎_, inl, inr, _≢_}
 use mathlib.Core.Bool.{Bool, true, false, _&&_, _||_, not, cond}
-use mathlib.Core.List.{List, [], _∷_}
+use mathlib.Core.List.{List}
 use native.Mathlib.Omega.{arith}
 use native.Mathlib.Numerals.{add-one}
-use native.Mathlib.Decide.{ℕ-discrete}
+use native.Mathlib.Decide.{decLt, ℕ-discrete}
 use lib.Dec.{eqb}
-use lib.ListN.{length, getD, set, length-set, length-map, List·getD-map}
+use lib.ListN.{length, getD, set, replicate, length-set, length-replicate, getD-replicate}
 use lib.Seq.{getD-set-same, getD-set-other, ext-getD}
 use borrow.Author.Tests.{eq-eqb, ne-eqb}
-use Rattle.model.specs.declared.Found.the-variants.{At}
-use Rattle.model.specs.Indices.{lowest, tabulate}
-use Rattle.model.specs.Image.{Design as Table, States, Register, State, designOf, registerAt}
-use Rattle.model.specs.States.{foundOr, parent, isChild, hasChild, defaultTarget, within}
-use Rattle.model.specs.Values.{bytesOf}
-use Rattle.model.specs.Machine.{resetAreas, targetSound, cleared, goneTo}
-use Rattle.model.proofs.Laws.Booleans.{true-or-false, false-unless-true}
-use Rattle.model.proofs.Laws.Indices.{extend, nothing-below-zero, lowest-nowhere, lowest-at, lowest-found, length-tabulate, getD-tabulate, recursively-step, onlyBelow, only-below-at}
-use Rattle.model.proofs.Laws.Passes.{Missed}
-use Rattle.model.proofs.Laws.States.{child-of, default-cases}
+use Rattle.model.specs.Indices.{tabulate}
+use Rattle.model.specs.Image.{Design as Table, States, State, designOf}
+use Rattle.model.specs.States.{parent, isChild, hasChild, defaultTarget, within}
+use Rattle.model.specs.Machine.{targetSound, cleared, goneTo}
+use Rattle.model.proofs.Laws.Booleans.{true-or-false, false-unless-true, cond-true, cond-false}
+use Rattle.model.proofs.Laws.Indices.{extend, nothing-below-zero, length-tabulate, getD-tabulate, recursively-step, onlyBelow, only-below-at}
+use Rattle.model.proofs.Laws.States.{child-of, has-child, default-cases}
 use Rattle.model.proofs.Laws.Gotos.{within-self, within-below, length-cleared}
 use Rattle.model.proofs.Exact.Records.{state-iff}
 use Rattle.design.specs.declared.Design.{Design}
-use Rattle.design.specs.Records.{registerIn, stateIn}
+use Rattle.design.specs.Records.{stateIn}
 use Rattle.design.specs.Describes.{Describes}
-use Rattle.design.proofs.Laws.{states-count, registers-count, state-in, register-in}
 use Rattle.design.specs.Kept.{StatesKept}
-use Rattle.design.specs.Words.{putWord}
-use Rattle.design.proofs.WordRules.{put-behind}
+use Rattle.design.specs.Resets.{Defaults}
+use Rattle.design.proofs.Laws.{states-count, state-in}
 
--- ---- the lowest child
-same-index : (i j : ℕ) → (i < j → ⊥) → (j < i → ⊥) → i ≡ j
-same-index i j h k = omega arith
+-- ---- bounds
+pub states-few : {image : List ℕ} {x : Design} → Describes image x → x .states ≤ 64
+states-few d = omega (arith, d .states, d .directory .sections States)
 
-lowest-is : (test : ℕ → Bool) (n i : ℕ) → i < n → test i ≡ true → Missed test i → lowest test n ≡ At i
-lowest-is test n i l t m =
-    let found = lowest-found test n i l t in
-    let at = lowest-at test n (found .0) (found .1) in
-    let same =
-    same-index
-    (found .0)
-    i
-    (λ h. true-or-false (test (found .0)) (at .passes) (m .fails (found .0) h))
-    (λ h. true-or-false (test i) t (at .none-lower i h))
-    in
-    found .1 ∙ ap At same
+pub state-few : {image : List ℕ} {x : Design} {s : ℕ} → Describes image x → s < x .states → s < 64
+state-few d l = let few = states-few d in omega arith
 
-pub default-lowest : {image : List ℕ} {x : Design} {q : ℕ} {b : Bool} (s : ℕ) → Describes image x → Missed (isChild (designOf image) s) q → q < x .states → b ≡ isChild (designOf image) s q → b ≡ true → q ≡ defaultTarget (designOf image) s
-unfolding defaultTarget
-default-lowest {image} {q = q} s d m l e h =
-    let count = states-count d in
-    sym (ap (foundOr s) (lowest-is (isChild (designOf image) s) (length (designOf image .states)) q (omega arith) (sym e ∙ h) m))
+pub state-fits : {image : List ℕ} {x : Design} {s : ℕ} → Describes image x → s < x .states → s < 256
+state-fits d l = let few = states-few d in omega arith
 
-pub default-self : {image : List ℕ} {x : Design} {q : ℕ} (s : ℕ) → Describes image x → Missed (isChild (designOf image) s) q → x .states ≤ q → s ≡ defaultTarget (designOf image) s
-unfolding defaultTarget
-default-self {image} {q = q} s d m l =
-    let count = states-count d in
-    sym (ap (foundOr s) (lowest-nowhere (isChild (designOf image) s) (length (designOf image .states)) (λ k h. m .fails k (omega arith))))
+module _ {image : List ℕ} {x : Design} where
+  parent-is : {q p : ℕ} → Describes image x → q < x .states → p ≡ stateIn image (x .«states_at») q .parent → p ≡ parent (designOf image) q
+  parent-is d l e = e ∙ ap (λ (y : State). y .parent) (state-in d l)
+
+  pub parent-inside : {s p : ℕ} → Describes image x → StatesKept (designOf image) → s < x .states → p ≡ stateIn image (x .«states_at») s .parent → p < x .states
+  parent-inside {s} {p} d kept l e = go (ℕ-discrete s 0)
+    where
+      go : Dec (s ≡ 0) → p < x .states
+      go (yes z) =
+          let count = states-count d in
+          let is = parent-is d l e in
+          let root = state-iff (designOf image) s .0 (kept .kept s (omega arith)) .root-parent z in
+          omega arith
+      go (no z) =
+          let count = states-count d in
+          let is = parent-is d l e in
+          let below = state-iff (designOf image) s .0 (kept .kept s (omega arith)) .parent-below z in
+          omega arith
+
+  pub parent-few : {s p : ℕ} → Describes image x → StatesKept (designOf image) → s < x .states → p ≡ stateIn image (x .«states_at») s .parent → p < 64
+  parent-few d kept l e = state-few d (parent-inside d kept l e)
+
+  -- an entry of a table of default targets
+  pub entry-inside : {table : List ℕ} {s : ℕ} → Describes image x → Defaults (designOf image) table → s < x .states → s < length table
+  entry-inside d t l = let count = states-count d in let long = t .long in omega arith
+
+-- ---- the tree of states
+module _ (d : Table) where
+  no-child : (s q : ℕ) → hasChild d s ≡ false → isChild d s q ≡ false
+  no-child s q h = false-unless-true (isChild d s q) (λ e. true-or-false (hasChild d s) (has-child d s q (child-of d s q e)) h)
+
+  module _ (kept : StatesKept d) where
+    parent-lower : (s : ℕ) → s < length (d .states) → s ≢ 0 → parent d s < s
+    parent-lower s l z = state-iff d s .0 (kept .kept s l) .parent-below z
+
+    -- a state that is its own default target has no child
+    alone : (s : ℕ) → s < length (d .states) → defaultTarget d s ≡ s → hasChild d s ≡ false
+    alone s l e = go (default-cases d s)
+      where
+        go : (isChild d s (defaultTarget d s) ≡ true) ⊎ ((hasChild d s ≡ false) × (defaultTarget d s ≡ s)) → hasChild d s ≡ false
+        go (inl h) =
+            let child = child-of d s s (rw e at h) in
+            let same = child .parent-is in
+            let lower = parent-lower s l (child .no-root) in
+            absurd (omega arith)
+        go (inr h) = h .0
+
+  -- one that is not has a child
+  not-alone : (s : ℕ) → (defaultTarget d s ≡ s → ⊥) → hasChild d s ≡ true
+  not-alone s e = go (default-cases d s)
+    where
+      go : (isChild d s (defaultTarget d s) ≡ true) ⊎ ((hasChild d s ≡ false) × (defaultTarget d s ≡ s)) → hasChild d s ≡ true
+      go (inl h) = has-child d s (defaultTarget d s) (child-of d s (defaultTarget d s) h)
+      go (inr h) = absurd (e (h .1))
+
+  within-step : (t q : ℕ) → within d t q ≡ (eqb q t || (not (eqb q 0) && onlyBelow false q (within d t) (parent d q)))
+  unfolding within
+  within-step t q = recursively-step false (λ p above. eqb p t || (not (eqb p 0) && above (parent d p))) q
+
+  -- a state with a higher number than t is within t exactly where its parent is
+  within-parent : (t q : ℕ) → t < q → parent d q < q → within d t q ≡ within d t (parent d q)
+  within-parent t q l k =
+      rw (within-step t q, ne-eqb q t (λ e. omega arith), ne-eqb q 0 (λ e. omega arith), only-below-at false q (parent d q) (within d t) k)
+
+  -- only t is within t where it has no child: the way up to t ends with a child of it
+  module _ (kept : StatesKept d) (t : ℕ) (h : hasChild d t ≡ false) where
+    within-alone : (n q : ℕ) → q < n → q < length (d .states) → q ≢ t → within d t q ≡ false
+    within-alone zero q l k other = absurd (nothing-below-zero l)
+    within-alone (suc n) q l k other = go (within-alone n) (decLt q t) (ℕ-discrete (parent d q) t)
+      where
+        go : ((p : ℕ) → p < n → p < length (d .states) → p ≢ t → within d t p ≡ false) → Dec (q < t) → Dec (parent d q ≡ t) → within d t q ≡ false
+        go earlier (yes below) at-parent = within-below d t q below
+        go earlier (no above) (yes e) =
+            absurd (true-or-false (hasChild d t) (has-child d t q (record { no-root = λ z. other (omega arith); state = k; parent-is = e })) h)
+        go earlier (no above) (no e) =
+            let higher : t < q = omega arith in
+            let lower = parent-lower kept q k (λ z. omega arith) in
+            within-parent t q higher lower ∙ earlier (parent d q) (omega arith) (omega arith) e
 
 -- ---- sound targets
 pub no-state-no-child : {image : List ℕ} {x : Design} {q : ℕ} (s : ℕ) → Describes image x → x .states ≤ q → false ≡ isChild (designOf image) s q
@@ -66,27 +123,26 @@ no-state-no-child {image} {q = q} s d l =
     let count = states-count d in
     sym (false-unless-true (isChild (designOf image) s q) (λ e. let state = child-of (designOf image) s q e .state in omega arith))
 
-pub sound-rule : {image : List ℕ} {x : Design} (targets : List ℕ) {q : ℕ} {a b : Bool} (s : ℕ) → Describes image x → q ≡ getD targets s 0 → a ≡ isChild (designOf image) s q → b ≡ hasChild (designOf image) s
-    → (a || (not b && eqb q s)) ≡ targetSound (designOf image) targets s
-unfolding targetSound
-sound-rule targets s d q a b = rw (a, b, q)
+or-false : (b : Bool) → (b || false) ≡ b
+or-false true = refl
+or-false false = refl
 
--- ---- bounds
-pub states-few : {image : List ℕ} {x : Design} → Describes image x → x .states ≤ 64
-states-few d = omega (arith, d .states, d .directory .sections States)
+module _ {image table : List ℕ} {x : Design} (d : Describes image x) (t : Defaults (designOf image) table) where
+  default-is : {s w : ℕ} → s < x .states → w ≡ getD table s 0 → w ≡ defaultTarget (designOf image) s
+  default-is {s} l e = let count = states-count d in e ∙ t .entry s (omega arith)
 
-pub state-fits : {image : List ℕ} {x : Design} {s : ℕ} → Describes image x → s < x .states → s < 256
-state-fits d l = let few = states-few d in omega arith
+  module _ (targets : List ℕ) {s q w : ℕ} (l : s < x .states) (p : q ≡ getD targets s 0) (e : w ≡ getD table s 0) where
+    pub sound-alone : StatesKept (designOf image) → w ≡ s → eqb q s ≡ targetSound (designOf image) targets s
+    unfolding targetSound
+    sound-alone kept same =
+        let count = states-count d in
+        let none = alone (designOf image) kept s (omega arith) (sym (default-is l e) ∙ same) in
+        rw (p, no-child (designOf image) s (getD targets s 0) none, none)
 
-pub default-inside : {image : List ℕ} {x : Design} {r s : ℕ} → Describes image x → s < x .states → r ≡ defaultTarget (designOf image) s → r < x .states
-default-inside {image} {x} {r} {s} d l e = go (default-cases (designOf image) s)
-  where
-    go : (isChild (designOf image) s (defaultTarget (designOf image) s) ≡ true) ⊎ ((hasChild (designOf image) s ≡ false) × (defaultTarget (designOf image) s ≡ s)) → r < x .states
-    go (inl h) = let count = states-count d in let state = child-of (designOf image) s (defaultTarget (designOf image) s) h .state in omega arith
-    go (inr h) = let self = h .1 in omega arith
-
-pub default-fits : {image : List ℕ} {x : Design} {r s : ℕ} → Describes image x → s < x .states → r ≡ defaultTarget (designOf image) s → r < 256
-default-fits d l e = state-fits d (default-inside d l e)
+    pub sound-child : {b : Bool} → (w ≡ s → ⊥) → b ≡ isChild (designOf image) s q → b ≡ targetSound (designOf image) targets s
+    unfolding targetSound
+    sound-child other b =
+        rw (b, p, not-alone (designOf image) s (λ same. other (default-is l e ∙ same))) (sym (or-false (isChild (designOf image) s (getD targets s 0))))
 
 -- ---- a table that a loop fills from the front
 pub record Filled (f : ℕ → ℕ) (old : List ℕ) (i : ℕ) (now : List ℕ) : Type 0 where
@@ -95,9 +151,6 @@ pub record Filled (f : ℕ → ℕ) (old : List ℕ) (i : ℕ) (now : List ℕ) 
   pub rest : (k : ℕ) → i ≤ k → getD now k 0 ≡ getD old k 0
 
 module _ {f : ℕ → ℕ} {old : List ℕ} where
-  pub filled-none : Filled f old 0 old
-  filled-none = record { long = refl; done = λ k l. absurd (nothing-below-zero l); rest = λ k l. refl }
-
   pub filled-more : {i m v : ℕ} {now : List ℕ} → Filled f old i now → length old ≡ m → i < m → v ≡ f i → Filled f old (i + 1) (set now i v)
   filled-more {i} {m} {v} {now} so e l h =
       let same = so .long in
@@ -117,88 +170,152 @@ module _ {f : ℕ → ℕ} {old : List ℕ} where
       (so .long ∙ sym (length-tabulate f (length old)))
       (λ k b. so .done k (omega arith) ∙ sym (getD-tabulate f (length old) k 0 (omega arith)))
 
-pub reset-all : {image old now : List ℕ} {x : Design} {i : ℕ} → Describes image x → Filled (defaultTarget (designOf image)) old i now → length old ≡ x .states → x .states ≤ i → now ≡ resetAreas (designOf image) .targets
-unfolding resetAreas
-reset-all {image} d so e l = filled-all so e l ∙ ap (tabulate (defaultTarget (designOf image))) (e ∙ states-count d)
+-- ---- clearing
+pub chosen-unmarked : {mark : ℕ} (marked unmarked : ℕ) → mark ≡ 0 → unmarked ≡ cond (eqb mark 0) unmarked marked
+chosen-unmarked {mark} marked unmarked e = sym (cond-true (eqb mark 0) unmarked marked (eq-eqb mark 0 e))
 
--- ---- the way up to a state
-module _ (d : Table) where
-  within-step : (t q : ℕ) → within d t q ≡ (eqb q t || (not (eqb q 0) && onlyBelow false q (within d t) (parent d q)))
-  unfolding within
-  within-step t q = recursively-step false (λ p above. eqb p t || (not (eqb p 0) && above (parent d p))) q
+pub chosen-marked : {mark : ℕ} (marked unmarked : ℕ) → (mark ≡ 0 → ⊥) → marked ≡ cond (eqb mark 0) unmarked marked
+chosen-marked {mark} marked unmarked e = sym (cond-false (eqb mark 0) unmarked marked (ne-eqb mark 0 e))
 
-  within-parent : (t q : ℕ) → t < q → parent d q < q → within d t q ≡ within d t (parent d q)
-  within-parent t q l k =
-      rw (within-step t q, ne-eqb q t (λ e. omega arith), ne-eqb q 0 (λ e. omega arith), only-below-at false q (parent d q) (within d t) k)
+-- by a mark that is 1 where b holds
+chosen-by : {mark : ℕ} (b : Bool) (marked unmarked : ℕ) → mark ≡ cond b 1 0 → cond (eqb mark 0) unmarked marked ≡ cond b marked unmarked
+chosen-by true marked unmarked e = rw e
+chosen-by false marked unmarked e = rw e
 
-  within-here : (t q : ℕ) → q ≤ t → Dec (q ≡ t) → eqb q t ≡ within d t q
-  within-here t q l (yes e) = rw e (eq-eqb t t refl ∙ sym (within-self d t))
-  within-here t q l (no e) = ne-eqb q t e ∙ sym (within-below d t q (omega arith))
+-- what clearing t makes of the target of state q
+abbrev clearedAt : Table → ℕ → List ℕ → ℕ → ℕ
+clearedAt d t old q = cond (within d t q) (defaultTarget d q) (getD old q 0)
 
--- the way up from s has come to q
-pub record WayUp (d : Table) (n t s q : ℕ) : Type 0 where
-  pub same : within d t s ≡ within d t q
-  pub inside : q < n
+-- What the pass works with: n states and their default targets. One record of it keeps `search` short.
+pub record Clearing (d : Table) (n : ℕ) (table : List ℕ) : Type 0 where
+  pub kept : StatesKept d
+  pub defaults : Defaults d table
+  pub count : n ≡ length (d .states)
+  pub few : n ≤ 64
 
-module _ {image : List ℕ} {x : Design} where
-  parent-is : {q p : ℕ} → Describes image x → q < x .states → p ≡ stateIn image (x .«states_at») q .parent → p ≡ parent (designOf image) q
-  parent-is d l e = e ∙ ap (λ (y : State). y .parent) (state-in d l)
+-- The states before i are cleared, and those of them that are within t are marked. The loop begins behind a store at t, with the table `first`.
+pub record ClearedSo (d : Table) (n : ℕ) (table : List ℕ) (t : ℕ) (first : List ℕ) (i : ℕ) (marks now : List ℕ) : Type 0 where
+  pub with : Clearing d n table
+  pub above : t < i
+  pub room : length marks ≡ 64
+  pub marked : (k : ℕ) → k < i → getD marks k 0 ≡ cond (within d t k) 1 0
+  pub size : length first ≡ n
+  pub so : Filled (clearedAt d t first) first i now
 
-  pub parent-lower : {t s q p : ℕ} → Describes image x → StatesKept (designOf image) → WayUp (designOf image) (x .states) t s q → t < q → p ≡ stateIn image (x .«states_at») q .parent → p < q
-  parent-lower {t} {s} {q} {p} d kept way l e =
-      let count = states-count d in
-      let inside = way .inside in
-      let is = parent-is d inside e in
-      let below = state-iff (designOf image) q .0 (kept .kept q (omega arith)) .parent-below (λ z. omega arith) in
-      omega arith
+pub clear-begins : {image table first marks : List ℕ} {x : Design} {t : ℕ} (old : List ℕ) → Describes image x → StatesKept (designOf image) → Defaults (designOf image) table → length old ≡ x .states → t < x .states → marks ≡ set (replicate 64 0) t 1 → first ≡ set old t (getD table t 0)
+    → ClearedSo (designOf image) (x .states) table t first (t + 1) marks first
+clear-begins {image} {table} {first} {marks} {x} {t} old d kept defaults e l m f =
+    let few = state-few d l in
+    let room = length-replicate {A = ℕ} 64 0 in
+    let self = within-self (designOf image) t in
+    let own : getD first t 0 ≡ defaultTarget (designOf image) t = rw f (getD-set-same old t (getD table t 0) 0 (omega arith)) ∙ default-is d defaults l refl in
+    record {
+      with = record { kept = kept; defaults = defaults; count = states-count d; few = states-few d };
+      above = omega arith;
+      room = ap length m ∙ length-set (replicate 64 0) t 1 ∙ room;
+      marked =
+          λ k b. extend
+          {P = λ j. getD marks j 0 ≡ cond (within (designOf image) t j) 1 0}
+          t
+          (λ j c. rw m (getD-set-other (replicate 64 0) t j 1 0 (λ z. omega arith) ∙ getD-replicate {A = ℕ} 64 j 0 0 (omega arith) ∙ sym (cond-false (within (designOf image) t j) 1 0 (within-below (designOf image) t j c))))
+          (rw m (getD-set-same (replicate 64 0) t 1 0 (omega arith) ∙ sym (cond-true (within (designOf image) t t) 1 0 self)))
+          k
+          (rw (add-one t) at b);
+      size = ap length f ∙ length-set old t (getD table t 0) ∙ e;
+      so =
+          record {
+            long = refl;
+            done =
+                λ k b. extend
+                {P = λ j. getD first j 0 ≡ clearedAt (designOf image) t first j}
+                t
+                (λ j c. sym (cond-false (within (designOf image) t j) (defaultTarget (designOf image) j) (getD first j 0) (within-below (designOf image) t j c)))
+                (own ∙ sym (cond-true (within (designOf image) t t) (defaultTarget (designOf image) t) (getD first t 0) self))
+                k
+                (rw (add-one t) at b);
+            rest = λ k b. refl;
+          };
+    }
 
-  pub way-on : {t s q p : ℕ} → Describes image x → StatesKept (designOf image) → WayUp (designOf image) (x .states) t s q → t < q → p ≡ stateIn image (x .«states_at») q .parent → WayUp (designOf image) (x .states) t s p
-  way-on {t} {s} {q} {p} d kept way l e =
-      let inside = way .inside in
-      let lower = parent-lower d kept way l e in
-      let is = parent-is d inside e in
-      record { same = rw is (way .same ∙ within-parent (designOf image) t q l (rw (← is) lower)); inside = omega arith }
+module _ {d : Table} {n t s : ℕ} {table first marks now : List ℕ} (c : ClearedSo d n table t first s marks now) where
+  pub clear-entry : s < n → s < length table
+  clear-entry l = let count = c .with .count in let long = c .with .defaults .long in omega arith
 
-  pub way-ends : {t s q : ℕ} → Describes image x → WayUp (designOf image) (x .states) t s q → q ≤ t → eqb q t ≡ within (designOf image) t s
-  way-ends {t} {s} {q} d way l = within-here (designOf image) t q l (ℕ-discrete q t) ∙ sym (way .same)
+  pub clear-inside : s < n → s < length now
+  clear-inside l = let long = c .so .long in let size = c .size in omega arith
 
-  pub parent-inside : {s p : ℕ} → Describes image x → StatesKept (designOf image) → s < x .states → p ≡ stateIn image (x .«states_at») s .parent → p < x .states
-  parent-inside {s} {p} d kept l e = go (ℕ-discrete s 0)
+  pub clear-long : (old : List ℕ) → length old ≡ n → length now ≡ length old
+  clear-long old e = c .so .long ∙ c .size ∙ sym e
+
+  -- the old entry of t does not count
+  pub clear-all : (old : List ℕ) → length old ≡ n → first ≡ set old t (getD table t 0) → n ≤ s → now ≡ cleared d t old
+  unfolding cleared
+  clear-all old e f l =
+      filled-all
+      {f = clearedAt d t old}
+      {old = old}
+      {i = s}
+      (record {
+        long = c .so .long ∙ c .size ∙ sym e;
+        done = λ k b. c .so .done k b ∙ same k (ℕ-discrete k t);
+        rest = λ k b. c .so .rest k b ∙ rw f (getD-set-other old t k (getD table t 0) 0 (λ z. let above = c .above in omega arith));
+      })
+      e
+      l
     where
-      go : Dec (s ≡ 0) → p < x .states
-      go (yes z) =
-          let count = states-count d in
-          let is = parent-is d l e in
-          let root = state-iff (designOf image) s .0 (kept .kept s (omega arith)) .root-parent z in
-          omega arith
-      go (no z) =
-          let count = states-count d in
-          let is = parent-is d l e in
-          let below = state-iff (designOf image) s .0 (kept .kept s (omega arith)) .parent-below z in
-          omega arith
+      same : (k : ℕ) → Dec (k ≡ t) → clearedAt d t first k ≡ clearedAt d t old k
+      same k (yes z) = rw (z, within-self d t)
+      same k (no z) = rw (f, getD-set-other old t k (getD table t 0) 0 z)
+
+-- one more state takes the mark of its parent, and what the mark says
+pub clear-more : {image table first marks now : List ℕ} {x : Design} {t s p r : ℕ} → ClearedSo (designOf image) (x .states) table t first s marks now → Describes image x → s < x .states → p ≡ stateIn image (x .«states_at») s .parent → r ≡ cond (eqb (getD marks p 0) 0) (getD now s 0) (getD table s 0)
+    → ClearedSo (designOf image) (x .states) table t first (s + 1) (set marks s (getD marks p 0)) (set now s r)
+clear-more {image} {table} {first} {marks} {now} {x} {t} {s} {p} {r} c d l e h =
+    let above = c .above in
+    let room = c .room in
+    let few = c .with .few in
+    let count = c .with .count in
+    let lower = parent-lower (designOf image) (c .with .kept) s (omega arith) (λ z. omega arith) in
+    let own : getD marks p 0 ≡ cond (within (designOf image) t s) 1 0 = rw (parent-is d l e, within-parent (designOf image) t s above lower) (c .marked (parent (designOf image) s) lower) in
+    record {
+      with = c .with;
+      above = omega arith;
+      room = length-set marks s (getD marks p 0) ∙ room;
+      marked =
+          λ k b. extend
+          {P = λ j. getD (set marks s (getD marks p 0)) j 0 ≡ cond (within (designOf image) t j) 1 0}
+          s
+          (λ j b. getD-set-other marks s j (getD marks p 0) 0 (λ z. omega arith) ∙ c .marked j b)
+          (getD-set-same marks s (getD marks p 0) 0 (omega arith) ∙ own)
+          k
+          (rw (add-one s) at b);
+      size = c .size;
+      so =
+          filled-more
+          (c .so)
+          (c .size)
+          l
+          (h ∙ chosen-by (within (designOf image) t s) (getD table s 0) (getD now s 0) own ∙ rw (c .with .defaults .entry s (omega arith), c .so .rest s (omega arith)));
+    }
+
+-- a state with no child is cleared alone
+pub clear-alone : {image table : List ℕ} (old : List ℕ) {x : Design} {t w : ℕ} → Describes image x → StatesKept (designOf image) → Defaults (designOf image) table → length old ≡ x .states → t < x .states → w ≡ getD table t 0 → w ≡ t → set old t t ≡ cleared (designOf image) t old
+unfolding cleared
+clear-alone {image} {table} old {x} {t} {w} d kept defaults e l p same =
+    filled-all {f = clearedAt (designOf image) t old} {old = old} {i = length old} (record { long = length-set old t t; done = λ k b. at k b (ℕ-discrete k t); rest = λ k b. getD-set-other old t k t 0 (λ z. omega arith) }) e (omega arith)
+  where
+    own : defaultTarget (designOf image) t ≡ t
+    own = sym (default-is d defaults l p) ∙ same
+
+    at : (k : ℕ) → k < length old → Dec (k ≡ t) → getD (set old t t) k 0 ≡ clearedAt (designOf image) t old k
+    at k b (yes z) = rw z (getD-set-same old t t 0 (omega arith) ∙ sym own ∙ sym (cond-true (within (designOf image) t t) (defaultTarget (designOf image) t) (getD old t 0) (within-self (designOf image) t)))
+    at k b (no z) =
+        let count = states-count d in
+        let none = alone (designOf image) kept t (omega arith) own in
+        getD-set-other old t k t 0 z
+        ∙ sym (cond-false (within (designOf image) t k) (defaultTarget (designOf image) k) (getD old k 0) (within-alone (designOf image) kept t none (suc k) k (omega arith) (omega arith) z))
 
 -- ---- a goto
--- the states before i are cleared
-pub record ClearedSo (d : Table) (t : ℕ) (old : List ℕ) (i : ℕ) (now : List ℕ) : Type 0 where
-  pub so : Filled (λ q. cond (within d t q) (defaultTarget d q) (getD old q 0)) old i now
-
-pub clear-begins : (d : Table) (t : ℕ) (old : List ℕ) → ClearedSo d t old 0 old
-clear-begins d t old = record { so = filled-none }
-
-module _ {d : Table} {t i : ℕ} {old now : List ℕ} (c : ClearedSo d t old i now) where
-  pub clear-more : {m u v : ℕ} → length old ≡ m → i < m → u ≡ getD now i 0 → v ≡ cond (within d t i) (defaultTarget d i) u → ClearedSo d t old (i + 1) (set now i v)
-  clear-more e l u v = record { so = filled-more (c .so) e l (v ∙ ap (cond (within d t i) (defaultTarget d i)) (u ∙ c .so .rest i (omega arith))) }
-
-  pub clear-all : {m : ℕ} → length old ≡ m → m ≤ i → now ≡ cleared d t old
-  unfolding cleared
-  clear-all e l = filled-all (c .so) e l
-
-pub clear-taken : {b : Bool} {r : ℕ} (d : Table) (t s old : ℕ) → b ≡ within d t s → b ≡ true → r ≡ defaultTarget d s → r ≡ cond (within d t s) (defaultTarget d s) old
-clear-taken d t s old e h r = rw (sym e ∙ h) r
-
-pub clear-left : {b : Bool} (d : Table) (t s old : ℕ) → b ≡ within d t s → b ≡ false → old ≡ cond (within d t s) (defaultTarget d s) old
-clear-left d t s old e h = rw (sym e ∙ h)
-
 module _ {image : List ℕ} {x : Design} (d : Describes image x) (t : ℕ) (old now : List ℕ) (e : now ≡ cleared (designOf image) t old) where
   pub gone-inside : {p : ℕ} → StatesKept (designOf image) → length old ≡ x .states → t < x .states → p ≡ stateIn image (x .«states_at») t .parent → p < length now
   gone-inside kept same l q = let inside = parent-inside d kept l q in let long = ap length e ∙ length-cleared (designOf image) t old in omega arith
@@ -209,81 +326,3 @@ module _ {image : List ℕ} {x : Design} (d : Describes image x) (t : ℕ) (old 
 
   pub gone-long : (p : ℕ) → length (set now p t) ≡ length old
   gone-long p = length-set now p t ∙ ap length e ∙ length-cleared (designOf image) t old
-
--- ---- a register area that a loop fills
--- the first i words of an area are those of values
-unfoldable pub written : ℕ → List ℕ → List ℕ → List ℕ
-written zero values bytes = bytes
-written (suc i) [] bytes = bytes
-written (suc i) (v ∷ values) [] = []
-written (suc i) (v ∷ values) (a ∷ []) = a ∷ []
-written (suc i) (v ∷ values) (a ∷ b ∷ []) = a ∷ b ∷ []
-written (suc i) (v ∷ values) (a ∷ b ∷ c ∷ []) = a ∷ b ∷ c ∷ []
-written (suc i) (v ∷ values) (a ∷ b ∷ c ∷ e ∷ more) = v % 256 ∷ v / 256 % 256 ∷ v / 65536 % 256 ∷ v / 16777216 % 256 ∷ written i values more
-
-length-written : (i : ℕ) (values bytes : List ℕ) → length (written i values bytes) ≡ length bytes
-unfolding written
-length-written zero values bytes = refl
-length-written (suc i) [] bytes = refl
-length-written (suc i) (v ∷ values) [] = refl
-length-written (suc i) (v ∷ values) (a ∷ []) = refl
-length-written (suc i) (v ∷ values) (a ∷ b ∷ []) = refl
-length-written (suc i) (v ∷ values) (a ∷ b ∷ c ∷ []) = refl
-length-written (suc i) (v ∷ values) (a ∷ b ∷ c ∷ e ∷ more) = rw (length-written i values more)
-
-written-more : (i : ℕ) (values bytes : List ℕ) → i < length values → length bytes ≡ 4 * length values → putWord (written i values bytes) i (getD values i 0) ≡ written (suc i) values bytes
-unfolding written
-written-more i [] bytes l area = absurd (nothing-below-zero l)
-written-more i (v ∷ values) [] l area = absurd (omega arith)
-written-more i (v ∷ values) (a ∷ []) l area = absurd (omega arith)
-written-more i (v ∷ values) (a ∷ b ∷ []) l area = absurd (omega arith)
-written-more i (v ∷ values) (a ∷ b ∷ c ∷ []) l area = absurd (omega arith)
-written-more zero (v ∷ values) (a ∷ b ∷ c ∷ e ∷ more) l area = refl
-written-more (suc i) (v ∷ values) (a ∷ b ∷ c ∷ e ∷ more) l area =
-    put-behind (v % 256) (v / 256 % 256) (v / 65536 % 256) (v / 16777216 % 256) (written i values more) i (getD values i 0)
-    ∙ rw (written-more i values more (omega arith) (omega arith))
-
-written-whole : (values bytes : List ℕ) → length bytes ≡ 4 * length values → written (length values) values bytes ≡ bytesOf values
-unfolding written bytesOf
-written-whole [] [] area = refl
-written-whole [] (a ∷ more) area = absurd (omega arith)
-written-whole (v ∷ values) [] area = absurd (omega arith)
-written-whole (v ∷ values) (a ∷ []) area = absurd (omega arith)
-written-whole (v ∷ values) (a ∷ b ∷ []) area = absurd (omega arith)
-written-whole (v ∷ values) (a ∷ b ∷ c ∷ []) area = absurd (omega arith)
-written-whole (v ∷ values) (a ∷ b ∷ c ∷ e ∷ more) area = rw (written-whole values more (omega arith))
-
--- the registers before i have their reset values
-pub record ResetSo (d : Table) (old : List ℕ) (i : ℕ) (now : List ℕ) : Type 0 where
-  pub is : now ≡ written i (resetAreas d .registers) old
-
-pub reset-begins : (d : Table) (old : List ℕ) → ResetSo d old 0 old
-unfolding written
-reset-begins d old = record { is = refl }
-
-reset-count : (d : Table) → length (resetAreas d .registers) ≡ length (d .registers)
-unfolding resetAreas
-reset-count d = length-map (d .registers) (λ (r : Register). r .reset)
-
-reset-at : (d : Table) (r : ℕ) → getD (resetAreas d .registers) r 0 ≡ registerAt d r .reset
-unfolding resetAreas
-reset-at d r = List·getD-map (λ (y : Register). y .reset) (d .registers) r (record { label = 0; kind = 0; reset = 0 })
-
-module _ {image old now : List ℕ} {x : Design} {i : ℕ} (d : Describes image x) (so : ResetSo (designOf image) old i now) where
-  pub reset-long : length now ≡ length old
-  reset-long = ap length (so .is) ∙ length-written i (resetAreas (designOf image) .registers) old
-
-  pub reset-inside : length old ≡ 4 * x .registers → i < x .registers → 4 * i + 4 ≤ length now
-  reset-inside e l = let same = reset-long in omega arith
-
-  pub reset-more : {v : ℕ} {after : List ℕ} → length old ≡ 4 * x .registers → i < x .registers → v ≡ registerIn image (x .«registers_at») i .reset → after ≡ putWord now i v → ResetSo (designOf image) old (i + 1) after
-  reset-more {v} e l h a =
-      let count = registers-count d ∙ sym (reset-count (designOf image)) in
-      let value : v ≡ getD (resetAreas (designOf image) .registers) i 0 = h ∙ ap (λ (y : Register). y .reset) (register-in d l) ∙ sym (reset-at (designOf image) i) in
-      record { is = a ∙ rw (so .is, value, add-one i) (written-more i (resetAreas (designOf image) .registers) old (omega arith) (omega arith)) }
-
-  pub reset-whole : length old ≡ 4 * x .registers → i ≤ x .registers → x .registers ≤ i → now ≡ bytesOf (resetAreas (designOf image) .registers)
-  reset-whole e l m =
-      let count = registers-count d ∙ sym (reset-count (designOf image)) in
-      let end : i ≡ length (resetAreas (designOf image) .registers) = omega arith in
-      so .is ∙ ap (λ (n : ℕ). written n (resetAreas (designOf image) .registers) old) end ∙ written-whole (resetAreas (designOf image) .registers) old (omega arith)

@@ -1,35 +1,25 @@
+<<<<<<< HEAD
 // The target area: one byte for each state. And what reset writes.
 use bodies::shape::has_child;
+=======
+// The target area: one byte for each state.
+>>>>>>> 45dd1ae (Crate machine: a goto clears in one pass; soundness by the table of defaults)
 use bodies::shape::is_child;
 use design::Design;
 use design::words::put_word;
 use model::Found;
-ghost use Prim.Native.Nat.{_*_, _<_};
+ghost use Prim.Native.Nat.{_<_};
 ghost use mathlib.Core.Path.{_≡_};
 ghost use mathlib.Core.Bool.{cond};
+ghost use lib.Dec.{eqb};
 ghost use lib.ListN.{length};
 ghost use Rattle.model.specs.Indices.{lowestFailing};
 ghost use Rattle.model.specs.Image.{designOf};
-ghost use Rattle.model.specs.States.{isChild, defaultTarget, within as withinOf};
-ghost use Rattle.model.specs.Values.{bytesOf};
-ghost use Rattle.model.specs.Machine.{targetSound, resetAreas, cleared, goneTo};
+ghost use Rattle.model.specs.States.{isChild};
+ghost use Rattle.model.specs.Machine.{targetSound, cleared, goneTo};
 ghost use Rattle.design.specs.Describes.{Describes};
 ghost use Rattle.design.specs.Kept.{StatesKept};
-
-// The lowest child of state s, or s where it has none.
-fn default_target(image: &[u8], design: Design, s: usize) -> usize
-    requires { ⌜ Describes (now image) design ⌝ }
-    ensures { λ r. ⌜ r ≡ defaultTarget (designOf (now (image .entry))) s ⌝ }
-{
-    let mut q = 0;
-    while q < design.states {
-        if is_child(image, design, s, q) {
-            return q;
-        }
-        q += 1;
-    }
-    s
-}
+ghost use Rattle.design.specs.Resets.{Defaults};
 
 // A byte as a state's number.
 fn wide(b: u8) -> usize
@@ -49,23 +39,27 @@ fn names_child(image: &[u8], design: Design, s: usize, q: usize) -> bool
     false
 }
 
-// The target of state s is a child of it, or s itself where it has none.
-fn sound(image: &[u8], design: Design, targets: &[u8], s: usize) -> bool
-    requires { ⌜ Describes (now image) design × (length (now targets) ≡ design .states) × (s < design .states) ⌝ }
+// The target of state s is a child of it, or s itself where it has none: then s is its own default
+// target.
+fn sound(image: &[u8], design: Design, defaults: &[u8], targets: &[u8], s: usize) -> bool
+    requires { ⌜ Describes (now image) design × StatesKept (designOf (now image)) × Defaults (designOf (now image)) (now defaults) × (length (now targets) ≡ design .states) × (s < design .states) ⌝ }
     ensures { λ r. ⌜ r ≡ targetSound (designOf (now (image .entry))) (now (targets .entry)) s ⌝ }
 {
     let q = wide(targets[s]);
-    names_child(image, design, s, q) | (!has_child(image, design, s) & (q == s))
+    if wide(defaults[s]) == s {
+        return q == s;
+    }
+    names_child(image, design, s, q)
 }
 
 // The lowest state whose target is not sound.
-pub fn unsound(image: &[u8], design: Design, targets: &[u8]) -> Found
-    requires { ⌜ Describes (now image) design × (length (now targets) ≡ design .states) ⌝ }
+pub fn unsound(image: &[u8], design: Design, defaults: &[u8], targets: &[u8]) -> Found
+    requires { ⌜ Describes (now image) design × StatesKept (designOf (now image)) × Defaults (designOf (now image)) (now defaults) × (length (now targets) ≡ design .states) ⌝ }
     ensures { λ r. ⌜ r ≡ lowestFailing (targetSound (designOf (now (image .entry))) (now (targets .entry))) (length (designOf (now (image .entry)) .states)) ⌝ }
 {
     let mut s = 0;
     while s < design.states {
-        if !sound(image, design, targets, s) {
+        if !sound(image, design, defaults, targets, s) {
             return Found::At(s);
         }
         s += 1;
@@ -73,73 +67,55 @@ pub fn unsound(image: &[u8], design: Design, targets: &[u8]) -> Found
     Found::Nowhere
 }
 
-// Every state takes its default target.
-pub fn reset_targets(image: &[u8], design: Design, targets: &mut [u8])
-    requires { ⌜ Describes (now image) design × (length (now targets) ≡ design .states) ⌝ }
-    ensures { λ _. ⌜ now (targets .exit) ≡ resetAreas (designOf (now (image .entry))) .targets ⌝ }
+// The first byte, or the second where the mark is 0.
+fn chosen(mark: u8, marked: u8, unmarked: u8) -> u8
+    ensures { λ r. ⌜ r ≡ cond (eqb mark 0) unmarked marked ⌝ }
 {
-    let mut s = 0;
-    while s < design.states {
-        targets[s] = default_target(image, design, s) as u8;
-        s += 1;
+    if mark == 0 {
+        return unmarked;
     }
+    marked
 }
 
-// Every register takes its reset value.
-pub fn reset_registers(image: &[u8], design: Design, registers: &mut [u8])
-    requires { ⌜ Describes (now image) design × (length (now registers) ≡ 4 * design .registers) ⌝ }
-    ensures { λ _. ⌜ now (registers .exit) ≡ bytesOf (resetAreas (designOf (now (image .entry))) .registers) ⌝ }
-{
-    let mut r = 0;
-    while r < design.registers {
-        let v = Design::register_reset(image, design.registers_at, r);
-        put_word(registers, r, v);
-        r += 1;
-    }
-}
-
-// State s is t or a descendant of t: the way up from s meets t.
-fn within(image: &[u8], design: Design, t: usize, s: usize) -> bool
-    requires { ⌜ Describes (now image) design × StatesKept (designOf (now image)) × (s < design .states) ⌝ }
-    ensures { λ r. ⌜ r ≡ withinOf (designOf (now (image .entry))) t s ⌝ }
-{
-    let mut q = s;
-    while t < q {
-        q = Design::parent(image, design.states_at, q);
-    }
-    q == t
-}
-
-// What clearing t makes of the target of state s.
-fn cleared_target(image: &[u8], design: Design, t: usize, s: usize, old: u8) -> u8
-    requires { ⌜ Describes (now image) design × StatesKept (designOf (now image)) × (s < design .states) ⌝ }
-    ensures { λ r. ⌜ r ≡ cond (withinOf (designOf (now (image .entry))) t s) (defaultTarget (designOf (now (image .entry))) s) old ⌝ }
-{
-    if within(image, design, t, s) {
-        return default_target(image, design, s) as u8;
-    }
-    old
-}
-
-// State t and all its descendants take their default targets.
-fn clear(image: &[u8], design: Design, targets: &mut [u8], t: usize)
-    requires { ⌜ Describes (now image) design × StatesKept (designOf (now image)) × (length (now targets) ≡ design .states) ⌝ }
+// State t and all its descendants take their default targets. One pass upwards: a state is marked
+// where its parent is, whose number is lower.
+fn clear(image: &[u8], design: Design, defaults: &[u8], targets: &mut [u8], t: usize)
+    requires { ⌜ Describes (now image) design × StatesKept (designOf (now image)) × Defaults (designOf (now image)) (now defaults) × (length (now targets) ≡ design .states) × (t < design .states) ⌝ }
     ensures { λ _. ⌜ now (targets .exit) ≡ cleared (designOf (now (image .entry))) t (now (targets .entry)) ⌝ }
 {
-    let mut s = 0;
+    let mut marks = [0u8; Design::STATES];
+    marks[t] = 1;
+    targets[t] = defaults[t];
+    let mut s = t + 1;
     while s < design.states {
+        let p = Design::parent(image, design.states_at, s);
+        let mark = marks[p];
+        marks[s] = mark;
+        let taken = defaults[s];
         let old = targets[s];
-        targets[s] = cleared_target(image, design, t, s, old);
+        targets[s] = chosen(mark, taken, old);
         s += 1;
     }
+}
+
+// The same, where t may have no child: then it is alone, and its default target is itself.
+fn clear_family(image: &[u8], design: Design, defaults: &[u8], targets: &mut [u8], t: usize)
+    requires { ⌜ Describes (now image) design × StatesKept (designOf (now image)) × Defaults (designOf (now image)) (now defaults) × (length (now targets) ≡ design .states) × (t < design .states) ⌝ }
+    ensures { λ _. ⌜ now (targets .exit) ≡ cleared (designOf (now (image .entry))) t (now (targets .entry)) ⌝ }
+{
+    if wide(defaults[t]) == t {
+        targets[t] = t as u8;
+        return;
+    }
+    clear(image, design, defaults, targets, t);
 }
 
 // A goto to t: it and its descendants take their default targets, and its parent's target is t.
-pub fn go_to(image: &[u8], design: Design, targets: &mut [u8], t: usize)
-    requires { ⌜ Describes (now image) design × StatesKept (designOf (now image)) × (length (now targets) ≡ design .states) × (t < design .states) ⌝ }
+pub fn go_to(image: &[u8], design: Design, defaults: &[u8], targets: &mut [u8], t: usize)
+    requires { ⌜ Describes (now image) design × StatesKept (designOf (now image)) × Defaults (designOf (now image)) (now defaults) × (length (now targets) ≡ design .states) × (t < design .states) ⌝ }
     ensures { λ _. ⌜ now (targets .exit) ≡ goneTo (designOf (now (image .entry))) t (now (targets .entry)) ⌝ }
 {
-    clear(image, design, targets, t);
+    clear_family(image, design, defaults, targets, t);
     let p = Design::parent(image, design.states_at, t);
     targets[p] = t as u8;
 }

@@ -5,10 +5,10 @@ use Rattle.machine.proofs.targets.go_to.Tie as tie
 use Rattle.machine.proofs.targets.go_to.Reads as reads
 use Rattle.machine.proofs.targets.go_to.Lts as lts
 use Rattle.design.proofs.Design.parent.Reads as parent-reads
-use Rattle.machine.proofs.targets.clear.Reads as clear-reads
+use Rattle.machine.proofs.targets.clear_family.Reads as clear-family-reads
 
-clear-requires : tie.Need-clear-requires
-clear-requires c κs = search needs
+clear-family-requires : tie.Need-clear-family-requires
+clear-family-requires c κs = search needs
 
 parent-requires : tie.Need-parent-requires
 parent-requires c κs = search needs
@@ -28,4 +28,4 @@ returns c = search (gone-rule, needs)
 pub go-to-spec : {M : Type 1} → statement M
 go-to-spec =
     tie.close
-    (tie.spec clear-requires parent-requires cast-targets slice-write-targets same-length returns)
+    (tie.spec clear-family-requires parent-requires cast-targets slice-write-targets same-length returns)

@@ -11,10 +11,10 @@ use Rattle.machine.proofs.targets.unsound.Lts as lts
 use Rattle.machine.proofs.targets.sound.Reads as sound-reads
 
 abbrev Inv-loop : tie.InvT-loop
-Inv-loop image design targets s₀ s = Passed (targetSound (designOf image) targets) s
+Inv-loop image design defaults targets s₀ s = Passed (targetSound (designOf image) targets) s
 
 abbrev μ-loop : tie.MeasureT-loop
-μ-loop image design targets s₀ s = design .states - s
+μ-loop image design defaults targets s₀ s = design .states - s
 
 loop-holds : tie.Need-loop-holds Inv-loop μ-loop
 loop-holds c = search (pass-laws, needs)
