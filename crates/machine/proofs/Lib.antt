@@ -2,3 +2,4 @@
 pub mod EvaluateRules
 pub mod ExecuteRules
 pub mod TargetRules
+pub mod CycleRules

@@ -19,44 +19,21 @@ use Rattle.model.specs.Machine.{targetSound, cleared, goneTo}
 use Rattle.model.proofs.Laws.Booleans.{true-or-false, false-unless-true, cond-true, cond-false}
 use Rattle.model.proofs.Laws.Indices.{extend, nothing-below-zero, length-tabulate, getD-tabulate, recursively-step, onlyBelow, only-below-at}
 use Rattle.model.proofs.Laws.States.{child-of, has-child, default-cases}
-use Rattle.model.proofs.Laws.Gotos.{within-self, within-below, length-cleared}
+use Rattle.model.proofs.Laws.Gotos.{within-step, within-self, within-below, length-cleared}
 use Rattle.model.proofs.Exact.Records.{state-iff}
 use Rattle.design.specs.declared.Design.{Design}
 use Rattle.design.specs.Records.{stateIn}
 use Rattle.design.specs.Describes.{Describes}
 use Rattle.design.specs.Kept.{StatesKept}
 use Rattle.design.specs.Resets.{Defaults}
-use Rattle.design.proofs.Laws.{states-count, state-in}
+use Rattle.design.proofs.Laws.{states-count}
+use Rattle.design.proofs.ResetRules.{Filled, filled-more, filled-all, states-few, parent-is, parent-inside}
 
 -- ---- bounds
-pub states-few : {image : List ℕ} {x : Design} → Describes image x → x .states ≤ 64
-states-few d = omega (arith, d .states, d .directory .sections States)
-
 pub state-few : {image : List ℕ} {x : Design} {s : ℕ} → Describes image x → s < x .states → s < 64
 state-few d l = let few = states-few d in omega arith
 
-pub state-fits : {image : List ℕ} {x : Design} {s : ℕ} → Describes image x → s < x .states → s < 256
-state-fits d l = let few = states-few d in omega arith
-
 module _ {image : List ℕ} {x : Design} where
-  parent-is : {q p : ℕ} → Describes image x → q < x .states → p ≡ stateIn image (x .«states_at») q .parent → p ≡ parent (designOf image) q
-  parent-is d l e = e ∙ ap (λ (y : State). y .parent) (state-in d l)
-
-  pub parent-inside : {s p : ℕ} → Describes image x → StatesKept (designOf image) → s < x .states → p ≡ stateIn image (x .«states_at») s .parent → p < x .states
-  parent-inside {s} {p} d kept l e = go (ℕ-discrete s 0)
-    where
-      go : Dec (s ≡ 0) → p < x .states
-      go (yes z) =
-          let count = states-count d in
-          let is = parent-is d l e in
-          let root = state-iff (designOf image) s .0 (kept .kept s (omega arith)) .root-parent z in
-          omega arith
-      go (no z) =
-          let count = states-count d in
-          let is = parent-is d l e in
-          let below = state-iff (designOf image) s .0 (kept .kept s (omega arith)) .parent-below z in
-          omega arith
-
   pub parent-few : {s p : ℕ} → Describes image x → StatesKept (designOf image) → s < x .states → p ≡ stateIn image (x .«states_at») s .parent → p < 64
   parent-few d kept l e = state-few d (parent-inside d kept l e)
 
@@ -93,14 +70,10 @@ module _ (d : Table) where
       go (inl h) = has-child d s (defaultTarget d s) (child-of d s (defaultTarget d s) h)
       go (inr h) = absurd (e (h .1))
 
-  within-step : (t q : ℕ) → within d t q ≡ (eqb q t || (not (eqb q 0) && onlyBelow false q (within d t) (parent d q)))
-  unfolding within
-  within-step t q = recursively-step false (λ p above. eqb p t || (not (eqb p 0) && above (parent d p))) q
-
   -- a state with a higher number than t is within t exactly where its parent is
   within-parent : (t q : ℕ) → t < q → parent d q < q → within d t q ≡ within d t (parent d q)
   within-parent t q l k =
-      rw (within-step t q, ne-eqb q t (λ e. omega arith), ne-eqb q 0 (λ e. omega arith), only-below-at false q (parent d q) (within d t) k)
+      rw (within-step d t q, ne-eqb q t (λ e. omega arith), ne-eqb q 0 (λ e. omega arith), only-below-at false q (parent d q) (within d t) k)
 
   -- only t is within t where it has no child: the way up to t ends with a child of it
   module _ (kept : StatesKept d) (t : ℕ) (h : hasChild d t ≡ false) where
@@ -143,32 +116,6 @@ module _ {image table : List ℕ} {x : Design} (d : Describes image x) (t : Defa
     unfolding targetSound
     sound-child other b =
         rw (b, p, not-alone (designOf image) s (λ same. other (default-is l e ∙ same))) (sym (or-false (isChild (designOf image) s (getD targets s 0))))
-
--- ---- a table that a loop fills from the front
-pub record Filled (f : ℕ → ℕ) (old : List ℕ) (i : ℕ) (now : List ℕ) : Type 0 where
-  pub long : length now ≡ length old
-  pub done : (k : ℕ) → k < i → getD now k 0 ≡ f k
-  pub rest : (k : ℕ) → i ≤ k → getD now k 0 ≡ getD old k 0
-
-module _ {f : ℕ → ℕ} {old : List ℕ} where
-  pub filled-more : {i m v : ℕ} {now : List ℕ} → Filled f old i now → length old ≡ m → i < m → v ≡ f i → Filled f old (i + 1) (set now i v)
-  filled-more {i} {m} {v} {now} so e l h =
-      let same = so .long in
-      record {
-        long = length-set now i v ∙ so .long;
-        done = λ k b. extend {P = λ j. getD (set now i v) j 0 ≡ f j} i (λ j c. getD-set-other now i j v 0 (λ z. omega arith) ∙ so .done j c) (getD-set-same now i v 0 (omega arith) ∙ h) k (rw (add-one i) at b);
-        rest = λ k b. getD-set-other now i k v 0 (λ z. omega arith) ∙ so .rest k (omega arith);
-      }
-
-  pub filled-all : {i m : ℕ} {now : List ℕ} → Filled f old i now → length old ≡ m → m ≤ i → now ≡ tabulate f (length old)
-  filled-all {i} {m} {now} so e l =
-      let same = so .long in
-      ext-getD
-      0
-      now
-      (tabulate f (length old))
-      (so .long ∙ sym (length-tabulate f (length old)))
-      (λ k b. so .done k (omega arith) ∙ sym (getD-tabulate f (length old) k 0 (omega arith)))
 
 -- ---- clearing
 pub chosen-unmarked : {mark : ℕ} (marked unmarked : ℕ) → mark ≡ 0 → unmarked ≡ cond (eqb mark 0) unmarked marked

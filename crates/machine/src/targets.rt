@@ -1,12 +1,6 @@
-<<<<<<< HEAD
-// The target area: one byte for each state. And what reset writes.
-use bodies::shape::has_child;
-=======
 // The target area: one byte for each state.
->>>>>>> 45dd1ae (Crate machine: a goto clears in one pass; soundness by the table of defaults)
 use bodies::shape::is_child;
 use design::Design;
-use design::words::put_word;
 use model::Found;
 ghost use Prim.Native.Nat.{_<_};
 ghost use mathlib.Core.Path.{_≡_};

@@ -20,7 +20,7 @@ use Rattle.model.proofs.Laws.States.{ChildOf, is-child, child-sound, de
 
 module _ (d : Design) where
   -- one step of the way up from q to s
-  within-step : (s q : ℕ) → within d s q ≡ (eqb q s || (not (eqb q 0) && onlyBelow false q (within d s) (parent d q)))
+  pub within-step : (s q : ℕ) → within d s q ≡ (eqb q s || (not (eqb q 0) && onlyBelow false q (within d s) (parent d q)))
   unfolding within
   within-step s q = recursively-step false (λ p above. eqb p s || (not (eqb p 0) && above (parent d p))) q
 

@@ -1,4 +1,5 @@
-use Rattle.machine.proofs.TargetRules.{state-fits, entry-inside, clear-alone}
+use Rattle.design.proofs.ResetRules.{state-fits}
+use Rattle.machine.proofs.TargetRules.{entry-inside, clear-alone}
 use borrow.Author.Needs.{needs}
 use Rattle.machine.proofs.targets.clear_family.Statement.{statement}
 use Rattle.machine.proofs.targets.clear_family.Tie as tie

@@ -1,4 +1,5 @@
-use Rattle.machine.proofs.TargetRules.{state-fits, gone-inside, gone-rule, gone-long}
+use Rattle.design.proofs.ResetRules.{state-fits}
+use Rattle.machine.proofs.TargetRules.{gone-inside, gone-rule, gone-long}
 use borrow.Author.Needs.{needs}
 use Rattle.machine.proofs.targets.go_to.Statement.{statement}
 use Rattle.machine.proofs.targets.go_to.Tie as tie
