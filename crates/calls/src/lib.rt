@@ -1,7 +1,11 @@
-// The calls on slices, with answers as enums.
+// The calls on slices, with answers as enums. Each makes the image checks first, and makes them once.
+mod accepted;
+
 use model::Answer;
 ghost use mathlib.Core.Path.{_≡_};
-ghost use Rattle.model.specs.Calls.{check as checkOf};
+ghost use Rattle.model.specs.Calls.{check as checkOf, reset as resetOf, writePort, run as runOf};
+ghost use Rattle.design.specs.Resets.{lends};
+ghost use Rattle.calls.specs.Stages.{leftAs, leftRegistersAs};
 
 // Accepts an image exactly when it keeps the rules, or refuses it with the lowest number that
 // applies, 10 to 12 by their lowest node, and its place.
@@ -9,4 +13,37 @@ pub fn check(image: &[u8]) -> Answer
     ensures { λ a. ⌜ a ≡ checkOf (now (image .entry)) ⌝ }
 {
     rules::verdict(image)
+}
+
+// Writes the reset values and the default targets.
+pub fn reset(image: &[u8], registers: &mut [u8], targets: &mut [u8]) -> Answer
+    ensures { λ a. ⌜ leftAs a (now (registers .exit)) (now (targets .exit)) ≡ resetOf (now (image .entry)) (lends (now (registers .entry)) (now (targets .entry))) ⌝ }
+{
+    let verdict = rules::verdict(image);
+    match verdict {
+        Answer::Refused(refusal, place) => Answer::Refused(refusal, place),
+        Answer::Accepted(_) => accepted::reset(image, registers, targets),
+    }
+}
+
+// Sets a register that is a port to a value.
+pub fn write_port(image: &[u8], registers: &mut [u8], register: u32, value: u32) -> Answer
+    ensures { λ a. ⌜ leftRegistersAs a (now (registers .exit)) ≡ writePort (now (image .entry)) (now (registers .entry)) register value ⌝ }
+{
+    let verdict = rules::verdict(image);
+    match verdict {
+        Answer::Refused(refusal, place) => Answer::Refused(refusal, place),
+        Answer::Accepted(_) => accepted::write_port(image, registers, register, value),
+    }
+}
+
+// Runs so many cycles.
+pub fn run(image: &[u8], registers: &mut [u8], targets: &mut [u8], count: u32) -> Answer
+    ensures { λ a. ⌜ leftAs a (now (registers .exit)) (now (targets .exit)) ≡ runOf (now (image .entry)) (lends (now (registers .entry)) (now (targets .entry))) count ⌝ }
+{
+    let verdict = rules::verdict(image);
+    match verdict {
+        Answer::Refused(refusal, place) => Answer::Refused(refusal, place),
+        Answer::Accepted(_) => accepted::run(image, registers, targets, count),
+    }
 }

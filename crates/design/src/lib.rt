@@ -9,7 +9,7 @@ ghost use lib.Dec.{eqb, leb};
 ghost use mathlib.Core.Path.{_≡_};
 ghost use lib.ListN.{length};
 ghost use Rattle.model.specs.Image.{word16At, word32At, offsetsKept, directoryKept, designOf};
-ghost use Rattle.model.specs.Limits.{directoryLength, labelLength, registerLength, stateLength, nodeLength, labelsMax, registersMax, statesMax, commandsMax, expressionsMax, depthMax, expressionPlace};
+ghost use Rattle.model.specs.Limits.{directoryLength, labelLength, registerLength, stateLength, nodeLength, labelsMax, registersMax, statesMax, commandsMax, expressionsMax, depthMax, expressionPlace, wordLength};
 ghost use Rattle.model.specs.Rules.{DirectoryKeeps};
 ghost use Rattle.model.specs.Machine.{resetAreas};
 ghost use Rattle.model.specs.Calls.{lentOf};
@@ -124,6 +124,8 @@ impl Design {
     pub const STATE_LENGTH: usize = 4;
 
     pub const NODE_LENGTH: usize = 8;
+    // The bytes that a register takes in its area.
+    pub const WORD_LENGTH: usize = 4;
     // How deep commands and expressions nest.
     pub const DEPTH: usize = 64;
     // What is added to an expression's number to give its place.
@@ -141,6 +143,7 @@ impl Design {
         ensures { λ _. do ⌜ (← ⟦Design::REGISTER_LENGTH⟧ .entry) ≡ registerLength ⌝ }
         ensures { λ _. do ⌜ (← ⟦Design::STATE_LENGTH⟧ .entry) ≡ stateLength ⌝ }
         ensures { λ _. do ⌜ (← ⟦Design::NODE_LENGTH⟧ .entry) ≡ nodeLength ⌝ }
+        ensures { λ _. do ⌜ (← ⟦Design::WORD_LENGTH⟧ .entry) ≡ wordLength ⌝ }
         ensures { λ _. do ⌜ (← ⟦Design::DEPTH⟧ .entry) ≡ depthMax ⌝ }
         ensures { λ _. do ⌜ (← ⟦Design::EXPRESSION_PLACE⟧ .entry) ≡ expressionPlace ⌝ }
     {}

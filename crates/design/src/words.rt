@@ -1,4 +1,5 @@
 // The register area: one word of four bytes for each register, the lowest byte first.
+use crate::Design;
 ghost use Prim.Native.Nat.{_+_, _*_, _<_, _≤_};
 ghost use mathlib.Core.Path.{_≡_};
 ghost use lib.ListN.{length};
@@ -17,7 +18,7 @@ pub fn word(registers: &[u8], r: usize) -> u32
     requires { ⌜ 4 * r + 4 ≤ length (now registers) ⌝ }
     ensures { λ x. ⌜ x ≡ word32At (now (registers .entry)) (4 * r) ⌝ }
 {
-    let at = 4 * r;
+    let at = Design::WORD_LENGTH * r;
     let low = wide(registers[at]) + 256 * wide(registers[at + 1]);
     let high = wide(registers[at + 2]) + 256 * wide(registers[at + 3]);
     low + 65536 * high
@@ -28,7 +29,7 @@ pub fn put_word(registers: &mut [u8], r: usize, v: u32)
     requires { ⌜ 4 * r + 4 ≤ length (now registers) ⌝ }
     ensures { λ _. ⌜ now (registers .exit) ≡ putWord (now (registers .entry)) r v ⌝ }
 {
-    let at = 4 * r;
+    let at = Design::WORD_LENGTH * r;
     registers[at] = (v % 256) as u8;
     registers[at + 1] = (v / 256 % 256) as u8;
     registers[at + 2] = (v / 65536 % 256) as u8;

@@ -1,0 +1,2 @@
+-- Laws of what the calls leave.
+pub mod CallRules

@@ -1,0 +1,46 @@
+use Rattle.rules.proofs.Accepted.{accepted-keeps}
+use Rattle.calls.proofs.CallRules.{refused-reset, accepted-reset}
+use borrow.Author.Needs.{needs}
+use Rattle.calls.proofs.reset.Statement.{statement}
+use Rattle.calls.proofs.reset.Tie as tie
+use Rattle.calls.proofs.reset.Reads as reads
+use Rattle.calls.proofs.reset.Lts as lts
+use Rattle.calls.proofs.accepted.reset.Reads as reset-reads
+use Rattle.rules.proofs.verdict.Reads as verdict-reads
+
+verdict-requires : tie.Need-verdict-requires
+verdict-requires c κs = search needs
+
+enum-known-verdict : tie.Need-enum-known-verdict
+enum-known-verdict c = search needs
+
+enum-told : tie.Need-enum-told
+enum-told c = search needs
+
+reset-requires : tie.Need-reset-requires
+reset-requires c κs = search (accepted-keeps, needs)
+
+returns : tie.Need-returns
+returns c = search (refused-reset, needs)
+
+same-length : tie.Need-same-length
+same-length c = search needs
+
+same-length-2 : tie.Need-same-length-2
+same-length-2 c = search needs
+
+returns-2 : tie.Need-returns-2
+returns-2 c = search (accepted-reset, needs)
+
+pub reset-spec : {M : Type 1} → statement M
+reset-spec =
+    tie.close
+    (tie.spec
+    verdict-requires
+    enum-known-verdict
+    enum-told
+    reset-requires
+    returns
+    same-length
+    same-length-2
+    returns-2)

@@ -1,0 +1,35 @@
+-- What a call leaves, as its answer and the bytes of the areas; and the calls of `Rattle.model.specs.Calls` from the point where the image is accepted on.
+use Prim.Native.Nat.{ℕ}
+use mathlib.Core.List.{List}
+use lib.ListN.{length, set}
+use Rattle.model.specs.declared.Answer.{Answer}
+use Rattle.model.specs.declared.Answer.the-variants.{Accepted}
+use Rattle.model.specs.Image.{Design as Table}
+use Rattle.model.specs.Verdict.{_before_}
+use Rattle.model.specs.Values.{wordsOf, bytesOf}
+use Rattle.model.specs.Machine.{resetAreas, afterCycles}
+use Rattle.model.specs.Calls.{Lent, Left, LeftRegisters, leaves, leavesRegisters, lengthAnswer, targetsAnswer, registerAreaAnswer, portAnswer, cyclesAnswer, areasOf, lentOf}
+use Rattle.design.specs.Resets.{lends}
+
+abbrev pub leftAs : Answer → List ℕ → List ℕ → Left
+leftAs answer registers targets = record { answer = answer; lent = lends registers targets }
+
+abbrev pub leftRegistersAs : Answer → List ℕ → LeftRegisters
+leftRegistersAs answer registers = record { answer = answer; registers = registers }
+
+unfoldable pub resetOn : Table → Lent → Left
+resetOn d lent = leaves (lengthAnswer d lent) lent (lentOf (resetAreas d))
+
+unfoldable pub writePortOn : Table → List ℕ → ℕ → ℕ → LeftRegisters
+writePortOn d registers r v =
+    leavesRegisters
+    (registerAreaAnswer d registers before portAnswer d r)
+    registers
+    (bytesOf (set (wordsOf (length (d .registers)) registers) r v))
+
+unfoldable pub runOn : Table → Lent → ℕ → Left
+runOn d lent n =
+    leaves
+    (lengthAnswer d lent before targetsAnswer d lent before cyclesAnswer n before Accepted n)
+    lent
+    (lentOf (afterCycles d n (areasOf d lent)))
