@@ -4,8 +4,9 @@ use model::Answer;
 use model::Refusal;
 ghost use mathlib.Core.Path.{_≡_};
 ghost use Rattle.model.specs.Answers.{numberOf, numbersOf};
-ghost use Rattle.model.specs.Calls.{check};
-ghost use Rattle.caisson.specs.Told.{told};
+ghost use Rattle.model.specs.Calls.{check, reset, writePort, run};
+ghost use Rattle.design.specs.Resets.{lends};
+ghost use Rattle.caisson.specs.Told.{told, toldLeft, inNumbers, toldLeftRegisters, registersInNumbers};
 
 // An answer as the host is given it: caisson_answer in the header.
 #[repr(C)]
@@ -62,5 +63,46 @@ pub extern "C" fn caisson_check(image: &[u8]) -> HostAnswer
     ensures { λ r. ⌜ told r ≡ numbersOf (check (now (image .entry))) ⌝ }
 {
     let answer = calls::check(image);
+    in_numbers(answer)
+}
+
+// Reset values and default targets.
+#[no_mangle]
+pub extern "C" fn caisson_reset(
+    image: &[u8],
+    registers: &mut [u8],
+    targets: &mut [u8],
+) -> HostAnswer
+    ensures { λ r. ⌜ toldLeft r (now (registers .exit)) (now (targets .exit)) ≡ inNumbers (reset (now (image .entry)) (lends (now (registers .entry)) (now (targets .entry)))) ⌝ }
+{
+    let answer = calls::reset(image, registers, targets);
+    in_numbers(answer)
+}
+
+// A value for a port.
+#[no_mangle]
+pub extern "C" fn caisson_write_port(
+    image: &[u8],
+    registers: &mut [u8],
+    reg: u32,
+    value: u32,
+) -> HostAnswer
+    ensures { λ r. ⌜ toldLeftRegisters r (now (registers .exit)) ≡ registersInNumbers (writePort (now (image .entry)) (now (registers .entry)) reg value) ⌝ }
+{
+    let answer = calls::write_port(image, registers, reg, value);
+    in_numbers(answer)
+}
+
+// So many cycles.
+#[no_mangle]
+pub extern "C" fn caisson_run(
+    image: &[u8],
+    registers: &mut [u8],
+    targets: &mut [u8],
+    cycles: u32,
+) -> HostAnswer
+    ensures { λ r. ⌜ toldLeft r (now (registers .exit)) (now (targets .exit)) ≡ inNumbers (run (now (image .entry)) (lends (now (registers .entry)) (now (targets .entry))) cycles) ⌝ }
+{
+    let answer = calls::run(image, registers, targets, cycles);
     in_numbers(answer)
 }
