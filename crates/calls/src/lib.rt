@@ -1,5 +1,8 @@
 // The calls on slices, with answers as enums. Each makes the image checks first, and makes them once.
-mod accepted;
+mod areas;
+mod ports;
+mod resets;
+mod runs;
 
 use model::Answer;
 ghost use mathlib.Core.Path.{_≡_};
@@ -22,7 +25,7 @@ pub fn reset(image: &[u8], registers: &mut [u8], targets: &mut [u8]) -> Answer
     let verdict = rules::verdict(image);
     match verdict {
         Answer::Refused(refusal, place) => Answer::Refused(refusal, place),
-        Answer::Accepted(_) => accepted::reset(image, registers, targets),
+        Answer::Accepted(_) => resets::reset(image, registers, targets),
     }
 }
 
@@ -33,7 +36,7 @@ pub fn write_port(image: &[u8], registers: &mut [u8], register: u32, value: u32)
     let verdict = rules::verdict(image);
     match verdict {
         Answer::Refused(refusal, place) => Answer::Refused(refusal, place),
-        Answer::Accepted(_) => accepted::write_port(image, registers, register, value),
+        Answer::Accepted(_) => ports::write_port(image, registers, register, value),
     }
 }
 
@@ -44,6 +47,6 @@ pub fn run(image: &[u8], registers: &mut [u8], targets: &mut [u8], count: u32) -
     let verdict = rules::verdict(image);
     match verdict {
         Answer::Refused(refusal, place) => Answer::Refused(refusal, place),
-        Answer::Accepted(_) => accepted::run(image, registers, targets, count),
+        Answer::Accepted(_) => runs::run(image, registers, targets, count),
     }
 }

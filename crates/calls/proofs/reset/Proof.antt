@@ -5,7 +5,7 @@ use Rattle.calls.proofs.reset.Statement.{statement}
 use Rattle.calls.proofs.reset.Tie as tie
 use Rattle.calls.proofs.reset.Reads as reads
 use Rattle.calls.proofs.reset.Lts as lts
-use Rattle.calls.proofs.accepted.reset.Reads as reset-reads
+use Rattle.calls.proofs.resets.reset.Reads as reset-reads
 use Rattle.rules.proofs.verdict.Reads as verdict-reads
 
 verdict-requires : tie.Need-verdict-requires

@@ -5,7 +5,7 @@ use Rattle.calls.proofs.run.Statement.{statement}
 use Rattle.calls.proofs.run.Tie as tie
 use Rattle.calls.proofs.run.Reads as reads
 use Rattle.calls.proofs.run.Lts as lts
-use Rattle.calls.proofs.accepted.run.Reads as run-reads
+use Rattle.calls.proofs.runs.run.Reads as run-reads
 use Rattle.rules.proofs.verdict.Reads as verdict-reads
 
 verdict-requires : tie.Need-verdict-requires

@@ -5,7 +5,7 @@ use Rattle.calls.proofs.write_port.Statement.{statement}
 use Rattle.calls.proofs.write_port.Tie as tie
 use Rattle.calls.proofs.write_port.Reads as reads
 use Rattle.calls.proofs.write_port.Lts as lts
-use Rattle.calls.proofs.accepted.write_port.Reads as write-port-reads
+use Rattle.calls.proofs.ports.write_port.Reads as write-port-reads
 use Rattle.rules.proofs.verdict.Reads as verdict-reads
 
 verdict-requires : tie.Need-verdict-requires

@@ -1,12 +1,12 @@
 use Rattle.design.proofs.ResetRules.{states-few}
 use Rattle.calls.proofs.CallRules.{registers-few, states-kept, area-long, fresh-defaults, wrong-registers, wrong-targets, run-refuses}
 use borrow.Author.Needs.{needs}
-use Rattle.calls.proofs.accepted.run.Statement.{statement}
-use Rattle.calls.proofs.accepted.run.Tie as tie
-use Rattle.calls.proofs.accepted.run.Reads as reads
-use Rattle.calls.proofs.accepted.run.Lts as lts
-use Rattle.calls.proofs.accepted.register_area_kept.Reads as register-area-kept-reads
-use Rattle.calls.proofs.accepted.run_on.Reads as run-on-reads
+use Rattle.calls.proofs.runs.run.Statement.{statement}
+use Rattle.calls.proofs.runs.run.Tie as tie
+use Rattle.calls.proofs.runs.run.Reads as reads
+use Rattle.calls.proofs.runs.run.Lts as lts
+use Rattle.calls.proofs.areas.register_area_kept.Reads as register-area-kept-reads
+use Rattle.calls.proofs.runs.run_on.Reads as run-on-reads
 use Rattle.design.proofs.Design.read.Reads as read-reads
 use Rattle.design.proofs.reset.default_targets.Reads as default-targets-reads
 

@@ -1,9 +1,9 @@
 use Rattle.calls.proofs.CallRules.{no-register, port-rule}
 use borrow.Author.Needs.{needs}
-use Rattle.calls.proofs.accepted.writable.Statement.{statement}
-use Rattle.calls.proofs.accepted.writable.Tie as tie
-use Rattle.calls.proofs.accepted.writable.Reads as reads
-use Rattle.calls.proofs.accepted.writable.Lts as lts
+use Rattle.calls.proofs.ports.writable.Statement.{statement}
+use Rattle.calls.proofs.ports.writable.Tie as tie
+use Rattle.calls.proofs.ports.writable.Reads as reads
+use Rattle.calls.proofs.ports.writable.Lts as lts
 use Rattle.design.proofs.Design.register_kind.Reads as register-kind-reads
 
 returns : tie.Need-returns

@@ -1,10 +1,10 @@
 use Rattle.calls.proofs.CallRules.{registers-few, states-kept, area-long, wrong-registers, wrong-targets, right-lengths, reset-refuses, reset-makes}
 use borrow.Author.Needs.{needs}
-use Rattle.calls.proofs.accepted.reset.Statement.{statement}
-use Rattle.calls.proofs.accepted.reset.Tie as tie
-use Rattle.calls.proofs.accepted.reset.Reads as reads
-use Rattle.calls.proofs.accepted.reset.Lts as lts
-use Rattle.calls.proofs.accepted.register_area_kept.Reads as register-area-kept-reads
+use Rattle.calls.proofs.resets.reset.Statement.{statement}
+use Rattle.calls.proofs.resets.reset.Tie as tie
+use Rattle.calls.proofs.resets.reset.Reads as reads
+use Rattle.calls.proofs.resets.reset.Lts as lts
+use Rattle.calls.proofs.areas.register_area_kept.Reads as register-area-kept-reads
 use Rattle.design.proofs.Design.read.Reads as read-reads
 use Rattle.design.proofs.Design.reset.Reads as reset-reads
 

@@ -1,11 +1,11 @@
 use Rattle.model.specs.Image.{AreBytes}
 use Rattle.calls.proofs.CallRules.{states-kept, right-lengths, run-refuses-target, run-refuses-count, run-accepts, run-running, run-makes, are-bytes, bytes-left}
 use borrow.Author.Needs.{needs}
-use Rattle.calls.proofs.accepted.run_on.Statement.{statement}
-use Rattle.calls.proofs.accepted.run_on.Tie as tie
-use Rattle.calls.proofs.accepted.run_on.Reads as reads
-use Rattle.calls.proofs.accepted.run_on.Lts as lts
-use Rattle.calls.proofs.accepted.count_kept.Reads as count-kept-reads
+use Rattle.calls.proofs.runs.run_on.Statement.{statement}
+use Rattle.calls.proofs.runs.run_on.Tie as tie
+use Rattle.calls.proofs.runs.run_on.Reads as reads
+use Rattle.calls.proofs.runs.run_on.Lts as lts
+use Rattle.calls.proofs.runs.count_kept.Reads as count-kept-reads
 use Rattle.machine.proofs.cycle.cycles.Reads as cycles-reads
 use Rattle.machine.proofs.targets.unsound.Reads as unsound-reads
 
@@ -19,7 +19,7 @@ same-length : tie.Need-same-length
 same-length c = search needs
 
 returns : tie.Need-returns
-returns c = search (run-refuses-target, right-lengths, needs)
+returns c = search (run-refuses-target, run-refuses-count, right-lengths, needs)
 
 enum-told : tie.Need-enum-told
 enum-told c = search needs
@@ -31,7 +31,7 @@ same-length-2 : tie.Need-same-length-2
 same-length-2 c = search needs
 
 returns-2 : tie.Need-returns-2
-returns-2 c = search (run-refuses-count, right-lengths, needs)
+returns-2 c = search (run-refuses-target, run-refuses-count, right-lengths, needs)
 
 cycles-requires : tie.Need-cycles-requires
 cycles-requires c κs = search (run-running, needs)
