@@ -6,10 +6,12 @@ pub mod answer;
 pub mod bench;
 pub mod compare;
 pub mod designs;
+pub mod examples;
 pub mod generate;
 #[cfg(feature = "library")]
 pub mod library;
 pub mod reference;
+pub mod stored;
 pub mod table;
 
 #[cfg(test)]

@@ -1,6 +1,6 @@
-//! The lease design: its bytes, its listing, P1 to P3 and P10.
+//! The lease design: its bytes, its listing, P1 to P3.
 
-use super::{judged, Areas};
+use super::Areas;
 use crate::designs::lease;
 use crate::reference::listing;
 
@@ -70,14 +70,4 @@ fn p3_goto_clears_deeper_choices() {
     areas.targets = vec![1, 1, 4, 3, 4];
     assert_eq!(areas.run(1).count, 1);
     assert_eq!(areas.targets, [2, 1, 3, 3, 4]);
-}
-
-#[test]
-fn p10_goto_root_is_refused() {
-    let mut table = lease();
-    let number = table.commands.iter().position(|node| node.kind == 4);
-    let number = number.unwrap();
-    assert_eq!(table.commands[number].which, 2);
-    table.commands[number].which = 0;
-    assert_eq!(judged(&table), (8, number));
 }

@@ -1,39 +1,15 @@
 //! The cases that documents and decisions give, run on the reference itself.
 
+mod examples;
 mod generator;
 mod groups;
-mod lattices;
 mod lease;
 mod lengths;
-mod refusals;
 mod values;
 
 use crate::answer::Answer;
 use crate::reference;
 use crate::table::Table;
-
-/// Number and place of check's answer; its count is always 0.
-fn judged(table: &Table) -> (u32, usize) {
-    let answer = reference::check(&table.image());
-    assert_eq!(answer.count, 0);
-    (answer.number, answer.place)
-}
-
-const ACCEPTED: (u32, usize) = (0, 0);
-
-/// Root falls; state 1 with the given body, state 2 beside it, all of label 0; r0 low and inner, r1 high and a port.
-fn three_states(body: impl Fn(&mut Table) -> u16) -> Table {
-    let mut table = Table::new(&[3, 2]);
-    table.inner(0, 0);
-    table.port(1, 0);
-    let fall = table.fall();
-    table.state(0, 0, fall);
-    let body = body(&mut table);
-    table.state(0, 0, body);
-    let go = table.goto(2);
-    table.state(0, 0, go);
-    table
-}
 
 /// A design with its two areas.
 struct Areas {

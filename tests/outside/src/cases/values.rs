@@ -1,24 +1,13 @@
 //! What expressions come to, and when assignments show (P4 among them).
 
 use super::Areas;
-use crate::table::Table;
+use crate::designs::{assigns_twice, lease, one_operation, seen_by_the_child, three_levels};
 
-/// r0 := r1 (kind) r2 once, in the root, which then falls.
+/// left (kind) right.
 fn result(kind: u8, left: u32, right: u32) -> u32 {
-    let mut table = Table::new(&[1]);
-    let written = table.inner(0, 99);
-    let one = table.port(0, left);
-    let other = table.port(0, right);
-    let left = table.read(one);
-    let right = table.read(other);
-    let value = table.operation(kind, left, right);
-    let assign = table.assign(written, value);
-    let fall = table.fall();
-    let body = table.sequence(assign, fall);
-    table.state(0, 0, body);
-    let body = table.goto(1);
-    table.state(0, 0, body);
-    let mut areas = Areas::reset(&table);
+    let mut areas = Areas::reset(&one_operation(kind));
+    assert_eq!(areas.write_port(1, left).number, 0);
+    assert_eq!(areas.write_port(2, right).number, 0);
     assert_eq!(areas.run(1).count, 1);
     areas.values()[0]
 }
@@ -41,31 +30,28 @@ fn p4_subtracting_wraps() {
     assert_eq!(result(3, 0, 1), 4_294_967_295);
 }
 
-/// The root writes r0 and the child tests it in the same cycle.
 #[test]
 fn an_assignment_shows_at_the_next_read() {
-    let mut table = Table::new(&[1]);
-    let register = table.inner(0, 0);
-    let seven = table.constant(7);
-    let assign = table.assign(register, seven);
-    let fall = table.fall();
-    let body = table.sequence(assign, fall);
-    table.state(0, 0, body);
-    let condition = table.read(register);
-    let then = table.goto(2);
-    let otherwise = table.goto(1);
-    let body = table.branch(condition, then, otherwise);
-    table.state(0, 0, body);
-    let body = table.goto(2);
-    table.state(0, 0, body);
-    let mut areas = Areas::reset(&table);
+    let mut areas = Areas::reset(&seen_by_the_child());
     areas.run(1);
     assert_eq!(areas.targets[0], 2);
+    let mut areas = Areas::reset(&assigns_twice());
+    areas.run(1);
+    assert_eq!(areas.values(), [2]);
+}
+
+/// Old choices below the state that a goto names are cleared, and no others.
+#[test]
+fn a_goto_clears_grandchildren() {
+    let mut areas = Areas::reset(&three_levels());
+    areas.targets = vec![2, 4, 8, 6, 4, 5, 6, 7, 8];
+    assert_eq!(areas.run(1).count, 1);
+    assert_eq!(areas.targets, [1, 3, 8, 5, 4, 5, 6, 7, 8]);
 }
 
 #[test]
 fn a_run_of_no_cycles_changes_nothing() {
-    let mut areas = Areas::reset(&crate::designs::lease());
+    let mut areas = Areas::reset(&lease());
     let (registers, targets) = (areas.registers.clone(), areas.targets.clone());
     assert_eq!(areas.run(0), crate::answer::Answer::accepted(0));
     assert_eq!((areas.registers, areas.targets), (registers, targets));

@@ -1,4 +1,14 @@
-//! The worked designs: document 01's lease design and the one with two groups.
+//! The worked designs: document 01's lease design and the one with two groups; and small ones,
+//! each for one sentence.
+
+mod largest;
+mod small;
+
+pub use largest::largest;
+pub use small::{
+    assigns_twice, low_child, nested_commands, nested_sums, one_operation, seen_by_the_child,
+    three_levels, three_states, timer_counted_by_a_high_state,
+};
 
 use crate::table::Table;
 

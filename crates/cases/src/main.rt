@@ -1,0 +1,341 @@
+// Runs stored images and calls, and prints the answers and the areas.
+//
+// Standard input is a sequence of records. A record has a head of 9 bytes: a kind, then two numbers
+// a and b, 32 bits each, little-endian. Some kinds have bytes behind the head.
+//
+//   0  note: a bytes of text follow, at most 200. Printed as `# text`.
+//   1  image: a bytes follow, at most 25,269: one more than the longest image. Checked, and kept for
+//      the calls. Printed as `check: NUMBER PLACE COUNT`.
+//   2  areas: a bytes for the registers follow, at most 264, then b bytes for the targets, at most
+//      72. Lent to the calls as they stand, with these lengths.
+//   3  reset. Printed as `reset: NUMBER PLACE COUNT`, then the areas.
+//   4  port write of register a, value b. Printed as `write A B: NUMBER PLACE COUNT`, then the areas.
+//   5  run of a cycles. Printed as `run A: NUMBER PLACE COUNT`, then the areas.
+//
+// Numbers that a kind does not use are not looked at. The areas are two lines, `  registers` and
+// `  targets`, each with its bytes as numbers. Before the first image and the first areas they are
+// empty. A record that is cut off, too long or of another kind is printed as `bad record` and is
+// the last. So is record 65,536.
+use model::Answer;
+use model::Refusal;
+ghost use Prim.Native.Nat.{_+_, _*_, _≤_};
+ghost use mathlib.Core.Path.{_≡_};
+ghost use lib.ListN.{length};
+ghost use Rattle.model.specs.Answers.{numberOf};
+ghost use Rattle.cases.specs.Fits.{Fits, StepFits};
+
+// The most records.
+const RECORDS: u32 = 65536;
+// The longest text of a note.
+const NOTE: usize = 200;
+// The buffers that images and areas are read to.
+const IMAGE: usize = 25269;
+
+const REGISTERS: usize = 264;
+
+const TARGETS: usize = 72;
+
+// The head of a record.
+struct Head {
+    kind: u8,
+    a: u32,
+    b: u32,
+}
+
+// How many bytes at the start of each buffer the calls are lent.
+struct Lent {
+    image: usize,
+    registers: usize,
+    targets: usize,
+}
+
+// What a record comes to.
+enum Step {
+    Next(Lent),
+    Ended,
+}
+
+// The number of a refusal in the table.
+fn number(refusal: Refusal) -> u64
+    ensures { λ r. ⌜ r ≡ numberOf refusal ⌝ }
+{
+    match refusal {
+        Refusal::Directory => 1,
+        Refusal::LabelRow => 2,
+        Refusal::RegisterRecord => 3,
+        Refusal::StateRecord => 4,
+        Refusal::NodeRecord => 5,
+        Refusal::NodeUse => 6,
+        Refusal::Depth => 7,
+        Refusal::Shape => 8,
+        Refusal::ChildLabel => 9,
+        Refusal::AssignFlow => 10,
+        Refusal::GotoFlow => 11,
+        Refusal::FallFlow => 12,
+        Refusal::NoPort => 13,
+        Refusal::Area => 14,
+        Refusal::CycleCount => 15,
+    }
+}
+
+// The number of 32 bits that four bytes hold, the lowest first.
+fn word(a: u8, b: u8, c: u8, d: u8) -> u32
+    ensures { λ r. ⌜ r ≡ a + 256 * b + 65536 * c + 16777216 * d ⌝ }
+{
+    a as u32 + 256 * b as u32 + 65536 * c as u32 + 16777216 * d as u32
+}
+
+// Writes to standard output.
+fn print(text: &[u8]) {
+    io::write_all(1, text);
+}
+
+// A space and a number.
+fn print_number(n: u64) {
+    print(b" ");
+    io::print_decimal(1, n);
+}
+
+// An answer in numbers ends the line of its call.
+fn print_answer(number: u64, place: u64, count: u64) {
+    print(b":");
+    print_number(number);
+    print_number(place);
+    print_number(count);
+    print(b"\n");
+}
+
+// Prints a call's answer.
+fn answered(answer: Answer) {
+    match answer {
+        Answer::Accepted(count) => print_answer(0, 0, count as u64),
+        Answer::Refused(refusal, place) => print_answer(number(refusal), place as u64, 0),
+    }
+}
+
+fn print_byte(b: u8) {
+    print_number(b as u64);
+}
+
+// A line of bytes.
+fn print_bytes(name: &[u8], bytes: &[u8]) {
+    print(name);
+    let mut i = 0;
+    while i < bytes.len() {
+        print_byte(bytes[i]);
+        i += 1;
+    }
+    print(b"\n");
+}
+
+fn print_areas(registers: &[u8], targets: &[u8]) {
+    print_bytes(b"  registers", registers);
+    print_bytes(b"  targets", targets);
+}
+
+// The answer to a record that is not as it should be.
+fn bad() -> Step
+    ensures { λ r. ⌜ StepFits r ⌝ }
+{
+    print(b"bad record\n");
+    Step::Ended
+}
+
+// Reads so many bytes to the start of a buffer. False where the input ends before.
+fn fill(buffer: &mut [u8], n: usize) -> bool
+    requires { ⌜ n ≤ length (now buffer) ⌝ }
+{
+    let got = io::read_full(0, &mut buffer[..n]);
+    got == n
+}
+
+fn check(image: &[u8]) {
+    print(b"check");
+    let answer = calls::check(image);
+    answered(answer);
+}
+
+fn reset(image: &[u8], registers: &mut [u8], targets: &mut [u8]) {
+    print(b"reset");
+    let answer = calls::reset(image, registers, targets);
+    answered(answer);
+    print_areas(registers, targets);
+}
+
+fn write_port(image: &[u8], registers: &mut [u8], targets: &[u8], register: u32, value: u32) {
+    print(b"write");
+    print_number(register as u64);
+    print_number(value as u64);
+    let answer = calls::write_port(image, registers, register, value);
+    answered(answer);
+    print_areas(registers, targets);
+}
+
+fn run(image: &[u8], registers: &mut [u8], targets: &mut [u8], count: u32) {
+    print(b"run");
+    print_number(count as u64);
+    let answer = calls::run(image, registers, targets, count);
+    answered(answer);
+    print_areas(registers, targets);
+}
+
+// A note.
+fn note(length: usize, lent: Lent) -> Step
+    requires { ⌜ Fits lent ⌝ }
+    ensures { λ r. ⌜ StepFits r ⌝ }
+{
+    let mut text = [0u8; NOTE];
+    if NOTE < length {
+        return bad();
+    }
+    if !fill(&mut text, length) {
+        return bad();
+    }
+    print(b"# ");
+    print(&text[..length]);
+    print(b"\n");
+    Step::Next(lent)
+}
+
+// An image of a bytes.
+fn new_image(image: &mut [u8], a: usize, lent: Lent) -> Step
+    requires { ⌜ (25269 ≡ length (now image)) × Fits lent ⌝ }
+    ensures { λ r. ⌜ StepFits r ⌝ }
+{
+    if IMAGE < a {
+        return bad();
+    }
+    if !fill(image, a) {
+        return bad();
+    }
+    check(&image[..a]);
+    Step::Next(Lent {
+        image: a,
+        registers: lent.registers,
+        targets: lent.targets,
+    })
+}
+
+// Areas of a and b bytes.
+fn new_areas(registers: &mut [u8], targets: &mut [u8], a: usize, b: usize, lent: Lent) -> Step
+    requires { ⌜ (264 ≡ length (now registers)) × (72 ≡ length (now targets)) × Fits lent ⌝ }
+    ensures { λ r. ⌜ StepFits r ⌝ }
+{
+    if REGISTERS < a {
+        return bad();
+    }
+    if TARGETS < b {
+        return bad();
+    }
+    if !fill(registers, a) {
+        return bad();
+    }
+    if !fill(targets, b) {
+        return bad();
+    }
+    Step::Next(Lent {
+        image: lent.image,
+        registers: a,
+        targets: b,
+    })
+}
+
+// Makes a call. False where the kind is none.
+fn call(image: &[u8], registers: &mut [u8], targets: &mut [u8], head: Head) -> bool {
+    let kind = head.kind;
+    match kind {
+        3 => {
+            reset(image, registers, targets);
+            true
+        }
+        4 => {
+            write_port(image, registers, targets, head.a, head.b);
+            true
+        }
+        5 => {
+            run(image, registers, targets, head.a);
+            true
+        }
+        _ => false,
+    }
+}
+
+// A call on what is lent.
+fn called(image: &[u8], registers: &mut [u8], targets: &mut [u8], head: Head, lent: Lent) -> Step
+    requires { ⌜ (25269 ≡ length (now image)) × (264 ≡ length (now registers)) × (72 ≡ length (now targets)) × Fits lent ⌝ }
+    ensures { λ r. ⌜ StepFits r ⌝ }
+{
+    let i = lent.image;
+    let r = lent.registers;
+    let t = lent.targets;
+    if !call(&image[..i], &mut registers[..r], &mut targets[..t], head) {
+        return bad();
+    }
+    Step::Next(lent)
+}
+
+// Does what a record says.
+fn followed(
+    image: &mut [u8; IMAGE],
+    registers: &mut [u8; REGISTERS],
+    targets: &mut [u8; TARGETS],
+    head: Head,
+    lent: Lent,
+) -> Step
+    requires { ⌜ Fits lent ⌝ }
+    ensures { λ r. ⌜ StepFits r ⌝ }
+{
+    let kind = head.kind;
+    let a = head.a as usize;
+    let b = head.b as usize;
+    match kind {
+        0 => note(a, lent),
+        1 => new_image(image, a, lent),
+        2 => new_areas(registers, targets, a, b, lent),
+        _ => called(image, registers, targets, head, lent),
+    }
+}
+
+// Reads a record and does what it says.
+fn record(
+    image: &mut [u8; IMAGE],
+    registers: &mut [u8; REGISTERS],
+    targets: &mut [u8; TARGETS],
+    lent: Lent,
+) -> Step
+    requires { ⌜ Fits lent ⌝ }
+    ensures { λ r. ⌜ StepFits r ⌝ }
+{
+    let mut head = [0u8; 9];
+    let got = io::read_full(0, &mut head);
+    if got == 0 {
+        return Step::Ended;
+    }
+    if got < 9 {
+        return bad();
+    }
+    let kind = head[0];
+    let a = word(head[1], head[2], head[3], head[4]);
+    let b = word(head[5], head[6], head[7], head[8]);
+    followed(image, registers, targets, Head { kind, a, b }, lent)
+}
+
+fn main() {
+    let mut image = [0u8; IMAGE];
+    let mut registers = [0u8; REGISTERS];
+    let mut targets = [0u8; TARGETS];
+    let mut lent = Lent {
+        image: 0,
+        registers: 0,
+        targets: 0,
+    };
+    let mut left = RECORDS;
+    while 0 < left {
+        let step = record(&mut image, &mut registers, &mut targets, lent);
+        let Step::Next(next) = step else {
+            return;
+        };
+        lent = next;
+        left -= 1;
+    }
+}

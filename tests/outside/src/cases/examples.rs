@@ -1,0 +1,37 @@
+//! The examples have the verdicts that they say.
+
+use crate::designs::largest;
+use crate::examples;
+use crate::reference;
+use crate::reference::limits::LARGEST_IMAGE;
+
+#[test]
+fn verdicts() {
+    for example in examples::all() {
+        let answer = reference::check(&example.image);
+        let verdict = (answer.number, answer.place);
+        assert_eq!(verdict, example.verdict, "{}", example.sentence);
+        assert_eq!(answer.count, 0);
+    }
+}
+
+#[test]
+fn every_refusal_of_an_image_has_an_example() {
+    for number in 0..=12 {
+        let examples = examples::all();
+        assert!(examples.iter().any(|example| example.verdict.0 == number));
+    }
+}
+
+#[test]
+fn an_image_one_byte_longer_than_the_largest() {
+    let answer = reference::check(&[0; LARGEST_IMAGE + 1]);
+    assert_eq!((answer.number, answer.place), (1, 0));
+}
+
+#[test]
+fn every_count_at_its_limit() {
+    let image = largest().image();
+    assert_eq!(image.len(), LARGEST_IMAGE);
+    assert_eq!(reference::check(&image).number, 0);
+}

@@ -1,0 +1,49 @@
+//! A design with every count at its limit.
+
+use crate::reference::limits::{
+    MOST_COMMANDS, MOST_EXPRESSIONS, MOST_LABELS, MOST_REGISTERS, MOST_STATES,
+};
+use crate::table::Table;
+
+/// The labels are a chain, the registers ports in turn. The root falls; each other state assigns
+/// seven or eight times and goes to the next.
+pub fn largest() -> Table {
+    let rows: Vec<u16> = (0..MOST_LABELS).map(|label| u16::MAX << label).collect();
+    let mut table = Table::new(&rows);
+    for register in 0..MOST_REGISTERS {
+        table.register(0, (register % 2) as u8, 7 * register as u32);
+    }
+    let body = table.fall();
+    table.state(0, 0, body);
+    for state in 1..MOST_STATES {
+        let next = if state + 1 < MOST_STATES {
+            state + 1
+        } else {
+            1
+        };
+        let assigns = if state <= 39 { 8 } else { 7 };
+        let mut body = table.goto(next as u8);
+        for _ in 0..assigns {
+            let assign = assign(&mut table);
+            body = table.sequence(assign, body);
+        }
+        table.state(0, 0, body);
+    }
+    assert_eq!(table.commands.len(), MOST_COMMANDS);
+    assert_eq!(table.expressions.len(), MOST_EXPRESSIONS);
+    table
+}
+
+/// The first 304 assignments take five expressions, the others three.
+fn assign(table: &mut Table) -> u16 {
+    let number = table.commands.len();
+    let kind = 2 + (number % 7) as u8;
+    let left = table.read((number % MOST_REGISTERS) as u8);
+    let right = table.read((number / 3 % MOST_REGISTERS) as u8);
+    let mut value = table.operation(kind, left, right);
+    if table.expressions.len() < 5 * 304 {
+        let constant = table.constant(number as u32);
+        value = table.add(value, constant);
+    }
+    table.assign((number % 5 * 13 % MOST_REGISTERS) as u8, value)
+}

@@ -1,0 +1,141 @@
+//! Small designs.
+
+use crate::table::Table;
+
+/// Root falls; state 1 with the given body, state 2 beside it, all of label 0; r0 low and inner, r1 high and a port.
+pub fn three_states(body: impl Fn(&mut Table) -> u16) -> Table {
+    let mut table = Table::new(&[3, 2]);
+    table.inner(0, 0);
+    table.port(1, 0);
+    let fall = table.fall();
+    table.state(0, 0, fall);
+    let body = body(&mut table);
+    table.state(0, 0, body);
+    let go = table.goto(2);
+    table.state(0, 0, go);
+    table
+}
+
+/// So many sums, each adding one constant.
+pub fn nested_sums(count: usize) -> Table {
+    three_states(|table| {
+        let mut value = table.constant(0);
+        for _ in 0..count {
+            let one = table.constant(1);
+            value = table.add(value, one);
+        }
+        let assign = table.assign(0, value);
+        let go = table.goto(1);
+        table.sequence(assign, go)
+    })
+}
+
+/// So many sequences of a skip around an if, whose condition does not count into their depth.
+pub fn nested_commands(count: usize) -> Table {
+    three_states(|table| {
+        table.expressions = nested_sums(63).expressions;
+        let condition = table.expressions.len() as u16 - 1;
+        let then = table.goto(1);
+        let otherwise = table.goto(2);
+        let mut body = table.branch(condition, then, otherwise);
+        for _ in 0..count {
+            let skip = table.skip();
+            body = table.sequence(skip, body);
+        }
+        body
+    })
+}
+
+/// Figure 2(a): a state of label 1 counts the timer, of label 0, down.
+pub fn timer_counted_by_a_high_state() -> Table {
+    let mut table = Table::new(&[3, 2]);
+    let timer = table.inner(0, 3);
+    let fall = table.fall();
+    table.state(0, 0, fall);
+    let count = super::count_down(&mut table, timer);
+    let go = table.goto(1);
+    let body = table.sequence(count, go);
+    table.state(0, 1, body);
+    table
+}
+
+/// The lease design with state 2 raised and its child 4 lowered.
+pub fn low_child() -> Table {
+    let mut table = super::lease();
+    table.states[2].label = 1;
+    table.states[4].label = 0;
+    table
+}
+
+/// r0 := r1 (kind) r2 in each cycle, in the root, which then falls; r1 and r2 are ports.
+pub fn one_operation(kind: u8) -> Table {
+    let mut table = Table::new(&[1]);
+    let written = table.inner(0, 99);
+    let one = table.port(0, 0);
+    let other = table.port(0, 0);
+    let left = table.read(one);
+    let right = table.read(other);
+    let value = table.operation(kind, left, right);
+    let assign = table.assign(written, value);
+    let fall = table.fall();
+    let body = table.sequence(assign, fall);
+    table.state(0, 0, body);
+    let body = table.goto(1);
+    table.state(0, 0, body);
+    table
+}
+
+/// r0 := r0 + 1; r0 := r0 + r0 in each cycle, in the root, which then falls.
+pub fn assigns_twice() -> Table {
+    let mut table = Table::new(&[1]);
+    let register = table.inner(0, 0);
+    let old = table.read(register);
+    let one = table.constant(1);
+    let sum = table.add(old, one);
+    let first = table.assign(register, sum);
+    let left = table.read(register);
+    let right = table.read(register);
+    let sum = table.add(left, right);
+    let second = table.assign(register, sum);
+    let both = table.sequence(first, second);
+    let fall = table.fall();
+    let body = table.sequence(both, fall);
+    table.state(0, 0, body);
+    let body = table.goto(1);
+    table.state(0, 0, body);
+    table
+}
+
+/// The root writes r0, and the child tests it in the same cycle.
+pub fn seen_by_the_child() -> Table {
+    let mut table = Table::new(&[1]);
+    let register = table.inner(0, 0);
+    let seven = table.constant(7);
+    let assign = table.assign(register, seven);
+    let fall = table.fall();
+    let body = table.sequence(assign, fall);
+    table.state(0, 0, body);
+    let condition = table.read(register);
+    let then = table.goto(2);
+    let otherwise = table.goto(1);
+    let body = table.branch(condition, then, otherwise);
+    table.state(0, 0, body);
+    let body = table.goto(2);
+    table.state(0, 0, body);
+    table
+}
+
+/// States 1 and 2 below the root, 3 and 4 below 1, 5 and 6 below 3, 7 and 8 below 2. State 2 goes
+/// to 1; 0, 1 and 3 fall; each other goes to itself.
+pub fn three_levels() -> Table {
+    let mut table = Table::new(&[1]);
+    for (state, parent) in [0, 0, 0, 1, 1, 3, 3, 2, 2].into_iter().enumerate() {
+        let body = match state {
+            0 | 1 | 3 => table.fall(),
+            2 => table.goto(1),
+            _ => table.goto(state as u8),
+        };
+        table.state(parent, 0, body);
+    }
+    table
+}

@@ -1,0 +1,53 @@
+//! Wrong lengths, and refused images with good areas. No lent byte changes.
+
+use super::Script;
+use crate::designs::{lease, low_child};
+
+pub fn add(script: &mut Script) {
+    let image = lease().image();
+    script.note("14: 4 bytes for two registers").image(&image);
+    wrong(script, 4, 5);
+    script.note("14: registers one too short");
+    wrong(script, 7, 5);
+    script.note("14: registers one too long");
+    wrong(script, 9, 5);
+    script.note("14: registers empty");
+    wrong(script, 0, 5);
+    script.note("14: registers the longest that are stored");
+    wrong(script, 264, 5);
+    script.note("14: targets one too short");
+    wrong(script, 8, 4);
+    script.note("14: targets one too long");
+    wrong(script, 8, 6);
+    script.note("14: targets empty");
+    wrong(script, 8, 0);
+    script.note("14: both areas empty");
+    wrong(script, 0, 0);
+    script.note("14: a wrong length before an unsound target");
+    script.areas(&[0; 7], &[0, 1, 2, 3, 4]).run(1);
+    refused_images(script, &image);
+}
+
+/// Each call on areas of these lengths, with bytes that a change would show in.
+fn wrong(script: &mut Script, registers: usize, targets: usize) {
+    let registers: Vec<u8> = (0..registers).map(|i| 100 + (i % 100) as u8).collect();
+    let targets = &[1, 1, 3, 3, 4, 5][..targets];
+    script.areas(&registers, targets);
+    script.reset().write(1, 7).run(0).run(1).run(1_000_001);
+}
+
+fn refused_images(script: &mut Script, image: &[u8]) {
+    script
+        .note("a refused image, good areas")
+        .image(&image[..207])
+        .areas(&[3, 0, 0, 0, 0, 0, 0, 0], &[1, 1, 3, 3, 4]);
+    script.reset().write(1, 7).run(1);
+    script
+        .note("an image refused by 9, good areas")
+        .image(&low_child().image());
+    script.reset().write(1, 7).run(1);
+    script
+        .note("the image checks come first")
+        .areas(&[1, 2, 3], &[9]);
+    script.reset().write(9, 9).run(1_000_001);
+}

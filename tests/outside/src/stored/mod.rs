@@ -1,0 +1,36 @@
+//! The stored images and calls: the records that the proved program `cases` reads, and the text
+//! that it must print, as the reference has it.
+
+mod areas;
+mod images;
+mod lease;
+mod ports;
+mod record;
+mod runs;
+mod script;
+mod text;
+mod values;
+
+use record::Record;
+use script::Script;
+
+/// Standard input of the program.
+pub fn input() -> Vec<u8> {
+    records().iter().flat_map(Record::bytes).collect()
+}
+
+/// What it prints.
+pub fn output() -> String {
+    text::of(&records())
+}
+
+fn records() -> Vec<Record> {
+    let mut script = Script::default();
+    images::add(&mut script);
+    lease::add(&mut script);
+    values::add(&mut script);
+    runs::add(&mut script);
+    ports::add(&mut script);
+    areas::add(&mut script);
+    script.end()
+}

@@ -1,0 +1,40 @@
+//! A record: a kind, two numbers and what follows them. `crates/cases/src/main.rt` has the format.
+
+pub enum Record {
+    Note(&'static str),
+    Image(Vec<u8>),
+    Areas(Vec<u8>, Vec<u8>),
+    Reset,
+    WritePort {
+        register: u32,
+        value: u32,
+    },
+    Run(u32),
+    /// A record of no kind.
+    Bad,
+}
+
+impl Record {
+    pub fn bytes(&self) -> Vec<u8> {
+        match self {
+            Record::Note(text) => record(0, text.len() as u32, 0, &[text.as_bytes()]),
+            Record::Image(image) => record(1, image.len() as u32, 0, &[image]),
+            Record::Areas(registers, targets) => {
+                let lengths = (registers.len() as u32, targets.len() as u32);
+                record(2, lengths.0, lengths.1, &[registers, targets])
+            }
+            Record::Reset => record(3, 0, 0, &[]),
+            Record::WritePort { register, value } => record(4, *register, *value, &[]),
+            Record::Run(cycles) => record(5, *cycles, 0, &[]),
+            Record::Bad => record(6, 0, 0, &[]),
+        }
+    }
+}
+
+fn record(kind: u8, a: u32, b: u32, behind: &[&[u8]]) -> Vec<u8> {
+    let mut bytes = vec![kind];
+    bytes.extend(a.to_le_bytes());
+    bytes.extend(b.to_le_bytes());
+    bytes.extend(behind.concat());
+    bytes
+}

@@ -1,0 +1,55 @@
+//! Adding records one by one.
+
+use super::record::Record;
+use crate::table::Table;
+
+#[derive(Default)]
+pub struct Script {
+    records: Vec<Record>,
+}
+
+impl Script {
+    pub fn note(&mut self, sentence: &'static str) -> &mut Script {
+        assert!(sentence.len() <= 200);
+        self.add(Record::Note(sentence))
+    }
+
+    pub fn image(&mut self, image: &[u8]) -> &mut Script {
+        self.add(Record::Image(image.to_vec()))
+    }
+
+    pub fn areas(&mut self, registers: &[u8], targets: &[u8]) -> &mut Script {
+        self.add(Record::Areas(registers.to_vec(), targets.to_vec()))
+    }
+
+    /// The design with areas of the right lengths.
+    pub fn design(&mut self, table: &Table) -> &mut Script {
+        self.image(&table.image());
+        let registers = vec![0xAA; 4 * table.registers.len()];
+        self.areas(&registers, &vec![0xAA; table.states.len()])
+    }
+
+    pub fn reset(&mut self) -> &mut Script {
+        self.add(Record::Reset)
+    }
+
+    pub fn write(&mut self, register: u32, value: u32) -> &mut Script {
+        self.add(Record::WritePort { register, value })
+    }
+
+    pub fn run(&mut self, cycles: u32) -> &mut Script {
+        self.add(Record::Run(cycles))
+    }
+
+    /// The last record is of no kind.
+    pub fn end(mut self) -> Vec<Record> {
+        self.note("a record of another kind is the last")
+            .add(Record::Bad);
+        self.records
+    }
+
+    fn add(&mut self, record: Record) -> &mut Script {
+        self.records.push(record);
+        self
+    }
+}

@@ -1,0 +1,66 @@
+//! The records run on the reference, and what is printed of them.
+
+use super::record::Record;
+use crate::answer::Answer;
+use crate::reference;
+
+#[derive(Default)]
+struct Lent {
+    image: Vec<u8>,
+    registers: Vec<u8>,
+    targets: Vec<u8>,
+}
+
+pub fn of(records: &[Record]) -> String {
+    let mut lent = Lent::default();
+    records.iter().map(|record| lent.follow(record)).collect()
+}
+
+impl Lent {
+    fn follow(&mut self, record: &Record) -> String {
+        match record {
+            Record::Note(text) => format!("# {text}\n"),
+            Record::Image(image) => {
+                self.image = image.clone();
+                answered("check", reference::check(image))
+            }
+            Record::Areas(registers, targets) => {
+                self.registers = registers.clone();
+                self.targets = targets.clone();
+                String::new()
+            }
+            Record::Reset => {
+                let answer = reference::reset(&self.image, &mut self.registers, &mut self.targets);
+                answered("reset", answer) + &self.areas()
+            }
+            Record::WritePort { register, value } => {
+                let (register, value) = (*register, *value);
+                let answer =
+                    reference::write_port(&self.image, &mut self.registers, register, value);
+                answered(&format!("write {register} {value}"), answer) + &self.areas()
+            }
+            Record::Run(cycles) => {
+                let (registers, targets) = (&mut self.registers, &mut self.targets);
+                let answer = reference::run(&self.image, registers, targets, *cycles);
+                answered(&format!("run {cycles}"), answer) + &self.areas()
+            }
+            Record::Bad => "bad record\n".to_string(),
+        }
+    }
+
+    fn areas(&self) -> String {
+        line("registers", &self.registers) + &line("targets", &self.targets)
+    }
+}
+
+fn answered(call: &str, answer: Answer) -> String {
+    format!(
+        "{call}: {} {} {}\n",
+        answer.number, answer.place, answer.count
+    )
+}
+
+fn line(name: &str, bytes: &[u8]) -> String {
+    let numbers: String = bytes.iter().map(|byte| format!(" {byte}")).collect();
+    format!("  {name}{numbers}\n")
+}
