@@ -1,2 +1,3 @@
 -- Laws of answers in numbers.
 pub mod Answered
+pub mod Promises

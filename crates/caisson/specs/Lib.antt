@@ -1,2 +1,3 @@
 -- What the exported functions' contracts cite.
 pub mod Told
+pub mod Hosted
