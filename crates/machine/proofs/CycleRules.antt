@@ -31,8 +31,8 @@ use Rattle.design.specs.Describes.{Describes}
 use Rattle.design.proofs.Laws.{registers-count, states-count, commands-count, state-in}
 use Rattle.design.proofs.ResetRules.{default-inside, states-few, state-fits}
 use Rattle.bodies.specs.Flows.{FlowKnown}
-use Rattle.machine.specs.Executions.{Executing, executedAs}
-use Rattle.machine.specs.Cycles.{Running, Cycled, valuesIn, areasIn, overwritten}
+use Rattle.machine.specs.Executions.{Executing, executedAs, valuesIn}
+use Rattle.machine.specs.Cycles.{Running, Cycled, areasIn, overwritten}
 
 -- ---- the command of a state
 module _ {image : List ℕ} {x : Design} {s c : ℕ} (known : FlowKnown image x) (l : s < x .states) (e : c ≡ stateIn image (x .«states_at») s .command) where

@@ -9,17 +9,16 @@ use lib.ListN.{length}
 use Rattle.model.specs.Image.{Node, designOf, expressionAt, word32At, constantOf}
 use Rattle.model.specs.Kinds.{Operation, add, subtract, bitwiseAnd, bitwiseOr, bitwiseXor, equal, less, ExpressionKind, constants, reads, operates, unknownExpression, expressionKind}
 use Rattle.model.specs.Trees.{exprOf}
-use Rattle.model.specs.Values.{apply, oneOrZero, wordsOf}
+use Rattle.model.specs.Values.{apply, oneOrZero}
 use Rattle.model.specs.Machine.{eval}
 use Rattle.model.proofs.Laws.Kinds.{kind-constants, kind-reads, kind-operates, no-expression-kind}
 use Rattle.model.proofs.Laws.Trees.{expr-constant, expr-register, expr-binary}
 use Rattle.model.proofs.Exact.Records.{expression-iff}
-use Rattle.design.specs.declared.Design.{Design}
 use Rattle.design.specs.Records.{nodeIn, constantIn}
-use Rattle.design.proofs.Laws.{expressions-count, expression-in}
-use Rattle.bodies.specs.Flows.{Reading}
-use Rattle.bodies.proofs.FlowRules.{read-register, part-a-falls, part-b-falls}
+use Rattle.design.proofs.Laws.{registers-count, expressions-count, expression-inside, expression-in}
 use Rattle.design.proofs.WordRules.{words-at}
+use Rattle.bodies.proofs.FlowRules.{read-register, part-a-falls, part-a-reading, part-b-falls, part-b-reading}
+use Rattle.machine.specs.Executions.{Evaluating, valuesIn}
 
 -- ---- operations
 -- the operation of a kind
@@ -81,70 +80,93 @@ module _ (k : ℕ) (o : Operation) (x y : ℕ) where
 pub ruleset apply-laws = (applies-add, applies-subtract, applies-and, applies-or, applies-xor, applies-equal, applies-less)
 
 -- ---- expressions
-module _ {image : List ℕ} {x : Design} {e : ℕ} (reading : Reading image x e) where
-  same-expression : nodeIn image (x .«expressions_at») e ≡ expressionAt (designOf image) e
-  same-expression = expression-in (reading .known .describes) (reading .node)
+module _ {image : List ℕ} {place : ℕ} {registers : List ℕ} {e : ℕ} (here : Evaluating image place registers e) where
+  pub expression-place-inside : place + 8 * e + 8 ≤ length image
+  expression-place-inside = rw (here .begins) (expression-inside (here .reading .known .describes) (here .reading .node))
 
-  kind-is : {k : ℕ} → k ≡ nodeIn image (x .«expressions_at») e .kind → expressionAt (designOf image) e .kind ≡ k
+  same-expression : nodeIn image place e ≡ expressionAt (designOf image) e
+  same-expression = rw (here .begins) (expression-in (here .reading .known .describes) (here .reading .node))
+
+  kind-is : {k : ℕ} → k ≡ nodeIn image place e .kind → expressionAt (designOf image) e .kind ≡ k
   kind-is p = sym (p ∙ ap (λ (y : Node). y .kind) same-expression)
 
-module _ {image : List ℕ} {x : Design} {e : ℕ} (reading : Reading image x e) (registers : List ℕ) (area : length registers ≡ 4 * x .registers) where
-  pub read-inside : {k r : ℕ} → k ≡ nodeIn image (x .«expressions_at») e .kind → k ≡ 1 → r ≡ nodeIn image (x .«expressions_at») e .item → 4 * r + 4 ≤ length registers
-  read-inside p q f = let below = read-register reading p q f in omega arith
+  -- ---- a register
+  read-below : {k r : ℕ} → k ≡ nodeIn image place e .kind → k ≡ 1 → r ≡ nodeIn image place e .item → r < here .design .registers
+  read-below p q f = read-register (here .reading) (rw (here .begins) at p) q (rw (here .begins) at f)
+
+  pub read-inside : {k r : ℕ} → k ≡ nodeIn image place e .kind → k ≡ 1 → r ≡ nodeIn image place e .item → 4 * r + 4 ≤ length registers
+  read-inside p q f = let area = here .area in let below = read-below p q f in omega arith
 
   pub evaluates-register :
       {k r v : ℕ}
-      → k ≡ nodeIn image (x .«expressions_at») e .kind
+      → k ≡ nodeIn image place e .kind
       → k ≡ 1
-      → r ≡ nodeIn image (x .«expressions_at») e .item
+      → r ≡ nodeIn image place e .item
       → v ≡ word32At registers (4 * r)
-      → v ≡ eval (wordsOf (x .registers) registers) (exprOf (designOf image) e)
+      → v ≡ eval (valuesIn (designOf image) registers) (exprOf (designOf image) e)
   unfolding eval
   evaluates-register {r = r} p q f h =
       let d = designOf image in
-      let named : expressionAt d e .item ≡ r = sym (f ∙ ap (λ (y : Node). y .item) (same-expression reading)) in
-      rw (expr-register d e (kind-reads (kind-is reading p ∙ q)), named) (h ∙ sym (words-at registers (read-register reading p q f) area))
+      let named : expressionAt d e .item ≡ r = sym (f ∙ ap (λ (y : Node). y .item) same-expression) in
+      let count = registers-count (here .reading .known .describes) in
+      rw (expr-register d e (kind-reads (kind-is p ∙ q)), named, ← count) (h ∙ sym (words-at registers (read-below p q f) (here .area)))
+
+  -- ---- the parts of an operation
+  pub operand-a-falls : {k a t : ℕ} → k < 9 → 1 ≤ k → (k ≡ 1 → ⊥) → k ≡ nodeIn image place e .kind → a ≡ nodeIn image place e .a → e ≡ t → a < t
+  operand-a-falls u l other p f m = part-a-falls (here .reading) (rw (here .begins) at p) other l u (rw (here .begins) at f) m
+
+  pub operand-a-evaluating : {k a : ℕ} → k < 9 → 1 ≤ k → (k ≡ 1 → ⊥) → k ≡ nodeIn image place e .kind → a ≡ nodeIn image place e .a → Evaluating image place registers a
+  operand-a-evaluating u l other p f =
+      record { design = here .design; reading = part-a-reading (here .reading) (rw (here .begins) at p) other l u (rw (here .begins) at f); begins = here .begins; area = here .area }
+
+  pub operand-b-falls : {k b t : ℕ} → k < 9 → 1 ≤ k → (k ≡ 1 → ⊥) → k ≡ nodeIn image place e .kind → b ≡ nodeIn image place e .b → e ≡ t → b < t
+  operand-b-falls u l other p f m = part-b-falls (here .reading) (rw (here .begins) at p) other l u (rw (here .begins) at f) m
+
+  pub operand-b-evaluating : {k b : ℕ} → k < 9 → 1 ≤ k → (k ≡ 1 → ⊥) → k ≡ nodeIn image place e .kind → b ≡ nodeIn image place e .b → Evaluating image place registers b
+  operand-b-evaluating u l other p f =
+      record { design = here .design; reading = part-b-reading (here .reading) (rw (here .begins) at p) other l u (rw (here .begins) at f); begins = here .begins; area = here .area }
 
   pub evaluates-operation :
       {k a b m n v : ℕ}
-      → k ≡ nodeIn image (x .«expressions_at») e .kind
+      → k ≡ nodeIn image place e .kind
       → (k ≡ 1 → ⊥)
       → 1 ≤ k
       → k < 9
-      → a ≡ nodeIn image (x .«expressions_at») e .a
-      → b ≡ nodeIn image (x .«expressions_at») e .b
-      → m ≡ eval (wordsOf (x .registers) registers) (exprOf (designOf image) a)
-      → n ≡ eval (wordsOf (x .registers) registers) (exprOf (designOf image) b)
+      → a ≡ nodeIn image place e .a
+      → b ≡ nodeIn image place e .b
+      → m ≡ eval (valuesIn (designOf image) registers) (exprOf (designOf image) a)
+      → n ≡ eval (valuesIn (designOf image) registers) (exprOf (designOf image) b)
       → ((o : Operation) → expressionKind k ≡ operates o → v ≡ apply o m n)
-      → v ≡ eval (wordsOf (x .registers) registers) (exprOf (designOf image) e)
+      → v ≡ eval (valuesIn (designOf image) registers) (exprOf (designOf image) e)
   unfolding eval
-  evaluates-operation {a = a} {b = b} p other l h f g first second applied =
+  evaluates-operation {a = a} {b = b} p other l u f g first second applied =
       let d = designOf image in
-      let found = kind-operates (λ z. omega arith) other h in
-      let left : a ≡ expressionAt d e .a = f ∙ ap (λ (y : Node). y .a) (same-expression reading) in
-      let right : b ≡ expressionAt d e .b = g ∙ ap (λ (y : Node). y .b) (same-expression reading) in
-      let lower : expressionAt d e .a < e = rw left at (part-a-falls reading p other l h f refl) in
-      let lower′ : expressionAt d e .b < e = rw right at (part-b-falls reading p other l h g refl) in
-      let tree = expr-binary d e (ap expressionKind (kind-is reading p) ∙ found .1) lower lower′ in
+      let found = kind-operates (λ z. omega arith) other u in
+      let left : a ≡ expressionAt d e .a = f ∙ ap (λ (y : Node). y .a) same-expression in
+      let right : b ≡ expressionAt d e .b = g ∙ ap (λ (y : Node). y .b) same-expression in
+      let lower : expressionAt d e .a < e = rw left at (operand-a-falls u l other p f refl) in
+      let lower′ : expressionAt d e .b < e = rw right at (operand-b-falls u l other p g refl) in
+      let tree = expr-binary d e (ap expressionKind (kind-is p) ∙ found .1) lower lower′ in
       rw tree (applied (found .0) (found .1) ∙ rw (first, second, left, right))
 
-  constant-is : {v : ℕ} → expressionKind (expressionAt (designOf image) e .kind) ≡ constants → v ≡ constantIn image (x .«expressions_at») e → v ≡ eval (wordsOf (x .registers) registers) (exprOf (designOf image) e)
+  -- ---- a constant
+  constant-is : {v : ℕ} → expressionKind (expressionAt (designOf image) e .kind) ≡ constants → v ≡ constantIn image place e → v ≡ eval (valuesIn (designOf image) registers) (exprOf (designOf image) e)
   unfolding eval
   constant-is {v} kind h =
       let d = designOf image in
-      let at = x .«expressions_at» + 8 * e in
-      let place : at + 4 + 2 ≡ at + 6 = omega arith in
-      let fields : v ≡ constantOf (nodeIn image (x .«expressions_at») e) = h ∙ rw place in
-      rw (expr-constant d e kind) (fields ∙ ap constantOf (same-expression reading))
+      let at = place + 8 * e in
+      let behind : at + 4 + 2 ≡ at + 6 = omega arith in
+      let fields : v ≡ constantOf (nodeIn image place e) = h ∙ rw behind in
+      rw (expr-constant d e kind) (fields ∙ ap constantOf same-expression)
 
-  pub evaluates-low : {k v : ℕ} → k ≡ nodeIn image (x .«expressions_at») e .kind → k < 1 → v ≡ constantIn image (x .«expressions_at») e → v ≡ eval (wordsOf (x .registers) registers) (exprOf (designOf image) e)
-  evaluates-low p l h = let none = kind-is reading p in constant-is (kind-constants (omega arith)) h
+  pub evaluates-low : {k v : ℕ} → k ≡ nodeIn image place e .kind → k < 1 → v ≡ constantIn image place e → v ≡ eval (valuesIn (designOf image) registers) (exprOf (designOf image) e)
+  evaluates-low p l h = let none = kind-is p in constant-is (kind-constants (omega arith)) h
 
   -- no number from 9 on is a kind
-  pub evaluates-high : {k v : ℕ} → k ≡ nodeIn image (x .«expressions_at») e .kind → 9 ≤ k → v ≡ constantIn image (x .«expressions_at») e → v ≡ eval (wordsOf (x .registers) registers) (exprOf (designOf image) e)
+  pub evaluates-high : {k v : ℕ} → k ≡ nodeIn image place e .kind → 9 ≤ k → v ≡ constantIn image place e → v ≡ eval (valuesIn (designOf image) registers) (exprOf (designOf image) e)
   evaluates-high {k} p l h =
-      let count = expressions-count (reading .known .describes) in
-      let node = reading .node in
-      absurd (rw (kind-is reading p, no-expression-kind l) at (expression-iff (designOf image) e .0 (reading .known .expressions .kept e (omega arith))))
+      let count = expressions-count (here .reading .known .describes) in
+      let node = here .reading .node in
+      absurd (rw (kind-is p, no-expression-kind l) at (expression-iff (designOf image) e .0 (here .reading .known .expressions .kept e (omega arith))))
 
-pub ruleset evaluate-laws = (read-inside, evaluates-register, evaluates-operation, evaluates-low, evaluates-high)
+pub ruleset evaluate-laws = (expression-place-inside, read-inside, evaluates-register, evaluates-operation, evaluates-low, evaluates-high)

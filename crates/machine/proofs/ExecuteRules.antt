@@ -16,7 +16,7 @@ use Rattle.model.specs.Image.{Design as Table, Node, designOf, commandAt}
 use Rattle.model.specs.Kinds.{CommandKind, assigns, sequences, branches, commandKind}
 use Rattle.model.specs.Trees.{exprOf, cmdOf}
 use Rattle.model.specs.Values.{wordsOf}
-use Rattle.model.specs.Machine.{Executed, eval, exec}
+use Rattle.model.specs.Machine.{eval, exec}
 use Rattle.model.specs.Rules.{CommandHolds}
 use Rattle.model.proofs.Laws.Booleans.{true-or-false, or-cases, or-first, or-second}
 use Rattle.model.proofs.Laws.Kinds.{kind-skips, kind-falls, kind-goes}
@@ -25,10 +25,10 @@ use Rattle.model.proofs.Exact.Records.{command-iff}
 use Rattle.design.specs.declared.Design.{Design}
 use Rattle.design.specs.Records.{nodeIn}
 use Rattle.design.proofs.Laws.{registers-count, commands-count, expressions-count, command-inside, command-in}
-use Rattle.bodies.specs.Flows.{Reading}
 use Rattle.design.specs.Words.{putWord}
-use Rattle.machine.specs.Executions.{Executing, executedAs, cameTo, cameToBy}
+use Rattle.bodies.specs.Flows.{FlowKnown}
 use Rattle.design.proofs.WordRules.{words-put, length-put}
+use Rattle.machine.specs.Executions.{Executing, Evaluating, Performing, executedAs, cameTo, cameToBy, valuesIn}
 
 -- ---- what a command that holds no other comes to
 module _ (x : Node) where
@@ -86,265 +86,272 @@ leaves d n (suc (suc (suc (suc zero)))) values e a b c h = rw (cmd-goto d n (kin
 leaves d n (suc (suc (suc (suc (suc zero))))) values e a b c h = absurd (c refl)
 leaves d n (suc (suc (suc (suc (suc (suc k)))))) values e a b c h = absurd h
 
+-- ---- a command by its place
+module _ {image : List ℕ} {x : Design} (known : FlowKnown image x) {m : ℕ} (l : m < length (designOf image .commands)) where
+  counted : m < x .commands
+  counted = let count = commands-count (known .describes) in omega arith
+
+  counted-inside : x .«commands_at» + 8 * m + 8 ≤ length image
+  counted-inside = command-inside (known .describes) counted
+
+  counted-in : nodeIn image (x .«commands_at») m ≡ commandAt (designOf image) m
+  counted-in = command-in (known .describes) counted
+
 -- ---- what is known at a command
-module _ {image : List ℕ} {x : Design} {n : ℕ} (executing : Executing image x n) where
-  pub command-node-inside : x .«commands_at» + 8 * n + 8 ≤ length image
-  command-node-inside = command-inside (executing .known .describes) (executing .node)
+module _ {image : List ℕ} {commands expressions : ℕ} {before : List ℕ} {n : ℕ} (here : Performing image commands expressions before n) where
+  pub itself-last : n < length (designOf image .commands)
+  itself-last = let count = commands-count (here .executing .known .describes) in let node = here .executing .node in omega arith
 
-  same-command : nodeIn image (x .«commands_at») n ≡ commandAt (designOf image) n
-  same-command = command-in (executing .known .describes) (executing .node)
+  pub command-place-inside : commands + 8 * n + 8 ≤ length image
+  command-place-inside = rw (here .commands-begin) (counted-inside (here .executing .known) itself-last)
 
-  kind-is : {k m : ℕ} → k ≡ nodeIn image (x .«commands_at») n .kind → k ≡ m → commandAt (designOf image) n .kind ≡ m
-  kind-is p q = sym (p ∙ ap (λ (y : Node). y .kind) same-command) ∙ q
+  same-command : nodeIn image commands n ≡ commandAt (designOf image) n
+  same-command = rw (here .commands-begin) (counted-in (here .executing .known) itself-last)
 
-  kind-of : {k m : ℕ} (c : CommandKind) → k ≡ nodeIn image (x .«commands_at») n .kind → k ≡ m → commandKind m ≡ c → commandKind (commandAt (designOf image) n .kind) ≡ c
-  kind-of c p q e = ap commandKind (kind-is p q) ∙ e
+  kind-is : {k m : ℕ} → k ≡ m → k ≡ nodeIn image commands n .kind → commandAt (designOf image) n .kind ≡ m
+  kind-is q p = sym (p ∙ ap (λ (y : Node). y .kind) same-command) ∙ q
 
-  holds : {k m : ℕ} → k ≡ nodeIn image (x .«commands_at») n .kind → k ≡ m → CommandHolds (designOf image) n (commandKind m) (commandAt (designOf image) n)
-  holds p q =
-      let count = commands-count (executing .known .describes) in
-      let node = executing .node in
-      rw (kind-is p q) at (command-iff (designOf image) n .0 (executing .known .commands .kept n (omega arith)))
+  kind-of : {k m : ℕ} (c : CommandKind) → k ≡ m → k ≡ nodeIn image commands n .kind → commandKind m ≡ c → commandKind (commandAt (designOf image) n .kind) ≡ c
+  kind-of c q p e = ap commandKind (kind-is q p) ∙ e
 
-  item-is : {r : ℕ} → r ≡ nodeIn image (x .«commands_at») n .item → r ≡ commandAt (designOf image) n .item
+  holds : {k m : ℕ} → k ≡ m → k ≡ nodeIn image commands n .kind → CommandHolds (designOf image) n (commandKind m) (commandAt (designOf image) n)
+  holds q p = rw (kind-is q p) at (command-iff (designOf image) n .0 (here .executing .known .commands .kept n itself-last))
+
+  item-is : {r : ℕ} → r ≡ nodeIn image commands n .item → r ≡ commandAt (designOf image) n .item
   item-is f = f ∙ ap (λ (y : Node). y .item) same-command
 
-  a-is : {a : ℕ} → a ≡ nodeIn image (x .«commands_at») n .a → a ≡ commandAt (designOf image) n .a
+  a-is : {a : ℕ} → a ≡ nodeIn image commands n .a → a ≡ commandAt (designOf image) n .a
   a-is f = f ∙ ap (λ (y : Node). y .a) same-command
 
-  b-is : {b : ℕ} → b ≡ nodeIn image (x .«commands_at») n .b → b ≡ commandAt (designOf image) n .b
+  b-is : {b : ℕ} → b ≡ nodeIn image commands n .b → b ≡ commandAt (designOf image) n .b
   b-is f = f ∙ ap (λ (y : Node). y .b) same-command
 
-  c-is : {c : ℕ} → c ≡ nodeIn image (x .«commands_at») n .c → c ≡ commandAt (designOf image) n .c
+  c-is : {c : ℕ} → c ≡ nodeIn image commands n .c → c ≡ commandAt (designOf image) n .c
   c-is f = f ∙ ap (λ (y : Node). y .c) same-command
 
+  -- ---- the command that ran last
+  pub last-inside : {l : ℕ} → l < length (designOf image .commands) → commands + 8 * l + 8 ≤ length image
+  last-inside below = rw (here .commands-begin) (counted-inside (here .executing .known) below)
+
+  last-kind : {l k : ℕ} → l < length (designOf image .commands) → k ≡ nodeIn image commands l .kind → commandAt (designOf image) l .kind ≡ k
+  last-kind below p = sym (rw (here .commands-begin) at p ∙ ap (λ (y : Node). y .kind) (counted-in (here .executing .known) below))
+
   -- ---- parts
-  lower : (m : ℕ) → m < n → Executing image x m
-  lower m l = let node = executing .node in record { known = executing .known; node = omega arith }
+  -- a part runs over an area of the same length
+  lower : {m : ℕ} (after : List ℕ) → m < n → length after ≡ length before → Performing image commands expressions after m
+  lower after l same =
+      let node = here .executing .node in
+      record { design = here .design; executing = record { known = here .executing .known; node = omega arith }; commands-begin = here .commands-begin; expressions-begin = here .expressions-begin; area = same ∙ here .area }
 
-  -- the same is known at the command that ran last
-  at-last : {l : ℕ} → l < x .commands → Executing image x l
-  at-last below = record { known = executing .known; node = below }
+  evaluating : {e : ℕ} → e < length (designOf image .expressions) → Evaluating image expressions before e
+  evaluating l =
+      let count = expressions-count (here .executing .known .describes) in
+      record { design = here .design; reading = record { known = here .executing .known; node = omega arith }; begins = here .expressions-begin; area = here .area }
 
-  pub last-inside : {l : ℕ} → l < x .commands → x .«commands_at» + 8 * l + 8 ≤ length image
-  last-inside below = command-inside (executing .known .describes) below
-
-  pub itself-last : n < x .commands
-  itself-last = executing .node
-
-  reading : {e : ℕ} → e < length (designOf image .expressions) → Reading image x e
-  reading l = let count = expressions-count (executing .known .describes) in record { known = executing .known; node = omega arith }
-
-  sequence-a-below : {k a : ℕ} → k ≡ nodeIn image (x .«commands_at») n .kind → k ≡ 2 → a ≡ nodeIn image (x .«commands_at») n .a → a < n
+  sequence-a-below : {k a : ℕ} → k ≡ 2 → k ≡ nodeIn image commands n .kind → a ≡ nodeIn image commands n .a → a < n
   unfolding commandKind
-  sequence-a-below p q f = rw (a-is f) (holds p q .1)
+  sequence-a-below q p f = rw (a-is f) (holds q p .1)
 
-  sequence-b-below : {k b : ℕ} → k ≡ nodeIn image (x .«commands_at») n .kind → k ≡ 2 → b ≡ nodeIn image (x .«commands_at») n .b → b < n
+  sequence-b-below : {k b : ℕ} → k ≡ 2 → k ≡ nodeIn image commands n .kind → b ≡ nodeIn image commands n .b → b < n
   unfolding commandKind
-  sequence-b-below p q f = rw (b-is f) (holds p q .2)
+  sequence-b-below q p f = rw (b-is f) (holds q p .2)
 
-  branch-b-below : {k b : ℕ} → k ≡ nodeIn image (x .«commands_at») n .kind → k ≡ 5 → b ≡ nodeIn image (x .«commands_at») n .b → b < n
+  branch-b-below : {k b : ℕ} → k ≡ 5 → k ≡ nodeIn image commands n .kind → b ≡ nodeIn image commands n .b → b < n
   unfolding commandKind
-  branch-b-below p q f = rw (b-is f) (holds p q .2)
+  branch-b-below q p f = rw (b-is f) (holds q p .2)
 
-  branch-c-below : {k c : ℕ} → k ≡ nodeIn image (x .«commands_at») n .kind → k ≡ 5 → c ≡ nodeIn image (x .«commands_at») n .c → c < n
+  branch-c-below : {k c : ℕ} → k ≡ 5 → k ≡ nodeIn image commands n .kind → c ≡ nodeIn image commands n .c → c < n
   unfolding commandKind
-  branch-c-below p q f = rw (c-is f) (holds p q .3)
+  branch-c-below q p f = rw (c-is f) (holds q p .3)
 
-  pub sequence-a-falls : {k a t : ℕ} → k ≡ nodeIn image (x .«commands_at») n .kind → k ≡ 2 → a ≡ nodeIn image (x .«commands_at») n .a → n ≡ t → a < t
-  sequence-a-falls p q f m = rw m at (sequence-a-below p q f)
+  pub sequence-a-falls : {k a t : ℕ} → k ≡ 2 → k ≡ nodeIn image commands n .kind → a ≡ nodeIn image commands n .a → n ≡ t → a < t
+  sequence-a-falls q p f m = rw m at (sequence-a-below q p f)
 
-  pub sequence-a-executing : {k a : ℕ} → k ≡ nodeIn image (x .«commands_at») n .kind → k ≡ 2 → a ≡ nodeIn image (x .«commands_at») n .a → Executing image x a
-  sequence-a-executing {a = m} p q f = lower m (sequence-a-below p q f)
+  pub sequence-a-performing : {k a : ℕ} → k ≡ 2 → k ≡ nodeIn image commands n .kind → a ≡ nodeIn image commands n .a → Performing image commands expressions before a
+  sequence-a-performing q p f = lower before (sequence-a-below q p f) refl
 
-  pub sequence-b-falls : {k b t : ℕ} → k ≡ nodeIn image (x .«commands_at») n .kind → k ≡ 2 → b ≡ nodeIn image (x .«commands_at») n .b → n ≡ t → b < t
-  sequence-b-falls p q f m = rw m at (sequence-b-below p q f)
+  pub sequence-b-falls : {k b t : ℕ} → k ≡ 2 → k ≡ nodeIn image commands n .kind → b ≡ nodeIn image commands n .b → n ≡ t → b < t
+  sequence-b-falls q p f m = rw m at (sequence-b-below q p f)
 
-  pub sequence-b-executing : {k b : ℕ} → k ≡ nodeIn image (x .«commands_at») n .kind → k ≡ 2 → b ≡ nodeIn image (x .«commands_at») n .b → Executing image x b
-  sequence-b-executing {b = m} p q f = lower m (sequence-b-below p q f)
+  pub sequence-b-performing :
+      {k b : ℕ} {after : List ℕ}
+      → k ≡ 2
+      → k ≡ nodeIn image commands n .kind
+      → b ≡ nodeIn image commands n .b
+      → length after ≡ length before
+      → Performing image commands expressions after b
+  sequence-b-performing {after = after} q p f same = lower after (sequence-b-below q p f) same
 
-  pub branch-b-falls : {k b t : ℕ} → k ≡ nodeIn image (x .«commands_at») n .kind → k ≡ 5 → b ≡ nodeIn image (x .«commands_at») n .b → n ≡ t → b < t
-  branch-b-falls p q f m = rw m at (branch-b-below p q f)
+  pub branch-b-falls : {k b t : ℕ} → k ≡ 5 → k ≡ nodeIn image commands n .kind → b ≡ nodeIn image commands n .b → n ≡ t → b < t
+  branch-b-falls q p f m = rw m at (branch-b-below q p f)
 
-  pub branch-b-executing : {k b : ℕ} → k ≡ nodeIn image (x .«commands_at») n .kind → k ≡ 5 → b ≡ nodeIn image (x .«commands_at») n .b → Executing image x b
-  branch-b-executing {b = m} p q f = lower m (branch-b-below p q f)
+  pub branch-b-performing : {k b : ℕ} → k ≡ 5 → k ≡ nodeIn image commands n .kind → b ≡ nodeIn image commands n .b → Performing image commands expressions before b
+  branch-b-performing q p f = lower before (branch-b-below q p f) refl
 
-  pub branch-c-falls : {k c t : ℕ} → k ≡ nodeIn image (x .«commands_at») n .kind → k ≡ 5 → c ≡ nodeIn image (x .«commands_at») n .c → n ≡ t → c < t
-  branch-c-falls p q f m = rw m at (branch-c-below p q f)
+  pub branch-c-falls : {k c t : ℕ} → k ≡ 5 → k ≡ nodeIn image commands n .kind → c ≡ nodeIn image commands n .c → n ≡ t → c < t
+  branch-c-falls q p f m = rw m at (branch-c-below q p f)
 
-  pub branch-c-executing : {k c : ℕ} → k ≡ nodeIn image (x .«commands_at») n .kind → k ≡ 5 → c ≡ nodeIn image (x .«commands_at») n .c → Executing image x c
-  branch-c-executing {c = m} p q f = lower m (branch-c-below p q f)
+  pub branch-c-performing : {k c : ℕ} → k ≡ 5 → k ≡ nodeIn image commands n .kind → c ≡ nodeIn image commands n .c → Performing image commands expressions before c
+  branch-c-performing q p f = lower before (branch-c-below q p f) refl
 
-  pub assigned-reading : {k e : ℕ} → k ≡ nodeIn image (x .«commands_at») n .kind → k ≡ 1 → e ≡ nodeIn image (x .«commands_at») n .a → Reading image x e
+  pub assigned-evaluating : {k e : ℕ} → k ≡ 1 → k ≡ nodeIn image commands n .kind → e ≡ nodeIn image commands n .a → Evaluating image expressions before e
   unfolding commandKind
-  assigned-reading p q f = reading (rw (a-is f) (holds p q .1))
+  assigned-evaluating q p f = evaluating (rw (a-is f) (holds q p .1))
 
-  pub condition-reading : {k e : ℕ} → k ≡ nodeIn image (x .«commands_at») n .kind → k ≡ 5 → e ≡ nodeIn image (x .«commands_at») n .a → Reading image x e
+  pub condition-evaluating : {k e : ℕ} → k ≡ 5 → k ≡ nodeIn image commands n .kind → e ≡ nodeIn image commands n .a → Evaluating image expressions before e
   unfolding commandKind
-  condition-reading p q f = reading (rw (a-is f) (holds p q .1))
+  condition-evaluating q p f = evaluating (rw (a-is f) (holds q p .1))
 
-  written-register : {k r : ℕ} → k ≡ nodeIn image (x .«commands_at») n .kind → k ≡ 1 → r ≡ nodeIn image (x .«commands_at») n .item → r < x .registers
+  -- ---- what a command leaves
+  area-is : length before ≡ 4 * length (designOf image .registers)
+  area-is = rw (registers-count (here .executing .known .describes)) at (here .area)
+
+  written-register : {k r : ℕ} → k ≡ 1 → k ≡ nodeIn image commands n .kind → r ≡ nodeIn image commands n .item → r < length (designOf image .registers)
   unfolding commandKind
-  written-register {r = r} p q f =
-      let count = registers-count (executing .known .describes) in
-      let named : r < length (designOf image .registers) = rw (item-is f) (holds p q .0) in
-      omega arith
+  written-register q p f = rw (item-is f) (holds q p .0)
 
--- ---- what a command leaves
-module _ {image : List ℕ} {x : Design} {n : ℕ} (executing : Executing image x n) (before : List ℕ) where
-  pub written-inside :
-      {k r : ℕ}
-      → length before ≡ 4 * x .registers
-      → k ≡ nodeIn image (x .«commands_at») n .kind
-      → k ≡ 1
-      → r ≡ nodeIn image (x .«commands_at») n .item
-      → 4 * r + 4 ≤ length before
-  written-inside area p q f = let below = written-register executing p q f in omega arith
+  pub written-inside : {k r : ℕ} → k ≡ 1 → k ≡ nodeIn image commands n .kind → r ≡ nodeIn image commands n .item → 4 * r + 4 ≤ length before
+  written-inside q p f = let area = area-is in let below = written-register q p f in omega arith
 
   pub executes-leaf :
       {k : ℕ}
-      → k ≡ nodeIn image (x .«commands_at») n .kind
+      → k ≡ nodeIn image commands n .kind
       → (k ≡ 1 → ⊥)
       → (k ≡ 2 → ⊥)
       → (k ≡ 5 → ⊥)
-      → executedAs (wordsOf (x .registers) before) (cameTo (commandAt (designOf image) n)) ≡ exec (wordsOf (x .registers) before) (cmdOf (designOf image) n)
-  executes-leaf {k} p a b c = leaves (designOf image) n k (wordsOf (x .registers) before) (kind-is executing p refl) a b c (holds executing p refl)
+      → executedAs (valuesIn (designOf image) before) (cameTo (commandAt (designOf image) n)) ≡ exec (valuesIn (designOf image) before) (cmdOf (designOf image) n)
+  executes-leaf {k} p a b c = leaves (designOf image) n k (valuesIn (designOf image) before) (kind-is refl p) a b c (holds refl p)
 
   pub executes-assign :
       {k r e v : ℕ} {after : List ℕ}
-      → length before ≡ 4 * x .registers
-      → k ≡ nodeIn image (x .«commands_at») n .kind
       → k ≡ 1
-      → r ≡ nodeIn image (x .«commands_at») n .item
-      → e ≡ nodeIn image (x .«commands_at») n .a
-      → v ≡ eval (wordsOf (x .registers) before) (exprOf (designOf image) e)
-      → v < 2 ^ 32
+      → k ≡ nodeIn image commands n .kind
       → after ≡ putWord before r v
-      → executedAs (wordsOf (x .registers) after) (cameTo (commandAt (designOf image) n)) ≡ exec (wordsOf (x .registers) before) (cmdOf (designOf image) n)
+      → r ≡ nodeIn image commands n .item
+      → v ≡ eval (valuesIn (designOf image) before) (exprOf (designOf image) e)
+      → e ≡ nodeIn image commands n .a
+      → v < 2 ^ 32
+      → executedAs (valuesIn (designOf image) after) (cameTo (commandAt (designOf image) n)) ≡ exec (valuesIn (designOf image) before) (cmdOf (designOf image) n)
   unfolding exec commandKind
-  executes-assign {r = r} {e = e} {v = v} {after = after} area p q f g value small wrote =
+  executes-assign {r = r} {e = e} {v = v} {after = after} q p wrote f value g small =
       let d = designOf image in
-      let values = wordsOf (x .registers) before in
-      let tree = cmd-assign d n (kind-of executing assigns p q refl) in
-      let same : v ≡ eval values (exprOf d (commandAt d n .a)) = value ∙ ap (λ (m : ℕ). eval values (exprOf d m)) (a-is executing g) in
-      let words = ap (wordsOf (x .registers)) wrote ∙ words-put before (written-register executing p q f) area small in
-      let on = came-on (commandAt d n) 1 (kind-is executing p q) (λ h. omega arith) (λ h. omega arith) in
-      rw (tree, on) (ap (λ (ws : List ℕ). executedAs ws Continued) words ∙ rw (same, item-is executing f) refl)
+      let values = valuesIn d before in
+      let tree = cmd-assign d n (kind-of assigns q p refl) in
+      let same : v ≡ eval values (exprOf d (commandAt d n .a)) = value ∙ ap (λ (m : ℕ). eval values (exprOf d m)) (a-is g) in
+      let words = ap (valuesIn d) wrote ∙ words-put before (written-register q p f) area-is small in
+      let on = came-on (commandAt d n) 1 (kind-is q p) (λ h. omega arith) (λ h. omega arith) in
+      rw (tree, on) (ap (λ (ws : List ℕ). executedAs ws Continued) words ∙ rw (same, item-is f) refl)
 
   pub executes-first :
       {k a l m : ℕ} {t : Bool} (after : List ℕ)
-      → k ≡ nodeIn image (x .«commands_at») n .kind
       → k ≡ 2
-      → a ≡ nodeIn image (x .«commands_at») n .a
-      → executedAs (wordsOf (x .registers) after) (cameTo (commandAt (designOf image) l)) ≡ exec (wordsOf (x .registers) before) (cmdOf (designOf image) a)
-      → l < x .commands
-      → m ≡ nodeIn image (x .«commands_at») l .kind
-      → t ≡ (eqb m 3 || eqb m 4)
+      → k ≡ nodeIn image commands n .kind
+      → executedAs (valuesIn (designOf image) after) (cameTo (commandAt (designOf image) l)) ≡ exec (valuesIn (designOf image) before) (cmdOf (designOf image) a)
+      → a ≡ nodeIn image commands n .a
       → t ≡ true
-      → executedAs (wordsOf (x .registers) after) (cameTo (commandAt (designOf image) l)) ≡ exec (wordsOf (x .registers) before) (cmdOf (designOf image) n)
+      → t ≡ (eqb m 3 || eqb m 4)
+      → m ≡ nodeIn image commands l .kind
+      → l < length (designOf image .commands)
+      → executedAs (valuesIn (designOf image) after) (cameTo (commandAt (designOf image) l)) ≡ exec (valuesIn (designOf image) before) (cmdOf (designOf image) n)
   unfolding exec commandKind
-  executes-first {l = l} {m = m} after p q f first below g test taken =
+  executes-first {l = l} {m = m} after q p first f taken test g below =
       let d = designOf image in
-      let tree = cmd-sequence d n (kind-of executing sequences p q refl) (holds executing p q .1) (holds executing p q .2) in
-      let part = rw (a-is executing f) at first in
-      let ended = came-ending (commandAt d l) m (kind-is (at-last executing below) g refl) (sym test ∙ taken) .1 in
+      let tree = cmd-sequence d n (kind-of sequences q p refl) (holds q p .1) (holds q p .2) in
+      let part = rw (a-is f) at first in
+      let ended = came-ending (commandAt d l) m (last-kind below g) (sym test ∙ taken) .1 in
       rw (tree, sym part, ended) refl
 
   pub executes-second :
       {k a b l m : ℕ} {t : Bool} (between after : List ℕ) {o : Outcome}
-      → k ≡ nodeIn image (x .«commands_at») n .kind
       → k ≡ 2
-      → a ≡ nodeIn image (x .«commands_at») n .a
-      → b ≡ nodeIn image (x .«commands_at») n .b
-      → executedAs (wordsOf (x .registers) between) (cameTo (commandAt (designOf image) l)) ≡ exec (wordsOf (x .registers) before) (cmdOf (designOf image) a)
-      → l < x .commands
-      → m ≡ nodeIn image (x .«commands_at») l .kind
+      → k ≡ nodeIn image commands n .kind
+      → a ≡ nodeIn image commands n .a
+      → b ≡ nodeIn image commands n .b
+      → executedAs (valuesIn (designOf image) between) (cameTo (commandAt (designOf image) l)) ≡ exec (valuesIn (designOf image) before) (cmdOf (designOf image) a)
+      → l < length (designOf image .commands)
+      → m ≡ nodeIn image commands l .kind
       → t ≡ (eqb m 3 || eqb m 4)
       → t ≡ false
-      → executedAs (wordsOf (x .registers) after) o ≡ exec (wordsOf (x .registers) between) (cmdOf (designOf image) b)
-      → executedAs (wordsOf (x .registers) after) o ≡ exec (wordsOf (x .registers) before) (cmdOf (designOf image) n)
+      → executedAs (valuesIn (designOf image) after) o ≡ exec (valuesIn (designOf image) between) (cmdOf (designOf image) b)
+      → executedAs (valuesIn (designOf image) after) o ≡ exec (valuesIn (designOf image) before) (cmdOf (designOf image) n)
   unfolding exec commandKind
-  executes-second {l = l} {m = m} between after p q f g first below h test left second =
+  executes-second {l = l} {m = m} between after q p f g first below h test left second =
       let d = designOf image in
-      let tree = cmd-sequence d n (kind-of executing sequences p q refl) (holds executing p q .1) (holds executing p q .2) in
-      let part = rw (a-is executing f) at first in
-      let on = came-no-ending (commandAt d l) m (kind-is (at-last executing below) h refl) (sym test ∙ left) in
-      let then = rw (b-is executing g) at second in
+      let tree = cmd-sequence d n (kind-of sequences q p refl) (holds q p .1) (holds q p .2) in
+      let part = rw (a-is f) at first in
+      let on = came-no-ending (commandAt d l) m (last-kind below h) (sym test ∙ left) in
+      let then = rw (b-is g) at second in
       rw (tree, sym part, on) then
 
   pub executes-other :
       {k e c v : ℕ} (after : List ℕ) {o : Outcome}
-      → k ≡ nodeIn image (x .«commands_at») n .kind
       → k ≡ 5
-      → e ≡ nodeIn image (x .«commands_at») n .a
-      → c ≡ nodeIn image (x .«commands_at») n .c
-      → v ≡ eval (wordsOf (x .registers) before) (exprOf (designOf image) e)
+      → k ≡ nodeIn image commands n .kind
+      → e ≡ nodeIn image commands n .a
+      → c ≡ nodeIn image commands n .c
+      → v ≡ eval (valuesIn (designOf image) before) (exprOf (designOf image) e)
       → v ≡ 0
-      → executedAs (wordsOf (x .registers) after) o ≡ exec (wordsOf (x .registers) before) (cmdOf (designOf image) c)
-      → executedAs (wordsOf (x .registers) after) o ≡ exec (wordsOf (x .registers) before) (cmdOf (designOf image) n)
+      → executedAs (valuesIn (designOf image) after) o ≡ exec (valuesIn (designOf image) before) (cmdOf (designOf image) c)
+      → executedAs (valuesIn (designOf image) after) o ≡ exec (valuesIn (designOf image) before) (cmdOf (designOf image) n)
   unfolding exec commandKind
-  executes-other after p q f g value none part =
+  executes-other after q p f g value none part =
       let d = designOf image in
-      let tree = cmd-branch d n (kind-of executing branches p q refl) (holds executing p q .2) (holds executing p q .3) in
-      let same = rw (a-is executing f) at value in
-      let then = rw (c-is executing g) at part in
+      let tree = cmd-branch d n (kind-of branches q p refl) (holds q p .2) (holds q p .3) in
+      let same = rw (a-is f) at value in
+      let then = rw (c-is g) at part in
       rw (tree, sym same, none) then
 
   pub executes-taken :
       {k e b v : ℕ} (after : List ℕ) {o : Outcome}
-      → k ≡ nodeIn image (x .«commands_at») n .kind
       → k ≡ 5
-      → e ≡ nodeIn image (x .«commands_at») n .a
-      → b ≡ nodeIn image (x .«commands_at») n .b
-      → v ≡ eval (wordsOf (x .registers) before) (exprOf (designOf image) e)
+      → k ≡ nodeIn image commands n .kind
+      → e ≡ nodeIn image commands n .a
+      → b ≡ nodeIn image commands n .b
+      → v ≡ eval (valuesIn (designOf image) before) (exprOf (designOf image) e)
       → (v ≡ 0 → ⊥)
-      → executedAs (wordsOf (x .registers) after) o ≡ exec (wordsOf (x .registers) before) (cmdOf (designOf image) b)
-      → executedAs (wordsOf (x .registers) after) o ≡ exec (wordsOf (x .registers) before) (cmdOf (designOf image) n)
+      → executedAs (valuesIn (designOf image) after) o ≡ exec (valuesIn (designOf image) before) (cmdOf (designOf image) b)
+      → executedAs (valuesIn (designOf image) after) o ≡ exec (valuesIn (designOf image) before) (cmdOf (designOf image) n)
   unfolding exec commandKind
-  executes-taken {v = v} after p q f g value some part =
+  executes-taken {v = v} after q p f g value some part =
       let d = designOf image in
-      let tree = cmd-branch d n (kind-of executing branches p q refl) (holds executing p q .2) (holds executing p q .3) in
-      let same = rw (a-is executing f) at value in
-      let then = rw (b-is executing g) at part in
+      let tree = cmd-branch d n (kind-of branches q p refl) (holds q p .2) (holds q p .3) in
+      let same = rw (a-is f) at value in
+      let then = rw (b-is g) at part in
       rw (tree, sym same, ne-eqb v 0 some) then
 
 -- the area keeps its length
 pub put-same-length : (before : List ℕ) (r v : ℕ) {after : List ℕ} → after ≡ putWord before r v → length after ≡ length before
 put-same-length before r v wrote = ap (λ (bytes : List ℕ). length bytes) wrote ∙ length-put before r v
 
--- ---- the answer, by the command that ran last
-module _ {image : List ℕ} {x : Design} {n : ℕ} (executing : Executing image x n) (values : List ℕ) {e : Executed} where
-  pub answers-fall :
-      {l k : ℕ}
-      → executedAs values (cameTo (commandAt (designOf image) l)) ≡ e
-      → l < x .commands
-      → k ≡ nodeIn image (x .«commands_at») l .kind
-      → k ≡ 3
-      → executedAs values (Transferred Fall) ≡ e
-  answers-fall {l} h below p q = rw (came-fall (commandAt (designOf image) l) (kind-is (at-last executing below) p q)) at h
+-- ---- a command of a design, and the answer by the command that ran last
+pub performing : {image : List ℕ} {x : Design} {registers : List ℕ} {n : ℕ} → Executing image x n → length registers ≡ 4 * x .registers → Performing image (x .«commands_at») (x .«expressions_at») registers n
+performing executing area = record { design = _; executing = executing; commands-begin = refl; expressions-begin = refl; area = area }
 
-  pub answers-goto :
-      {l k s : ℕ}
-      → executedAs values (cameTo (commandAt (designOf image) l)) ≡ e
-      → l < x .commands
-      → k ≡ nodeIn image (x .«commands_at») l .kind
-      → k ≡ 4
-      → s ≡ nodeIn image (x .«commands_at») l .item
-      → executedAs values (Transferred (Goto s)) ≡ e
-  answers-goto {l} h below p q f =
-      let last = at-last executing below in
-      rw (item-is last f) (rw (came-goto (commandAt (designOf image) l) (kind-is last p q)) at h)
+module _ {image : List ℕ} {x : Design} {n : ℕ} (executing : Executing image x n) where
+  pub answer-inside : {l : ℕ} → l < length (designOf image .commands) → x .«commands_at» + 8 * l + 8 ≤ length image
+  answer-inside below = counted-inside (executing .known) below
 
-  pub answers-on :
-      {l k : ℕ}
-      → executedAs values (cameTo (commandAt (designOf image) l)) ≡ e
-      → l < x .commands
-      → k ≡ nodeIn image (x .«commands_at») l .kind
-      → (k ≡ 3 → ⊥)
-      → (k ≡ 4 → ⊥)
-      → executedAs values Continued ≡ e
-  answers-on {l} {k} h below p a b = rw (came-on (commandAt (designOf image) l) k (kind-is (at-last executing below) p refl) a b) at h
+  module _ (before after : List ℕ) {l k : ℕ}
+      (ran : executedAs (valuesIn (designOf image) after) (cameTo (commandAt (designOf image) l)) ≡ exec (valuesIn (designOf image) before) (cmdOf (designOf image) n))
+      (below : l < length (designOf image .commands))
+      (p : k ≡ nodeIn image (x .«commands_at») l .kind) where
+    kind-known : {m : ℕ} → k ≡ m → commandAt (designOf image) l .kind ≡ m
+    kind-known q = sym (p ∙ ap (λ (y : Node). y .kind) (counted-in (executing .known) below)) ∙ q
 
-pub ruleset last-run-laws = (command-node-inside, last-inside, itself-last, written-inside, executes-leaf, executes-assign, executes-first, executes-second, executes-other, executes-taken, put-same-length)
+    answers : {o : Outcome} → cameTo (commandAt (designOf image) l) ≡ o → executedAs (wordsOf (x .registers) after) o ≡ exec (wordsOf (x .registers) before) (cmdOf (designOf image) n)
+    answers came = rw (registers-count (executing .known .describes), ← came) ran
+
+    pub answers-fall : k ≡ 3 → executedAs (wordsOf (x .registers) after) (Transferred Fall) ≡ exec (wordsOf (x .registers) before) (cmdOf (designOf image) n)
+    answers-fall q = answers (came-fall (commandAt (designOf image) l) (kind-known q))
+
+    pub answers-goto : {s : ℕ} → k ≡ 4 → s ≡ nodeIn image (x .«commands_at») l .item → executedAs (wordsOf (x .registers) after) (Transferred (Goto s)) ≡ exec (wordsOf (x .registers) before) (cmdOf (designOf image) n)
+    answers-goto {s} q f =
+        let named : s ≡ commandAt (designOf image) l .item = f ∙ ap (λ (y : Node). y .item) (counted-in (executing .known) below) in
+        answers (came-goto (commandAt (designOf image) l) (kind-known q) ∙ rw named)
+
+    pub answers-on : (k ≡ 3 → ⊥) → (k ≡ 4 → ⊥) → executedAs (wordsOf (x .registers) after) Continued ≡ exec (wordsOf (x .registers) before) (cmdOf (designOf image) n)
+    answers-on a b = answers (came-on (commandAt (designOf image) l) k (kind-known refl) a b)
+
+pub ruleset last-run-laws = (command-place-inside, last-inside, itself-last, written-inside, executes-leaf, executes-assign, executes-first, executes-second, executes-other, executes-taken, put-same-length)
 
 pub ruleset execute-laws = (answers-fall, answers-goto, answers-on)

@@ -5,11 +5,11 @@ use mathlib.Core.List.{List, _++_}
 use lib.ListN.{length, getD, drop}
 use Rattle.model.specs.Image.{Design as Table, designOf}
 use Rattle.model.specs.Rules.{Keeps}
-use Rattle.model.specs.Values.{wordsOf}
 use Rattle.model.specs.Machine.{Areas, Cycle}
 use Rattle.design.specs.declared.Design.{Design}
 use Rattle.design.specs.Resets.{Defaults}
 use Rattle.bodies.specs.Flows.{FlowKnown}
+use Rattle.machine.specs.Executions.{valuesIn}
 
 -- the image keeps the rules, a table has the default targets, the areas have their lengths, and every target is a state
 pub record Running (image : List ℕ) (x : Design) (table registers targets : List ℕ) : Type 0 where
@@ -20,10 +20,7 @@ pub record Running (image : List ℕ) (x : Design) (table registers targets : Li
   pub states : length targets ≡ x .states
   pub inside : (s : ℕ) → s < x .states → getD targets s 0 < x .states
 
--- the values of the registers, and of both areas
-abbrev pub valuesIn : Table → List ℕ → List ℕ
-valuesIn d registers = wordsOf (length (d .registers)) registers
-
+-- the values of both areas
 abbrev pub areasIn : Table → List ℕ → List ℕ → Areas
 areasIn d registers targets = record { registers = valuesIn d registers; targets = targets }
 

@@ -11,8 +11,8 @@ ghost use Rattle.model.specs.Image.{designOf};
 ghost use Rattle.model.specs.Trees.{bodyOf};
 ghost use Rattle.model.specs.Machine.{exec, cycle as cycleOf, afterCycles};
 ghost use Rattle.bodies.specs.Flows.{FlowKnown};
-ghost use Rattle.machine.specs.Executions.{executedAs};
-ghost use Rattle.machine.specs.Cycles.{Running, Cycled, valuesIn, areasIn};
+ghost use Rattle.machine.specs.Executions.{executedAs, valuesIn};
+ghost use Rattle.machine.specs.Cycles.{Running, Cycled, areasIn};
 
 // A byte as a state's number.
 fn wide(b: u8) -> usize

@@ -1,15 +1,14 @@
 // The value of an expression, by recursion over parts.
 use design::Design;
 use design::words::word;
-ghost use Prim.Native.Nat.{_*_, _≤_};
+ghost use Prim.Native.Nat.{_≤_};
 ghost use mathlib.Core.Path.{_≡_};
-ghost use lib.ListN.{length};
 ghost use Rattle.model.specs.Image.{designOf};
 ghost use Rattle.model.specs.Kinds.{Operation, operates, expressionKind};
 ghost use Rattle.model.specs.Trees.{exprOf};
-ghost use Rattle.model.specs.Values.{apply as applyOf, oneOrZero, wordsOf};
+ghost use Rattle.model.specs.Values.{apply as applyOf, oneOrZero};
 ghost use Rattle.model.specs.Machine.{eval};
-ghost use Rattle.bodies.specs.Flows.{Reading};
+ghost use Rattle.machine.specs.Executions.{Evaluating, valuesIn};
 
 // 1 where a test holds, and 0 where it does not.
 fn one_or_zero(test: bool) -> u32
@@ -34,12 +33,11 @@ fn apply(kind: u8, x: u32, y: u32) -> u32
     }
 }
 
-// The value of expression e over the registers.
-pub fn evaluate(image: &[u8], design: Design, registers: &[u8], e: usize) -> u32
-    requires { ⌜ Reading (now image) design e × (length (now registers) ≡ 4 * design .registers) ⌝ }
-    ensures { λ v. ⌜ v ≡ eval (wordsOf (design .registers) (now (registers .entry))) (exprOf (designOf (now (image .entry))) e) ⌝ }
+// The value of expression e over the registers. The place is where the expressions begin: the whole design would be copied at every call.
+pub fn evaluate(image: &[u8], at: usize, registers: &[u8], e: usize) -> u32
+    requires { ⌜ Evaluating (now image) at (now registers) e ⌝ }
+    ensures { λ v. ⌜ v ≡ eval (valuesIn (designOf (now (image .entry))) (now (registers .entry))) (exprOf (designOf (now (image .entry))) e) ⌝ }
 {
-    let at = design.expressions_at;
     let kind = Design::kind(image, at, e);
     match kind {
         1 => {
@@ -50,8 +48,8 @@ pub fn evaluate(image: &[u8], design: Design, registers: &[u8], e: usize) -> u32
             let a = Design::part_a(image, at, e);
             let b = Design::part_b(image, at, e);
             // A reborrow keeps the slice in registers of the processor; image itself would go through memory.
-            let x = evaluate(&*image, design, &*registers, a);
-            let y = evaluate(&*image, design, &*registers, b);
+            let x = evaluate(&*image, at, &*registers, a);
+            let y = evaluate(&*image, at, &*registers, b);
             apply(kind, x, y)
         }
         _ => Design::constant(image, at, e),

@@ -1,7 +1,6 @@
 use mathlib.Core.Logic.{⊎-elim}
 use borrow.Author.Needs.{needs}
-use Rattle.machine.proofs.EvaluateRules.{evaluate-laws}
-use Rattle.bodies.proofs.FlowRules.{expression-node-inside, part-a-falls, part-a-reading, part-b-falls, part-b-reading}
+use Rattle.machine.proofs.EvaluateRules.{evaluate-laws, expression-place-inside, operand-a-falls, operand-a-evaluating, operand-b-falls, operand-b-evaluating}
 use Prim.Native.Nat.{ℕ, _<_}
 use borrow.Fn.Kinds.{In}
 use borrow.Fn.PlainCycle.{Measures, is, falls, and}
@@ -33,31 +32,31 @@ abbrev evaluate-calls : ℕ → evaluate-lts.Claims
 evaluate-calls t = (kind-reads.Asked, kind-reads.Learnt, item-reads.Asked, item-reads.Learnt, word-reads.Asked, word-reads.Learnt, part-a-reads.Asked, part-a-reads.Learnt, part-b-reads.Asked, part-b-reads.Learnt, evaluate-below t, evaluate.Post, apply-reads.Asked, apply-reads.Learnt, constant-reads.Asked, constant-reads.Learnt)
 
 evaluate-kind-requires : (t : ℕ) → evaluate-lts.Need-kind-requires (evaluate-calls t) (evaluate-at t) evaluate.Post
-evaluate-kind-requires t c κs = search (evaluate-laws, expression-node-inside, needs)
+evaluate-kind-requires t c κs = search (expression-place-inside, needs)
 
 evaluate-item-requires : (t : ℕ) → evaluate-lts.Need-item-requires (evaluate-calls t) (evaluate-at t) evaluate.Post
-evaluate-item-requires t c κs = search (evaluate-laws, expression-node-inside, needs)
+evaluate-item-requires t c κs = search (expression-place-inside, needs)
 
 evaluate-word-requires : (t : ℕ) → evaluate-lts.Need-word-requires (evaluate-calls t) (evaluate-at t) evaluate.Post
 evaluate-word-requires t c κs = search (evaluate-laws, needs)
 
 evaluate-part-a-requires : (t : ℕ) → evaluate-lts.Need-part-a-requires (evaluate-calls t) (evaluate-at t) evaluate.Post
-evaluate-part-a-requires t c κs = search (evaluate-laws, expression-node-inside, needs)
+evaluate-part-a-requires t c κs = search (expression-place-inside, needs)
 
 evaluate-part-b-requires : (t : ℕ) → evaluate-lts.Need-part-b-requires (evaluate-calls t) (evaluate-at t) evaluate.Post
-evaluate-part-b-requires t c κs = search (evaluate-laws, expression-node-inside, needs)
+evaluate-part-b-requires t c κs = search (expression-place-inside, needs)
 
 evaluate-evaluate-requires : (t : ℕ) → evaluate-lts.Need-evaluate-requires (evaluate-calls t) (evaluate-at t) evaluate.Post
-evaluate-evaluate-requires t c κs = (search part-a-falls, (search part-a-reading, search needs))
+evaluate-evaluate-requires t c κs = (search operand-a-falls, search operand-a-evaluating)
 
 evaluate-evaluate-requires-2 : (t : ℕ) → evaluate-lts.Need-evaluate-requires-2 (evaluate-calls t) (evaluate-at t) evaluate.Post
-evaluate-evaluate-requires-2 t c κs = (search part-b-falls, (search (part-b-reading (c .before .before .before .before .before .before .before .before .before .pre .1 .0)), search needs))
+evaluate-evaluate-requires-2 t c κs = (search operand-b-falls, search operand-b-evaluating)
 
 evaluate-apply-requires : (t : ℕ) → evaluate-lts.Need-apply-requires (evaluate-calls t) (evaluate-at t) evaluate.Post
-evaluate-apply-requires t c κs = search (evaluate-laws, expression-node-inside, needs)
+evaluate-apply-requires t c κs = search (expression-place-inside, needs)
 
 evaluate-constant-requires : (t : ℕ) → evaluate-lts.Need-constant-requires (evaluate-calls t) (evaluate-at t) evaluate.Post
-evaluate-constant-requires t c κs = search (evaluate-laws, expression-node-inside, needs)
+evaluate-constant-requires t c κs = search (expression-place-inside, needs)
 
 evaluate-returns : (t : ℕ) → evaluate-lts.Need-returns (evaluate-calls t) (evaluate-at t) evaluate.Post
 evaluate-returns t c = search (evaluate-laws, needs)

@@ -1,5 +1,5 @@
 use borrow.Author.Needs.{needs}
-use Rattle.machine.proofs.ExecuteRules.{last-run-laws, executes-assign, executes-second, command-node-inside, last-inside, itself-last, put-same-length, assigned-reading, condition-reading, sequence-a-falls, sequence-a-executing, sequence-b-falls, sequence-b-executing, branch-b-falls, branch-b-executing, branch-c-falls, branch-c-executing}
+use Rattle.machine.proofs.ExecuteRules.{last-run-laws, executes-assign, executes-first, executes-second, command-place-inside, last-inside, itself-last, put-same-length, assigned-evaluating, condition-evaluating, sequence-a-falls, sequence-a-performing, sequence-b-falls, sequence-b-performing, branch-b-falls, branch-b-performing, branch-c-falls, branch-c-performing}
 use Prim.Native.Nat.{ℕ, _<_}
 use borrow.Fn.Kinds.{In}
 use borrow.Fn.PlainCycle.{Measures, is, falls, and}
@@ -18,7 +18,7 @@ use Rattle.machine.proofs.execute.+last_run.{statement}
 use Rattle.machine.proofs.execute.+last_run.Tie.{close}
 
 abbrev μ-last-run : Measures 2 last-run-kinds.ps ℕ
-μ-last-run κs a = a .1 .1 .1 .0
+μ-last-run κs a = a .1 .1 .1 .1 .0
 
 abbrev last-run-at : ℕ → In 2 last-run-kinds.ps
 last-run-at t = and 2 last-run-kinds.ps (is 2 last-run-kinds.ps μ-last-run t) last-run.Pre
@@ -32,25 +32,25 @@ abbrev last-run-calls : ℕ → last-run-lts.Claims
 last-run-calls t = (part-a-reads.Asked, part-a-reads.Learnt, part-b-reads.Asked, part-b-reads.Learnt, kind-reads.Asked, kind-reads.Learnt, item-reads.Asked, item-reads.Learnt, evaluate-reads.Asked, evaluate-reads.Learnt, put-word-reads.Asked, put-word-reads.Learnt, last-run-below t, last-run.Post, transfers-reads.Asked, transfers-reads.Learnt, part-c-reads.Asked, part-c-reads.Learnt)
 
 last-run-part-a-requires : (t : ℕ) → last-run-lts.Need-part-a-requires (last-run-calls t) (last-run-at t) last-run.Post
-last-run-part-a-requires t c κs = search (command-node-inside, needs)
+last-run-part-a-requires t c κs = search (command-place-inside, needs)
 
 last-run-part-b-requires : (t : ℕ) → last-run-lts.Need-part-b-requires (last-run-calls t) (last-run-at t) last-run.Post
-last-run-part-b-requires t c κs = search (command-node-inside, needs)
+last-run-part-b-requires t c κs = search (command-place-inside, needs)
 
 last-run-kind-requires : (t : ℕ) → last-run-lts.Need-kind-requires (last-run-calls t) (last-run-at t) last-run.Post
-last-run-kind-requires t c κs = search (command-node-inside, needs)
+last-run-kind-requires t c κs = search (command-place-inside, needs)
 
 last-run-item-requires : (t : ℕ) → last-run-lts.Need-item-requires (last-run-calls t) (last-run-at t) last-run.Post
-last-run-item-requires t c κs = search (command-node-inside, needs)
+last-run-item-requires t c κs = search (command-place-inside, needs)
 
 last-run-evaluate-requires : (t : ℕ) → last-run-lts.Need-evaluate-requires (last-run-calls t) (last-run-at t) last-run.Post
-last-run-evaluate-requires t c κs = (search (assigned-reading (c .before .before .before .before .before .before .before .before .pre .1 .0)), search needs)
+last-run-evaluate-requires t c κs = search assigned-evaluating
 
 last-run-put-word-requires : (t : ℕ) → last-run-lts.Need-put-word-requires (last-run-calls t) (last-run-at t) last-run.Post
 last-run-put-word-requires t c κs = search (last-run-laws, needs)
 
 last-run-last-run-requires : (t : ℕ) → last-run-lts.Need-last-run-requires (last-run-calls t) (last-run-at t) last-run.Post
-last-run-last-run-requires t c κs = (search sequence-a-falls, (search sequence-a-executing, search needs))
+last-run-last-run-requires t c κs = (search sequence-a-falls, search sequence-a-performing)
 
 last-run-kind-requires-2 : (t : ℕ) → last-run-lts.Need-kind-requires-2 (last-run-calls t) (last-run-at t) last-run.Post
 last-run-kind-requires-2 t c κs = search (last-inside, needs)
@@ -62,19 +62,19 @@ last-run-same-length : (t : ℕ) → last-run-lts.Need-same-length (last-run-cal
 last-run-same-length t c = search needs
 
 last-run-returns : (t : ℕ) → last-run-lts.Need-returns (last-run-calls t) (last-run-at t) last-run.Post
-last-run-returns t c = search (last-run-laws, needs)
+last-run-returns t c = (search executes-first, search needs, search needs)
 
 last-run-last-run-requires-2 : (t : ℕ) → last-run-lts.Need-last-run-requires-2 (last-run-calls t) (last-run-at t) last-run.Post
-last-run-last-run-requires-2 t c κs = (search sequence-b-falls, (search (sequence-b-executing (c .before .before .before .before .before .before .before .before .before .before .before .before .before .before .pre .1 .0)), search needs))
+last-run-last-run-requires-2 t c κs = (search sequence-b-falls, search (sequence-b-performing, needs))
 
 last-run-part-c-requires : (t : ℕ) → last-run-lts.Need-part-c-requires (last-run-calls t) (last-run-at t) last-run.Post
-last-run-part-c-requires t c κs = search (command-node-inside, needs)
+last-run-part-c-requires t c κs = search (command-place-inside, needs)
 
 last-run-evaluate-requires-2 : (t : ℕ) → last-run-lts.Need-evaluate-requires-2 (last-run-calls t) (last-run-at t) last-run.Post
-last-run-evaluate-requires-2 t c κs = (search (condition-reading (c .before .before .before .before .before .before .before .before .pre .1 .0)), search needs)
+last-run-evaluate-requires-2 t c κs = search condition-evaluating
 
 last-run-last-run-requires-3 : (t : ℕ) → last-run-lts.Need-last-run-requires-3 (last-run-calls t) (last-run-at t) last-run.Post
-last-run-last-run-requires-3 t c κs = (search branch-c-falls, (search (branch-c-executing (c .before .before .before .before .before .before .before .before .before .before .before .pre .1 .0)), search needs))
+last-run-last-run-requires-3 t c κs = (search branch-c-falls, search branch-c-performing)
 
 last-run-same-length-2 : (t : ℕ) → last-run-lts.Need-same-length-2 (last-run-calls t) (last-run-at t) last-run.Post
 last-run-same-length-2 t c = search needs
@@ -83,13 +83,13 @@ last-run-returns-2 : (t : ℕ) → last-run-lts.Need-returns-2 (last-run-calls t
 last-run-returns-2 t c = search (last-run-laws, needs)
 
 last-run-last-run-requires-4 : (t : ℕ) → last-run-lts.Need-last-run-requires-4 (last-run-calls t) (last-run-at t) last-run.Post
-last-run-last-run-requires-4 t c κs = (search branch-b-falls, (search (branch-b-executing (c .before .before .before .before .before .before .before .before .before .before .before .pre .1 .0)), search needs))
+last-run-last-run-requires-4 t c κs = (search branch-b-falls, search branch-b-performing)
 
 last-run-same-length-3 : (t : ℕ) → last-run-lts.Need-same-length-3 (last-run-calls t) (last-run-at t) last-run.Post
 last-run-same-length-3 t c = search needs
 
 last-run-returns-3 : (t : ℕ) → last-run-lts.Need-returns-3 (last-run-calls t) (last-run-at t) last-run.Post
-last-run-returns-3 t c = (search (executes-assign (c .before .before .before .before .before .before .before .before .before .before .before .before .before .pre .1 .0), needs), search itself-last, search (put-same-length, needs))
+last-run-returns-3 t c = (search (executes-assign, needs), search itself-last, search (put-same-length, needs))
 
 last-run-same-length-4 : (t : ℕ) → last-run-lts.Need-same-length-4 (last-run-calls t) (last-run-at t) last-run.Post
 last-run-same-length-4 t c = search needs

@@ -1,16 +1,16 @@
 use borrow.Author.Needs.{needs}
-use Rattle.machine.proofs.ExecuteRules.{execute-laws, last-inside}
+use Rattle.machine.proofs.ExecuteRules.{execute-laws, performing, answer-inside}
 use Rattle.machine.proofs.execute.execute.Statement.{statement}
 use Rattle.machine.proofs.execute.execute.Tie as tie
 
 last-run-requires : tie.Need-last-run-requires
-last-run-requires c κs = search needs
+last-run-requires c κs = search (performing, needs)
 
 kind-requires : tie.Need-kind-requires
-kind-requires c κs = search (last-inside, needs)
+kind-requires c κs = search (answer-inside, needs)
 
 item-requires : tie.Need-item-requires
-item-requires c κs = search (last-inside, needs)
+item-requires c κs = search (answer-inside, needs)
 
 same-length : tie.Need-same-length
 same-length c = search needs
