@@ -17,7 +17,16 @@
  *   an expression                CAISSON_EXPRESSION_PLACE plus its node number
  *   nothing of these             0
  *
- * It is the lowest that breaks the rule. `count` is what was done, and 0 on every refusal.
+ * It is the lowest that breaks the rule. `count` is what was done, and 0 on every refusal. A refusal
+ * changes no byte of the areas.
+ *
+ * The state of a design is two areas that the host owns and lends to each call: registers,
+ * CAISSON_WORD bytes each, least significant byte first, and targets, one byte for each state. Their
+ * lengths are CAISSON_WORD times the number of registers and the number of states, neither more nor
+ * less. An area of length 0 may be NULL. The host may read the registers between calls. To keep the
+ * parties apart it changes them only by caisson_reset, caisson_write_port and caisson_run.
+ *
+ * Two calls at the same time are safe if they are lent no area in common.
  */
 #ifndef CAISSON_H
 #define CAISSON_H
@@ -38,8 +47,11 @@ extern "C" {
 #define CAISSON_DEPTH 64u            /* how deep commands and expressions nest */
 #define CAISSON_LARGEST_IMAGE 25268u /* bytes of the largest image */
 #define CAISSON_EXPRESSION_PLACE 1024u
+#define CAISSON_WORD 4u              /* bytes of a register in its area */
+#define CAISSON_CYCLES 1000000u      /* most cycles of one run */
 
-/* What is wrong with an image, and where `place` points. */
+/* What is wrong, and where `place` points. 1 to 12 are about the image, and every call judges them
+   first. */
 enum caisson_refusal {
     CAISSON_ACCEPTED = 0,
     /* The directory: five pairs of 16-bit offset and length, sorted; the first offset is 20, each
@@ -79,14 +91,23 @@ enum caisson_refusal {
     /* A goto: the context must flow to the named state's label. Place: the node. */
     CAISSON_GOTO_FLOW = 11,
     /* A fall: the context must flow to its own state's label. Place: the node. */
-    CAISSON_FALL_FLOW = 12
+    CAISSON_FALL_FLOW = 12,
+    /* Port write: there is no such register, or it is inner. Place: the register number given. It is
+       judged after 14. */
+    CAISSON_NO_PORT = 13,
+    /* An area has the wrong length: place 0. Run also: a target is not sound. The target of a state
+       with children is one of its children, that of any other state is its own number. Place: the
+       lowest such state. */
+    CAISSON_AREA = 14,
+    /* Run: more than CAISSON_CYCLES cycles. Place 0. */
+    CAISSON_CYCLE_COUNT = 15
 };
 
 /* What a call answers. */
 typedef struct {
     uint32_t number; /* 0: accepted; otherwise a caisson_refusal */
     size_t place;    /* where; 0 on acceptance */
-    size_t count;    /* what was done; 0 on every refusal, and from caisson_check */
+    size_t count;    /* the cycles of an accepted run; 0 from every other call and on every refusal */
 } caisson_answer;
 
 #if defined(__GNUC__) || defined(__clang__)
@@ -103,6 +124,38 @@ typedef struct {
 CAISSON_LOOK_AT_ANSWER
 caisson_answer caisson_check(const uint8_t *image, /* the image's bytes */
                              size_t image_len);    /* how many there are */
+
+/*
+ * Writes each register's reset value and each state's default target: its lowest-numbered child, or
+ * its own number where it has none. What the areas held before does not matter. Refusals: 1 to 12,
+ * then 14 for a length.
+ */
+CAISSON_LOOK_AT_ANSWER
+caisson_answer caisson_reset(const uint8_t *image, size_t image_len,
+                             uint8_t *registers, size_t registers_len,
+                             uint8_t *targets, size_t targets_len);
+
+/*
+ * Sets one register, which must be a port, to a value, and changes nothing else. It takes the
+ * register area only. Refusals: 1 to 12, then 14 for its length, then 13.
+ */
+CAISSON_LOOK_AT_ANSWER
+caisson_answer caisson_write_port(const uint8_t *image, size_t image_len,
+                                  uint8_t *registers, size_t registers_len,
+                                  uint32_t reg,    /* the register's number */
+                                  uint32_t value); /* its new value */
+
+/*
+ * Runs so many cycles, from 0 to CAISSON_CYCLES, and answers that number as `count`. Each cycle runs
+ * the root's command and goes on along the targets; what it leaves in the areas is what the next one
+ * starts from. A run of 0 changes nothing. The image is judged once for all cycles of a run.
+ * Refusals: 1 to 12, then 14 for a length, 14 for an unsound target, then 15.
+ */
+CAISSON_LOOK_AT_ANSWER
+caisson_answer caisson_run(const uint8_t *image, size_t image_len,
+                           uint8_t *registers, size_t registers_len,
+                           uint8_t *targets, size_t targets_len,
+                           uint32_t cycles); /* how many */
 
 #ifdef __cplusplus
 }

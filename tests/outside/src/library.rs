@@ -7,7 +7,6 @@ extern "C" {
     fn caisson_check(image: *const u8, image_len: usize) -> Answer;
 }
 
-#[cfg(feature = "machine")]
 extern "C" {
     fn caisson_reset(
         image: *const u8,
@@ -48,7 +47,6 @@ pub fn check_null() -> Answer {
     unsafe { caisson_check(ptr::null(), 0) }
 }
 
-#[cfg(feature = "machine")]
 pub fn reset(image: &[u8], registers: &mut [u8], targets: &mut [u8]) -> Answer {
     unsafe {
         caisson_reset(
@@ -62,7 +60,6 @@ pub fn reset(image: &[u8], registers: &mut [u8], targets: &mut [u8]) -> Answer {
     }
 }
 
-#[cfg(feature = "machine")]
 pub fn write_port(image: &[u8], registers: &mut [u8], register: u32, value: u32) -> Answer {
     unsafe {
         caisson_write_port(
@@ -76,7 +73,6 @@ pub fn write_port(image: &[u8], registers: &mut [u8], register: u32, value: u32)
     }
 }
 
-#[cfg(feature = "machine")]
 pub fn run(image: &[u8], registers: &mut [u8], targets: &mut [u8], cycles: u32) -> Answer {
     unsafe {
         caisson_run(
@@ -92,7 +88,6 @@ pub fn run(image: &[u8], registers: &mut [u8], targets: &mut [u8], cycles: u32) 
 }
 
 /// An empty area is lent as null, the harder case of the two.
-#[cfg(feature = "machine")]
 fn lend(area: &mut [u8]) -> *mut u8 {
     if area.is_empty() {
         ptr::null_mut()

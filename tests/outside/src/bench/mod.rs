@@ -4,5 +4,4 @@ mod measure;
 mod subjects;
 
 pub mod check;
-#[cfg(feature = "machine")]
 pub mod run;

@@ -2,6 +2,5 @@
 
 fn main() {
     caisson_tests::bench::check::print();
-    #[cfg(feature = "machine")]
     caisson_tests::bench::run::print();
 }

@@ -1,10 +1,9 @@
-//! Compares the library with the reference on random images, and with the feature `machine`
-//! also on random lists of calls, for a bounded time.
+//! Compares the library with the reference on random images and on random lists of calls, for a
+//! bounded time: one half for each.
 
 use caisson_tests::compare::arguments::Arguments;
 use caisson_tests::compare::check;
 use caisson_tests::compare::difference::Difference;
-#[cfg(feature = "machine")]
 use caisson_tests::compare::lists;
 use caisson_tests::compare::tally::Tally;
 use std::process::ExitCode;
@@ -13,11 +12,7 @@ use std::time::{Duration, Instant};
 fn main() -> ExitCode {
     let arguments = Arguments::read(40);
     println!("first seed {}", arguments.seed);
-    let mut good = compare_checks(&arguments);
-    if cfg!(feature = "machine") {
-        good = good && compare_lists(&arguments);
-    }
-    if good {
+    if compare_checks(&arguments) && compare_lists(&arguments) {
         println!("no difference");
         ExitCode::SUCCESS
     } else {
@@ -31,8 +26,7 @@ fn each_seed(
     arguments: &Arguments,
     mut compare: impl FnMut(u64) -> Result<(), Difference>,
 ) -> bool {
-    let parts = if cfg!(feature = "machine") { 2 } else { 1 };
-    let end = Instant::now() + Duration::from_secs(arguments.seconds) / parts;
+    let end = Instant::now() + Duration::from_secs(arguments.seconds) / 2;
     let mut seed = arguments.seed;
     loop {
         if let Err(difference) = compare(seed) {
@@ -62,7 +56,6 @@ fn compare_checks(arguments: &Arguments) -> bool {
     equal && missing.is_empty()
 }
 
-#[cfg(feature = "machine")]
 fn compare_lists(arguments: &Arguments) -> bool {
     let mut tallies = lists::Tallies::default();
     if let Err(difference) = lists::longest_runs(&mut tallies) {
@@ -76,9 +69,4 @@ fn compare_lists(arguments: &Arguments) -> bool {
         println!("never met: {missing:?}");
     }
     equal && missing.is_empty()
-}
-
-#[cfg(not(feature = "machine"))]
-fn compare_lists(_: &Arguments) -> bool {
-    true
 }

@@ -1,0 +1,143 @@
+/* The library called from C: 01's lease design checked and run, null slices, and what is refused. */
+#include <stdio.h>
+#include <string.h>
+
+#include "caisson.h"
+
+/* The lease design, 208 bytes: labels, registers, states, commands, expressions. */
+static const uint8_t lease[] = {
+    20, 0, 4, 0, 24, 0, 12, 0, 36, 0, 20, 0, 56, 0, 104, 0, 160, 0, 48, 0,
+    /* labels */
+    3, 0, 2, 0,
+    /* registers: label, kind, reset */
+    0, 0, 3, 0, 0, 0, 1, 1, 0, 0, 0, 0,
+    /* states: parent, label, command */
+    0, 0, 0, 0, 0, 0, 3, 0, 0, 0, 8, 0, 2, 1, 11, 0, 2, 1, 12, 0,
+    /* commands */
+    3, 0, 0, 0, 0, 0, 0, 0, /* 0: fall */
+    1, 0, 0, 0, 0, 0, 0, 0, /* 1: r0 := e0 */
+    4, 2, 0, 0, 0, 0, 0, 0, /* 2: goto 2 */
+    2, 0, 1, 0, 2, 0, 0, 0, /* 3: 1; 2 */
+    1, 0, 3, 0, 0, 0, 0, 0, /* 4: r0 := e3 */
+    3, 0, 0, 0, 0, 0, 0, 0, /* 5: fall */
+    4, 1, 0, 0, 0, 0, 0, 0, /* 6: goto 1 */
+    5, 0, 4, 0, 5, 0, 6, 0, /* 7: if e4 then 5 else 6 */
+    2, 0, 4, 0, 7, 0, 0, 0, /* 8: 4; 7 */
+    4, 4, 0, 0, 0, 0, 0, 0, /* 9: goto 4 */
+    4, 3, 0, 0, 0, 0, 0, 0, /* 10: goto 3 */
+    5, 0, 5, 0, 9, 0, 10, 0, /* 11: if e5 then 9 else 10 */
+    4, 3, 0, 0, 0, 0, 0, 0, /* 12: goto 3 */
+    /* expressions */
+    0, 0, 0, 0, 3, 0, 0, 0, /* 0: 3 */
+    1, 0, 0, 0, 0, 0, 0, 0, /* 1: r0 */
+    0, 0, 0, 0, 1, 0, 0, 0, /* 2: 1 */
+    3, 0, 1, 0, 2, 0, 0, 0, /* 3: e1 - e2 */
+    1, 0, 0, 0, 0, 0, 0, 0, /* 4: r0 */
+    1, 1, 0, 0, 0, 0, 0, 0, /* 5: r1 */
+};
+
+static int failures;
+static int answers;
+
+static void expect(const char *what, caisson_answer got, uint32_t number, size_t place, size_t count)
+{
+    answers++;
+    if (got.number == number && got.place == place && got.count == count)
+        return;
+    fprintf(stderr, "%s: number %u place %zu count %zu, expected number %u place %zu count %zu\n", what,
+            (unsigned)got.number, got.place, got.count, (unsigned)number, place, count);
+    failures++;
+}
+
+static void expect_bytes(const char *what, const uint8_t *got, const uint8_t *expected, size_t length)
+{
+    if (memcmp(got, expected, length) == 0)
+        return;
+    fprintf(stderr, "%s: other bytes than expected\n", what);
+    failures++;
+}
+
+static void checks(void)
+{
+    uint8_t damaged[sizeof lease];
+
+    expect("the lease design", caisson_check(lease, sizeof lease), CAISSON_ACCEPTED, 0, 0);
+    expect("a null image", caisson_check(NULL, 0), CAISSON_DIRECTORY, 0, 0);
+    expect("the image without its last byte", caisson_check(lease, sizeof lease - 1), CAISSON_DIRECTORY, 0, 0);
+
+    memcpy(damaged, lease, sizeof lease);
+    damaged[25] = 2; /* the kind of r0 */
+    expect("a register of kind 2", caisson_check(damaged, sizeof damaged), CAISSON_REGISTER_RECORD, 0, 0);
+
+    memcpy(damaged, lease, sizeof lease);
+    damaged[200] = 9; /* the kind of expression 5 */
+    expect("an expression of kind 9", caisson_check(damaged, sizeof damaged), CAISSON_NODE_RECORD,
+           CAISSON_EXPRESSION_PLACE + 5, 0);
+
+    memcpy(damaged, lease, sizeof lease);
+    damaged[49] = 0; /* the label of state 3, which branches on the port of label 1 */
+    expect("a secret branch in a low state", caisson_check(damaged, sizeof damaged), CAISSON_GOTO_FLOW, 10, 0);
+}
+
+/* Document 01's four lines, with r1 = 7 written after the second cycle. */
+static void cycles(void)
+{
+    static const uint8_t after[4][8 + 5] = {
+        {3, 0, 0, 0, 0, 0, 0, 0, 2, 1, 3, 3, 4},
+        {2, 0, 0, 0, 0, 0, 0, 0, 2, 1, 3, 3, 4},
+        {1, 0, 0, 0, 7, 0, 0, 0, 2, 1, 4, 3, 4},
+        {0, 0, 0, 0, 7, 0, 0, 0, 1, 1, 4, 3, 4},
+    };
+    uint8_t registers[8], targets[5];
+
+    expect("reset", caisson_reset(lease, sizeof lease, registers, 8, targets, 5), CAISSON_ACCEPTED, 0, 0);
+    for (int i = 0; i < 4; i++) {
+        if (i == 2)
+            expect("a port write", caisson_write_port(lease, sizeof lease, registers, 8, 1, 7), CAISSON_ACCEPTED, 0, 0);
+        expect("a cycle", caisson_run(lease, sizeof lease, registers, 8, targets, 5, 1), CAISSON_ACCEPTED, 0, 1);
+        expect_bytes("registers after a cycle", registers, after[i], 8);
+        expect_bytes("targets after a cycle", targets, after[i] + 8, 5);
+    }
+    expect("no cycle", caisson_run(lease, sizeof lease, registers, 8, targets, 5, 0), CAISSON_ACCEPTED, 0, 0);
+    expect_bytes("registers after no cycle", registers, after[3], 8);
+}
+
+static void refusals(void)
+{
+    uint8_t registers[8], targets[5], registers_before[8], targets_before[5];
+
+    expect("reset", caisson_reset(lease, sizeof lease, registers, 8, targets, 5), CAISSON_ACCEPTED, 0, 0);
+    targets[0] = 3; /* a grandchild of the root */
+    memcpy(registers_before, registers, 8);
+    memcpy(targets_before, targets, 5);
+
+    expect("a short register area", caisson_reset(lease, sizeof lease, registers, 7, targets, 5), CAISSON_AREA, 0, 0);
+    expect("null areas", caisson_run(lease, sizeof lease, NULL, 0, NULL, 0, 1), CAISSON_AREA, 0, 0);
+    expect("an inner register", caisson_write_port(lease, sizeof lease, registers, 8, 0, 1), CAISSON_NO_PORT, 0, 0);
+    expect("no such register", caisson_write_port(lease, sizeof lease, registers, 8, UINT32_MAX, 1), CAISSON_NO_PORT,
+           UINT32_MAX, 0);
+    expect("a short area and an inner register", caisson_write_port(lease, sizeof lease, registers, 4, 0, 1),
+           CAISSON_AREA, 0, 0);
+    expect("an unsound target", caisson_run(lease, sizeof lease, registers, 8, targets, 5, 1), CAISSON_AREA, 0, 0);
+    expect("an unsound target and too many cycles",
+           caisson_run(lease, sizeof lease, registers, 8, targets, 5, CAISSON_CYCLES + 1), CAISSON_AREA, 0, 0);
+    expect("a null image", caisson_run(NULL, 0, registers, 8, targets, 5, 1), CAISSON_DIRECTORY, 0, 0);
+    expect_bytes("registers after refusals", registers, registers_before, 8);
+    expect_bytes("targets after refusals", targets, targets_before, 5);
+
+    targets[0] = 1;
+    expect("too many cycles", caisson_run(lease, sizeof lease, registers, 8, targets, 5, CAISSON_CYCLES + 1),
+           CAISSON_CYCLE_COUNT, 0, 0);
+    expect("the most cycles", caisson_run(lease, sizeof lease, registers, 8, targets, 5, CAISSON_CYCLES),
+           CAISSON_ACCEPTED, 0, CAISSON_CYCLES);
+}
+
+int main(void)
+{
+    checks();
+    cycles();
+    refusals();
+    if (failures == 0)
+        printf("calls from C: %d answers as expected\n", answers);
+    return failures != 0;
+}
