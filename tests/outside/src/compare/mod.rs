@@ -6,11 +6,16 @@ pub mod listings;
 pub mod tally;
 
 #[cfg(feature = "library")]
-pub mod check;
-
 mod areas;
+#[cfg(feature = "library")]
+pub mod check;
+#[cfg(feature = "library")]
 mod engine;
+#[cfg(feature = "library")]
 pub mod independence;
+#[cfg(feature = "library")]
 pub mod lists;
+#[cfg(feature = "library")]
 mod matching;
+#[cfg(feature = "library")]
 mod view;
