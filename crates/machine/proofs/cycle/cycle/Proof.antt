@@ -52,7 +52,7 @@ enum-known-ending : tie.Need-enum-known-ending Inv-loop μ-loop
 enum-known-ending c = search needs
 
 go-to-requires : tie.Need-go-to-requires Inv-loop μ-loop
-go-to-requires c κs = search (cycling-names, needs)
+go-to-requires c κs = search (cycling-names, cycling-state, needs)
 
 same-length-4 : tie.Need-same-length-4 Inv-loop μ-loop
 same-length-4 c = search (cycling-registers, needs)

@@ -8,7 +8,7 @@ use Rattle.machine.proofs.targets.names_child.Reads as names-child-read
 use Rattle.machine.proofs.targets.wide.Reads as wide-reads
 
 shared-slice-read-wide : tie.Need-shared-slice-read-wide
-shared-slice-read-wide c = search needs
+shared-slice-read-wide c = search (entry-inside, needs)
 
 wide-requires : tie.Need-wide-requires
 wide-requires c κs = search needs
