@@ -1,9 +1,9 @@
 // The C boundary: the calls, exported on numbers and byte slices. `include/caisson.h` documents
 // them for a host.
+use calls::numbers::number;
 use model::Answer;
-use model::Refusal;
 ghost use mathlib.Core.Path.{_≡_};
-ghost use Rattle.model.specs.Answers.{numberOf, numbersOf};
+ghost use Rattle.model.specs.Answers.{numbersOf};
 ghost use Rattle.model.specs.Calls.{check, reset, writePort, run};
 ghost use Rattle.design.specs.Resets.{lends};
 ghost use Rattle.caisson.specs.Told.{told, toldLeft, inNumbers, toldLeftRegisters, registersInNumbers};
@@ -14,29 +14,6 @@ pub struct HostAnswer {
     pub number: u32,
     pub place: usize,
     pub count: usize,
-}
-
-// The number of a refusal in the table.
-fn number(refusal: Refusal) -> u32
-    ensures { λ r. ⌜ r ≡ numberOf refusal ⌝ }
-{
-    match refusal {
-        Refusal::Directory => 1,
-        Refusal::LabelRow => 2,
-        Refusal::RegisterRecord => 3,
-        Refusal::StateRecord => 4,
-        Refusal::NodeRecord => 5,
-        Refusal::NodeUse => 6,
-        Refusal::Depth => 7,
-        Refusal::Shape => 8,
-        Refusal::ChildLabel => 9,
-        Refusal::AssignFlow => 10,
-        Refusal::GotoFlow => 11,
-        Refusal::FallFlow => 12,
-        Refusal::NoPort => 13,
-        Refusal::Area => 14,
-        Refusal::CycleCount => 15,
-    }
 }
 
 // An answer in numbers.

@@ -16,12 +16,11 @@
 // `  targets`, each with its bytes as numbers. Before the first image and the first areas they are
 // empty. A record that is cut off, too long or of another kind is printed as `bad record` and is
 // the last. So is record 65,536.
+use calls::numbers::number;
 use model::Answer;
-use model::Refusal;
 ghost use Prim.Native.Nat.{_+_, _*_, _≤_};
 ghost use mathlib.Core.Path.{_≡_};
 ghost use lib.ListN.{length};
-ghost use Rattle.model.specs.Answers.{numberOf};
 ghost use Rattle.cases.specs.Fits.{Fits, StepFits};
 
 // The most records.
@@ -55,29 +54,6 @@ enum Step {
     Ended,
 }
 
-// The number of a refusal in the table.
-fn number(refusal: Refusal) -> u64
-    ensures { λ r. ⌜ r ≡ numberOf refusal ⌝ }
-{
-    match refusal {
-        Refusal::Directory => 1,
-        Refusal::LabelRow => 2,
-        Refusal::RegisterRecord => 3,
-        Refusal::StateRecord => 4,
-        Refusal::NodeRecord => 5,
-        Refusal::NodeUse => 6,
-        Refusal::Depth => 7,
-        Refusal::Shape => 8,
-        Refusal::ChildLabel => 9,
-        Refusal::AssignFlow => 10,
-        Refusal::GotoFlow => 11,
-        Refusal::FallFlow => 12,
-        Refusal::NoPort => 13,
-        Refusal::Area => 14,
-        Refusal::CycleCount => 15,
-    }
-}
-
 // The number of 32 bits that four bytes hold, the lowest first.
 fn word(a: u8, b: u8, c: u8, d: u8) -> u32
     ensures { λ r. ⌜ r ≡ a + 256 * b + 65536 * c + 16777216 * d ⌝ }
@@ -109,7 +85,7 @@ fn print_answer(number: u64, place: u64, count: u64) {
 fn answered(answer: Answer) {
     match answer {
         Answer::Accepted(count) => print_answer(0, 0, count as u64),
-        Answer::Refused(refusal, place) => print_answer(number(refusal), place as u64, 0),
+        Answer::Refused(refusal, place) => print_answer(number(refusal) as u64, place as u64, 0),
     }
 }
 

@@ -1,6 +1,7 @@
 // A cycle along the targets, and runs of cycles.
 use crate::execute::execute;
 use crate::targets::go_to;
+use crate::targets::wide;
 use design::Design;
 use model::Ending;
 use model::Outcome;
@@ -13,13 +14,6 @@ ghost use Rattle.model.specs.Machine.{exec, cycle as cycleOf, afterCycles};
 ghost use Rattle.bodies.specs.Flows.{FlowKnown};
 ghost use Rattle.machine.specs.Executions.{executedAs, valuesIn};
 ghost use Rattle.machine.specs.Cycles.{Running, Cycled, areasIn};
-
-// A byte as a state's number.
-fn wide(b: u8) -> usize
-    ensures { λ r. ⌜ r ≡ b ⌝ }
-{
-    b as usize
-}
 
 // The command of state s runs.
 fn body(image: &[u8], design: Design, registers: &mut [u8], s: usize) -> Outcome

@@ -4,7 +4,7 @@ use Rattle.caisson.proofs.in_numbers.Statement.{statement}
 use Rattle.caisson.proofs.in_numbers.Tie as tie
 use Rattle.caisson.proofs.in_numbers.Reads as reads
 use Rattle.caisson.proofs.in_numbers.Lts as lts
-use Rattle.caisson.proofs.number.Reads as number-reads
+use Rattle.calls.proofs.numbers.number.Reads as number-reads
 
 enum-known-answer : tie.Need-enum-known-answer
 enum-known-answer c = search needs
