@@ -1,0 +1,116 @@
+//! What stands at the place of a refusal, in source form.
+
+use super::{flow, uses};
+use crate::print::body::{self, Reader};
+use crate::print::{layout, records};
+use crate::table::limits::EXPRESSION_PLACE;
+use crate::table::read::{pairs, read};
+use crate::table::Table;
+
+pub fn describe(image: &[u8], number: u32, place: usize) -> String {
+    let table = match read(image) {
+        Ok(table) => table,
+        Err(why) => return directory(image, &why),
+    };
+    match number {
+        1 => directory(image, "a count is out of its limits"),
+        2 => label(&table, place),
+        3 => register(&table, place),
+        4 | 9 => state(&table, place),
+        _ => node(&table, number, place),
+    }
+}
+
+/// With what a reader would look for next: the uses, or the labels that do not flow.
+fn node(table: &Table, number: u32, place: usize) -> String {
+    if place >= EXPRESSION_PLACE {
+        let place = place - EXPRESSION_PLACE;
+        let text = expression(table, place);
+        return match number {
+            6 => format!("{text}\n{}", uses::of_expression(table, place as u16)),
+            _ => text,
+        };
+    }
+    let text = command(table, place);
+    match number {
+        6 => format!("{text}\n{}", uses::of_command(table, place as u16)),
+        10..=12 => format!("{text}\nBecause:\n{}", flow::reasons(table, place)),
+        _ => text,
+    }
+}
+
+fn directory(image: &[u8], why: &str) -> String {
+    let pairs: Vec<String> = pairs(image)
+        .iter()
+        .map(|(offset, length)| format!("{offset},{length}"))
+        .collect();
+    let length = image.len();
+    format!(
+        "The directory of an image of {length} bytes ({why}):\n    {}\n",
+        pairs.join(" ")
+    )
+}
+
+/// With all the others, as most rules about labels are about two or three of them.
+fn label(table: &Table, label: usize) -> String {
+    let row = table.rows[label];
+    let text = records::label(table, label);
+    let all = (0..table.rows.len()).map(|other| records::label(table, other) + "\n");
+    let all = indented(&all.collect::<String>());
+    format!("Label {label}, row {row}:\n    {text}\n\nAll labels:\n{all}\n")
+}
+
+fn register(table: &Table, register: usize) -> String {
+    let text = records::register(table, register);
+    format!("Register {register}:\n    {text}\n")
+}
+
+/// With its parent, whose label and number the rules compare with its own.
+fn state(table: &Table, state: usize) -> String {
+    let text = whole_state(table, state);
+    let parent = usize::from(table.states[state].parent);
+    if parent == state || parent >= table.states.len() {
+        return format!("State {state}:\n{text}\n");
+    }
+    let parent_text = indented(&records::state_head(table, parent));
+    format!("State {state}:\n{text}\n\nIts parent:\n{parent_text}\n")
+}
+
+fn command(table: &Table, number: usize) -> String {
+    let text = layout::flat(&Reader::new(table).command(number as u16));
+    let bytes = body::bytes(table.commands[number]);
+    let home = home(table, |reader| reader.has_command(number as u16));
+    format!("Command {number} (bytes {bytes}):\n    {text}\n\n{home}")
+}
+
+fn expression(table: &Table, number: usize) -> String {
+    let text = Reader::new(table).expression(number as u16).text;
+    let bytes = body::bytes(table.expressions[number]);
+    let home = home(table, |reader| reader.has_expression(number as u16));
+    format!("Expression {number} (bytes {bytes}):\n    {text}\n\n{home}")
+}
+
+/// The first state whose body has shown the node.
+fn home(table: &Table, shown: impl Fn(&Reader) -> bool) -> String {
+    let found = (0..table.states.len()).find(|&state| {
+        let mut reader = Reader::new(table);
+        reader.command(table.states[state].command);
+        shown(&reader)
+    });
+    match found {
+        Some(state) => format!(
+            "In the body of state {state}:\n{}\n",
+            whole_state(table, state)
+        ),
+        None => "It is in the body of no state.\n".to_string(),
+    }
+}
+
+fn whole_state(table: &Table, state: usize) -> String {
+    indented(&records::state(table, state, &mut Reader::new(table)))
+}
+
+fn indented(text: &str) -> String {
+    let lines: Vec<String> = text.lines().map(|line| format!("    {line}")).collect();
+    lines.join("\n")
+}

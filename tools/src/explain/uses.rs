@@ -1,0 +1,55 @@
+//! What uses a node, for refusal 6: states, and nodes of which it is a part.
+
+use crate::table::node::{Command, Expression};
+use crate::table::Table;
+
+pub fn of_command(table: &Table, number: u16) -> String {
+    let mut users = Vec::new();
+    for (state, record) in table.states.iter().enumerate() {
+        add(&mut users, &[record.command], number, "state", state);
+    }
+    for (owner, node) in table.commands.iter().enumerate() {
+        let parts = match Command::of(*node) {
+            Some(Command::Sequence { first, second }) => vec![first, second],
+            Some(Command::If {
+                then, otherwise, ..
+            }) => vec![then, otherwise],
+            _ => Vec::new(),
+        };
+        add(&mut users, &parts, number, "command", owner);
+    }
+    sentence(&users)
+}
+
+pub fn of_expression(table: &Table, number: u16) -> String {
+    let mut users = Vec::new();
+    for (owner, node) in table.commands.iter().enumerate() {
+        let parts = match Command::of(*node) {
+            Some(Command::Assign { value, .. }) => vec![value],
+            Some(Command::If { condition, .. }) => vec![condition],
+            _ => Vec::new(),
+        };
+        add(&mut users, &parts, number, "command", owner);
+    }
+    for (owner, node) in table.expressions.iter().enumerate() {
+        let parts = match Expression::of(*node) {
+            Some(Expression::Operation(_, left, right)) => vec![left, right],
+            _ => Vec::new(),
+        };
+        add(&mut users, &parts, number, "expression", owner);
+    }
+    sentence(&users)
+}
+
+/// Names the user once for each part that is the node.
+fn add(users: &mut Vec<String>, parts: &[u16], number: u16, what: &str, user: usize) {
+    let uses = parts.iter().filter(|&&part| part == number);
+    users.extend(uses.map(|_| format!("{what} {user}")));
+}
+
+fn sentence(users: &[String]) -> String {
+    if users.is_empty() {
+        return "Used by: nothing\n".to_string();
+    }
+    format!("Used by: {}\n", users.join(", "))
+}

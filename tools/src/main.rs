@@ -1,0 +1,69 @@
+//! caisson: designs as source text, for the table format of document 01.
+
+use caisson_tools::{assemble, explain, library, print, read};
+use std::io::Write;
+use std::process::ExitCode;
+use std::{env, fs, io, thread};
+
+const USAGE: &str = "usage: caisson assemble SOURCE TABLE
+       caisson print TABLE
+       caisson explain TABLE";
+
+/// A table out of the limits may nest 8,191 nodes deep, more than the usual stack takes.
+const STACK: usize = 64 << 20;
+
+/// Ends with 0, with 1 where a table is refused, with 2 on any other failure.
+fn main() -> ExitCode {
+    let work = thread::Builder::new().stack_size(STACK).spawn(command);
+    match work.expect("a thread starts").join() {
+        Ok(Ok(code)) => code,
+        Ok(Err(message)) => {
+            eprintln!("{message}");
+            ExitCode::from(2)
+        }
+        Err(_) => ExitCode::from(2),
+    }
+}
+
+fn command() -> Result<ExitCode, String> {
+    let arguments: Vec<String> = env::args().skip(1).collect();
+    let arguments: Vec<&str> = arguments.iter().map(String::as_str).collect();
+    match arguments[..] {
+        ["assemble", source, table] => assemble_file(source, table),
+        ["print", table] => print_file(table),
+        ["explain", table] => explain_file(table),
+        _ => Err(USAGE.to_string()),
+    }
+}
+
+fn assemble_file(source: &str, table: &str) -> Result<ExitCode, String> {
+    let bytes = load(source)?;
+    let text = String::from_utf8(bytes).map_err(|_| format!("{source}: the text is not UTF-8"))?;
+    let image = assemble(&text).map_err(|fault| format!("{source}: {fault}"))?;
+    fs::write(table, image).map_err(|error| format!("{table}: {error}"))?;
+    Ok(ExitCode::SUCCESS)
+}
+
+fn print_file(table: &str) -> Result<ExitCode, String> {
+    let records =
+        read(&load(table)?).map_err(|why| format!("{table}: cannot be cut into records: {why}"))?;
+    show(&print(&records))?;
+    Ok(ExitCode::SUCCESS)
+}
+
+fn explain_file(table: &str) -> Result<ExitCode, String> {
+    let image = load(table)?;
+    let answer = library::check(&image);
+    show(&explain::explain(&image, answer))?;
+    Ok(ExitCode::from(u8::from(answer.number != 0)))
+}
+
+fn load(path: &str) -> Result<Vec<u8>, String> {
+    fs::read(path).map_err(|error| format!("{path}: {error}"))
+}
+
+/// A reader that has gone away is a failure like any other, not a panic.
+fn show(text: &str) -> Result<(), String> {
+    let shown = io::stdout().write_all(text.as_bytes());
+    shown.map_err(|error| format!("standard output: {error}"))
+}

@@ -1,0 +1,137 @@
+//! Nodes as text. Each node is shown once, where it is first met: a table may use one node many
+//! times, or as a part of itself.
+
+use super::records::{register_name, state_name};
+use crate::operator::TIGHTEST;
+use crate::table::node::{Command, Expression};
+use crate::table::{Node, Table};
+
+/// A command ready for layout: what may be broken into lines, and leaves of text.
+pub enum Body {
+    Leaf(String),
+    Sequence(Box<Body>, Box<Body>),
+    If(String, Box<Body>, Box<Body>),
+}
+
+/// An expression, and how tightly its outer operator binds.
+pub struct Written {
+    pub text: String,
+    binding: u8,
+}
+
+pub struct Reader<'a> {
+    table: &'a Table,
+    commands: Vec<bool>,
+    expressions: Vec<bool>,
+}
+
+impl<'a> Reader<'a> {
+    pub fn new(table: &'a Table) -> Reader<'a> {
+        Reader {
+            table,
+            commands: vec![false; table.commands.len()],
+            expressions: vec![false; table.expressions.len()],
+        }
+    }
+
+    /// Whether the node was shown.
+    pub fn has_command(&self, number: u16) -> bool {
+        self.commands.get(usize::from(number)) == Some(&true)
+    }
+
+    pub fn has_expression(&self, number: u16) -> bool {
+        self.expressions.get(usize::from(number)) == Some(&true)
+    }
+
+    pub fn command(&mut self, number: u16) -> Body {
+        let node = match self.table.commands.get(usize::from(number)) {
+            None => return Body::Leaf(format!("[command {number}]")),
+            Some(_) if self.has_command(number) => {
+                return Body::Leaf(format!("[command {number} again]"))
+            }
+            Some(node) => *node,
+        };
+        self.commands[usize::from(number)] = true;
+        match Command::of(node) {
+            None => Body::Leaf(raw("command", number, node)),
+            Some(Command::Skip) => Body::Leaf("skip".to_string()),
+            Some(Command::Fall) => Body::Leaf("fall".to_string()),
+            Some(Command::Goto { state }) => {
+                Body::Leaf(format!("goto {}", state_name(self.table, state)))
+            }
+            Some(Command::Assign { register, value }) => {
+                let register = register_name(self.table, register);
+                let value = self.expression(value).text;
+                Body::Leaf(format!("{register} := {value}"))
+            }
+            Some(Command::Sequence { first, second }) => {
+                let first = self.command(first);
+                let second = self.command(second);
+                Body::Sequence(Box::new(first), Box::new(second))
+            }
+            Some(Command::If {
+                condition,
+                then,
+                otherwise,
+            }) => {
+                let condition = self.expression(condition).text;
+                let then = self.command(then);
+                let otherwise = self.command(otherwise);
+                Body::If(condition, Box::new(then), Box::new(otherwise))
+            }
+        }
+    }
+
+    pub fn expression(&mut self, number: u16) -> Written {
+        let node = match self.table.expressions.get(usize::from(number)) {
+            None => return Written::tight(format!("[expression {number}]")),
+            Some(_) if self.has_expression(number) => {
+                return Written::tight(format!("[expression {number} again]"))
+            }
+            Some(node) => *node,
+        };
+        self.expressions[usize::from(number)] = true;
+        match Expression::of(node) {
+            None => Written::tight(raw("expression", number, node)),
+            Some(Expression::Constant(value)) => Written::tight(value.to_string()),
+            Some(Expression::Register(register)) => {
+                Written::tight(register_name(self.table, register))
+            }
+            Some(Expression::Operation(operator, left, right)) => {
+                let left = self.expression(left).within(operator.left_binding());
+                let right = self.expression(right).within(operator.right_binding());
+                Written {
+                    text: format!("{left} {} {right}", operator.symbol()),
+                    binding: operator.binding(),
+                }
+            }
+        }
+    }
+}
+
+impl Written {
+    fn tight(text: String) -> Written {
+        Written {
+            text,
+            binding: TIGHTEST,
+        }
+    }
+
+    /// In parentheses where it must bind more tightly than it does.
+    fn within(self, least: u8) -> String {
+        if self.binding < least {
+            format!("({})", self.text)
+        } else {
+            self.text
+        }
+    }
+}
+
+/// A node that says nothing: its kind is none, or a byte that must be 0 is not.
+fn raw(family: &str, number: u16, node: Node) -> String {
+    format!("[{family} {number}: bytes {}]", bytes(node))
+}
+
+pub fn bytes(node: Node) -> String {
+    node.bytes().map(|byte| byte.to_string()).join(" ")
+}

@@ -1,0 +1,90 @@
+//! A table cut into its records. Only the directory is judged: without it nothing can be cut.
+
+use super::limits::{DIRECTORY, RECORDS};
+use super::{Node, Register, State, Table};
+
+/// The pairs of offset and length, as far as the image has them.
+pub fn pairs(image: &[u8]) -> Vec<(usize, usize)> {
+    let directory = &image[..image.len().min(DIRECTORY)];
+    let pairs = directory.chunks_exact(4);
+    pairs
+        .map(|pair| (usize::from(half(pair, 0)), usize::from(half(pair, 2))))
+        .collect()
+}
+
+/// Or says why the image cannot be cut.
+pub fn read(image: &[u8]) -> Result<Table, String> {
+    let pairs = pairs(image);
+    if pairs.len() < RECORDS.len() {
+        return Err(format!(
+            "a directory has {DIRECTORY} bytes, the image {}",
+            image.len()
+        ));
+    }
+    let mut end = DIRECTORY;
+    for (section, ((offset, length), record)) in pairs.iter().zip(RECORDS).enumerate() {
+        let name = SECTIONS[section];
+        if *offset != end {
+            return Err(format!("the {name} begin at {offset}, not at {end}"));
+        }
+        if length % record != 0 {
+            return Err(format!(
+                "the {name} have {length} bytes, with {record} for each"
+            ));
+        }
+        end += length;
+    }
+    if end != image.len() {
+        return Err(format!(
+            "the sections end at {end}, the image at {}",
+            image.len()
+        ));
+    }
+    Ok(cut(image, &pairs))
+}
+
+const SECTIONS: [&str; 5] = ["labels", "registers", "states", "commands", "expressions"];
+
+fn cut(image: &[u8], pairs: &[(usize, usize)]) -> Table {
+    let records = |section: usize| {
+        let (offset, length) = pairs[section];
+        image[offset..offset + length].chunks_exact(RECORDS[section])
+    };
+    Table {
+        rows: records(0).map(|row| half(row, 0)).collect(),
+        registers: records(1).map(register).collect(),
+        states: records(2).map(state).collect(),
+        commands: records(3).map(node).collect(),
+        expressions: records(4).map(node).collect(),
+    }
+}
+
+fn register(bytes: &[u8]) -> Register {
+    Register {
+        label: bytes[0],
+        kind: bytes[1],
+        reset: u32::from(half(bytes, 2)) | u32::from(half(bytes, 4)) << 16,
+    }
+}
+
+fn state(bytes: &[u8]) -> State {
+    State {
+        parent: bytes[0],
+        label: bytes[1],
+        command: half(bytes, 2),
+    }
+}
+
+fn node(bytes: &[u8]) -> Node {
+    Node {
+        kind: bytes[0],
+        which: bytes[1],
+        a: half(bytes, 2),
+        b: half(bytes, 4),
+        c: half(bytes, 6),
+    }
+}
+
+fn half(bytes: &[u8], at: usize) -> u16 {
+    u16::from_le_bytes([bytes[at], bytes[at + 1]])
+}

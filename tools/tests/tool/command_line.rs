@@ -1,0 +1,148 @@
+//! The tool as one calls it.
+
+use crate::common::path;
+use std::fs;
+use std::process::{Command, Output};
+
+fn caisson(arguments: &[&str]) -> Output {
+    let mut command = Command::new(env!("CARGO_BIN_EXE_caisson"));
+    command.args(arguments).current_dir(path("designs"));
+    command.output().unwrap()
+}
+
+fn out(output: &Output) -> String {
+    String::from_utf8(output.stdout.clone()).unwrap()
+}
+
+fn failure(output: &Output) -> String {
+    assert_eq!(output.status.code(), Some(2));
+    assert!(output.stdout.is_empty());
+    String::from_utf8(output.stderr.clone()).unwrap()
+}
+
+#[test]
+fn assemble_writes_the_table() {
+    let table = format!("{}/assembled.table", env!("CARGO_TARGET_TMPDIR"));
+    let output = caisson(&["assemble", "lease.caisson", &table]);
+    assert_eq!(output.status.code(), Some(0));
+    assert_eq!(
+        fs::read(&table).unwrap(),
+        crate::common::bytes("designs/lease.table")
+    );
+}
+
+#[test]
+fn assemble_says_where_a_text_is_wrong() {
+    let source = format!("{}/wrong.caisson", env!("CARGO_TARGET_TMPDIR"));
+    let table = format!("{}/wrong.table", env!("CARGO_TARGET_TMPDIR"));
+    fs::write(&source, "label low\nstate root : high { fall }\n").unwrap();
+    let message = failure(&caisson(&["assemble", &source, &table]));
+    let expected = "line 2, column 14: expected the name of a label, found `high`\n";
+    assert_eq!(message, format!("{source}: {expected}"));
+    assert!(fs::metadata(&table).is_err());
+}
+
+#[test]
+fn print_gives_names() {
+    let output = caisson(&["print", "lease.table"]);
+    assert_eq!(output.status.code(), Some(0));
+    let expected = "label l0 -> l1\nlabel l1\n\nregister r0 : l0 = 3\nport r1 : l1 = 0\n\n\
+                    state s0 : l0 { fall }\n\
+                    state s1 in s0 : l0 { r0 := 3; goto s2 }\n\
+                    state s2 in s0 : l0 { r0 := r0 - 1; if r0 then fall else goto s1 }\n\
+                    state s3 in s2 : l1 { if r1 then goto s4 else goto s3 }\n\
+                    state s4 in s2 : l1 { goto s3 }\n";
+    assert_eq!(out(&output), expected);
+}
+
+#[test]
+fn print_says_why_it_cannot() {
+    let message = failure(&caisson(&["print", "cut_short.table"]));
+    let expected = "cut_short.table: cannot be cut into records: \
+                    the sections end at 208, the image at 207\n";
+    assert_eq!(message, expected);
+}
+
+#[test]
+fn explain_accepts() {
+    let output = caisson(&["explain", "lease.table"]);
+    assert_eq!(
+        (output.status.code(), out(&output).as_str()),
+        (Some(0), "accepted\n")
+    );
+}
+
+/// Each refusal names the place and shows what stands there.
+#[test]
+fn explain_shows_the_place() {
+    for (table, number, shown) in [
+        ("cut_short", 1, "    20,4 24,12 36,20 56,104 160,48\n"),
+        ("no_lattice", 2, "Label 1, row 2:\n    label l1\n"),
+        (
+            "register_kind",
+            3,
+            "Register 0:\n    [kind 2] r0 : l0 = 3\n",
+        ),
+        (
+            "own_parent",
+            4,
+            "State 1:\n    state s1 in s1 : l0 { goto s1 }\n",
+        ),
+        (
+            "command_kind",
+            5,
+            "    [command 0: bytes 6 0 0 0 0 0 0 0]\n",
+        ),
+        (
+            "shared_command",
+            6,
+            "    state s0 : l0 { fall }\n\nUsed by: state 0, state 1\n",
+        ),
+        (
+            "too_deep",
+            7,
+            "Expression 128 (bytes 2 0 126 0 127 0 0 0):\n    0 + 1 + 1",
+        ),
+        (
+            "no_transfer",
+            8,
+            "    state s2 in s0 : l0 { r0 := r0 + 1 }\n",
+        ),
+        (
+            "low_child",
+            9,
+            "    state s2 in s1 : l0 { goto s2 }\n\nIts parent:\n    state s1 in s0 : l1\n",
+        ),
+        (
+            "leak",
+            10,
+            "Because:\n    r1 : l1 does not flow to r0 : l0\n",
+        ),
+        (
+            "secret_goto",
+            11,
+            "Because:\n    r0 : l1 does not flow to s2 : l0\n",
+        ),
+        (
+            "secret_fall",
+            12,
+            "Because:\n    r0 : l1 does not flow to s1 : l0\n",
+        ),
+    ] {
+        let output = caisson(&["explain", &format!("{table}.table")]);
+        assert_eq!(output.status.code(), Some(1), "{table}");
+        let text = out(&output);
+        assert!(
+            text.starts_with(&format!("refused by {number} at place ")),
+            "{text}"
+        );
+        assert!(text.contains(shown), "{text}");
+    }
+}
+
+#[test]
+fn other_arguments_give_the_usage() {
+    assert!(failure(&caisson(&[])).starts_with("usage: caisson assemble SOURCE TABLE\n"));
+    assert!(failure(&caisson(&["print"])).starts_with("usage: "));
+    assert!(failure(&caisson(&["print", "none.table"])).starts_with("none.table: "));
+}

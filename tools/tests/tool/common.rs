@@ -1,0 +1,36 @@
+//! What several tests need.
+
+use std::fs;
+use std::path::PathBuf;
+use std::thread;
+
+/// A file or folder of the repository.
+pub fn path(name: &str) -> PathBuf {
+    PathBuf::from(concat!(env!("CARGO_MANIFEST_DIR"), "/..")).join(name)
+}
+
+pub fn text(name: &str) -> String {
+    fs::read_to_string(path(name)).unwrap_or_else(|error| panic!("{name}: {error}"))
+}
+
+pub fn bytes(name: &str) -> Vec<u8> {
+    fs::read(path(name)).unwrap_or_else(|error| panic!("{name}: {error}"))
+}
+
+/// The files of designs/ with this extension, without it, sorted.
+pub fn designs(extension: &str) -> Vec<String> {
+    let files = fs::read_dir(path("designs")).expect("the folder of designs");
+    let paths = files.map(|file| file.expect("a file").path());
+    let mut names: Vec<String> = paths
+        .filter(|path| path.extension().is_some_and(|found| found == extension))
+        .map(|path| path.file_stem().unwrap().to_string_lossy().into_owned())
+        .collect();
+    names.sort();
+    names
+}
+
+/// With the stack of the tool, for what nests deep.
+pub fn on_large_stack(work: impl FnOnce() + Send + 'static) {
+    let thread = thread::Builder::new().stack_size(64 << 20).spawn(work);
+    thread.unwrap().join().unwrap();
+}

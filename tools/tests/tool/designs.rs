@@ -1,0 +1,90 @@
+//! The designs: each table is what the tool makes, and has the verdict that its text names.
+
+use crate::common::{bytes, designs, text};
+use caisson_tools::{assemble, library};
+
+/// Tables that no text makes: the lease design with bytes changed.
+fn damaged() -> Vec<(&'static str, Vec<u8>, (u32, usize))> {
+    let lease = bytes("designs/lease.table");
+    let changed = |at: usize, byte: u8| {
+        let mut image = lease.clone();
+        image[at] = byte;
+        image
+    };
+    vec![
+        ("cut_short", lease[..207].to_vec(), (1, 0)),
+        ("register_kind", changed(25, 2), (3, 0)),
+        ("command_kind", changed(56, 6), (5, 0)),
+        ("shared_command", changed(42, 0), (6, 0)),
+    ]
+}
+
+/// "# Accepted." or "# Refused by 10 at place 4."
+fn named_verdict(source: &str) -> Option<(u32, usize)> {
+    let sentence = source
+        .lines()
+        .next()?
+        .strip_prefix("# ")?
+        .strip_suffix('.')?;
+    if sentence == "Accepted" {
+        return Some((0, 0));
+    }
+    let (number, place) = sentence
+        .strip_prefix("Refused by ")?
+        .split_once(" at place ")?;
+    Some((number.parse().ok()?, place.parse().ok()?))
+}
+
+fn verdict(image: &[u8]) -> (u32, usize) {
+    let answer = library::check(image);
+    (answer.number, answer.place)
+}
+
+#[test]
+fn tables_are_what_the_tool_makes() {
+    for name in designs("caisson") {
+        let source = text(&format!("designs/{name}.caisson"));
+        let image = assemble(&source).unwrap_or_else(|fault| panic!("{name}: {fault}"));
+        assert!(image == bytes(&format!("designs/{name}.table")), "{name}");
+        assert_eq!(Some(verdict(&image)), named_verdict(&source), "{name}");
+    }
+}
+
+#[test]
+fn damaged_tables_are_the_lease_design_with_bytes_changed() {
+    for (name, image, expected) in damaged() {
+        assert!(image == bytes(&format!("designs/{name}.table")), "{name}");
+        assert_eq!(verdict(&image), expected, "{name}");
+    }
+}
+
+/// Each refusal of the image has a design, and every table comes from a text or a change.
+#[test]
+fn designs_are_complete() {
+    let mut known = designs("caisson");
+    known.extend(damaged().into_iter().map(|(name, ..)| name.to_string()));
+    known.sort();
+    assert_eq!(designs("table"), known);
+    let mut met: Vec<u32> = known
+        .iter()
+        .map(|name| verdict(&bytes(&format!("designs/{name}.table"))).0)
+        .collect();
+    met.sort();
+    met.dedup();
+    assert_eq!(met, (0..=12).collect::<Vec<u32>>());
+}
+
+/// The README lists every table with its verdict.
+#[test]
+fn readme_names_the_verdicts() {
+    let readme = text("designs/README.md");
+    for name in designs("table") {
+        let (number, place) = verdict(&bytes(&format!("designs/{name}.table")));
+        let words = match number {
+            0 => "accepted".to_string(),
+            _ => format!("{number} at {place}"),
+        };
+        let row = format!("| `{name}` | {words} |");
+        assert!(readme.contains(&row), "no row begins with {row}");
+    }
+}

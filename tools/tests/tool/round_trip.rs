@@ -1,0 +1,184 @@
+//! Tables printed and assembled again.
+
+use crate::common::{bytes, designs, on_large_stack};
+use caisson_tests::generate::random::Random;
+use caisson_tests::generate::{design, faults, Size};
+use caisson_tests::{designs::largest, examples, reference, table};
+use caisson_tools::{assemble, explain, library, print, read, Table};
+
+fn printed(image: &[u8]) -> String {
+    print(&read(image).unwrap())
+}
+
+/// What the assembler made comes back to the byte.
+fn assert_comes_back(name: &str, image: &[u8]) {
+    let again = assemble(&printed(image)).unwrap_or_else(|fault| panic!("{name}: {fault}"));
+    assert!(again == image, "{name}");
+}
+
+/// Assembles the print of any table and checks that only the numbers of nodes have changed.
+fn assert_same_design(name: &str, image: &[u8]) -> Vec<u8> {
+    let text = printed(image);
+    let again = assemble(&text).unwrap_or_else(|fault| panic!("{name}: {fault}\n{text}"));
+    let (one, other) = (read(image).unwrap(), read(&again).unwrap());
+    assert_eq!((&one.rows, &one.registers), (&other.rows, &other.registers));
+    assert_eq!(one.states.len(), other.states.len());
+    for (left, right) in one.states.iter().zip(&other.states) {
+        assert_eq!((left.parent, left.label), (right.parent, right.label));
+        assert!(
+            same_command(&one, left.command, &other, right.command),
+            "{name}"
+        );
+    }
+    assert_comes_back(name, &again);
+    again
+}
+
+fn same_command(one: &Table, left: u16, other: &Table, right: u16) -> bool {
+    let left = one.commands[usize::from(left)];
+    let right = other.commands[usize::from(right)];
+    let same = |left, right| same_command(one, left, other, right);
+    let value = |left, right| same_expression(one, left, other, right);
+    (left.kind, left.which) == (right.kind, right.which)
+        && match left.kind {
+            1 => value(left.a, right.a),
+            2 => same(left.a, right.a) && same(left.b, right.b),
+            5 => value(left.a, right.a) && same(left.b, right.b) && same(left.c, right.c),
+            _ => true,
+        }
+}
+
+fn same_expression(one: &Table, left: u16, other: &Table, right: u16) -> bool {
+    let left = one.expressions[usize::from(left)];
+    let right = other.expressions[usize::from(right)];
+    let same = |left, right| same_expression(one, left, other, right);
+    match left.kind {
+        0 | 1 => left == right,
+        _ => left.kind == right.kind && same(left.a, right.a) && same(left.b, right.b),
+    }
+}
+
+#[test]
+fn designs_come_back() {
+    for name in designs("caisson") {
+        assert_comes_back(&name, &bytes(&format!("designs/{name}.table")));
+    }
+}
+
+/// The generator numbers its nodes in any order.
+#[test]
+fn random_designs_come_back_apart_from_node_numbers() {
+    let mut random = Random::new(21);
+    for round in 0..150 {
+        let size = Size::random(&mut random);
+        let image = design(&mut random, size).image();
+        let again = assert_same_design(&format!("round {round}"), &image);
+        assert_eq!(library::check(&again).number, 0);
+        assert_eq!(again.len(), image.len());
+        assert_same_behaviour(&image, &again, &mut random);
+    }
+}
+
+#[test]
+fn the_largest_design_comes_back() {
+    let image = largest().image();
+    assert_eq!(assert_same_design("largest", &image).len(), 25_268);
+}
+
+fn assert_same_behaviour(one: &[u8], other: &[u8], random: &mut Random) {
+    let table = read(one).unwrap();
+    let (count, states) = (table.registers.len(), table.states.len());
+    let mut areas = [one, other].map(|image| {
+        let (mut registers, mut targets) = (vec![0; 4 * count], vec![0; states]);
+        assert_eq!(
+            reference::reset(image, &mut registers, &mut targets).number,
+            0
+        );
+        (image, registers, targets)
+    });
+    for _ in 0..10 {
+        let (port, value) = (random.below(count.max(1)) as u32, random.value());
+        for (image, registers, targets) in &mut areas {
+            // Refused for an inner register, in both.
+            reference::write_port(image, registers, port, value);
+            assert_eq!(reference::run(image, registers, targets, 1).count, 1);
+        }
+        assert_eq!(areas[0].1, areas[1].1);
+        assert_eq!(areas[0].2, areas[1].2);
+    }
+}
+
+/// Depth and all rules behind it are about what a text can say.
+#[test]
+fn designs_refused_from_7_on_come_back_apart_from_node_numbers() {
+    let mut random = Random::new(22);
+    for round in 0..60 {
+        let size = Size::random(&mut random);
+        let sound = design(&mut random, size);
+        for number in 7..=12 {
+            let mut table = sound.clone();
+            faults::spoil(&mut table, number, &mut random);
+            let image = table.image();
+            let before = library::check(&image).number;
+            if before >= 7 {
+                let again = assert_same_design(&format!("round {round}"), &image);
+                // In one pass the lowest node counts, and the nodes have other numbers.
+                assert_eq!(library::check(&again).number.min(10), before.min(10));
+            }
+        }
+    }
+}
+
+/// Every table that can be cut is printed, and every answer explained. If the text assembles, it
+/// prints as the same text but for the comments.
+#[test]
+fn faults_are_printed_and_explained() {
+    let mut images: Vec<Vec<u8>> = examples::all().into_iter().map(|one| one.image).collect();
+    let mut random = Random::new(23);
+    for _ in 0..40 {
+        let size = Size::random(&mut random);
+        let sound = design(&mut random, size);
+        images.push(faults::spoil_directory(&sound, &mut random));
+        images.push(faults::damaged(sound.image(), &mut random));
+        for number in 2..=12 {
+            let mut table = sound.clone();
+            faults::spoil(&mut table, number, &mut random);
+            images.push(table.image());
+        }
+    }
+    for image in images {
+        let answer = library::check(&image);
+        let explained = explain::explain(&image, answer);
+        assert_eq!(explained == "accepted\n", answer.number == 0);
+        let Ok(table) = read(&image) else {
+            assert_eq!(answer.number, 1);
+            continue;
+        };
+        let text = print(&table);
+        if let Ok(again) = assemble(&text) {
+            let (declared, _) = text.split_once("\n#").unwrap_or((&text, ""));
+            assert_eq!(printed(&again).trim_end(), declared.trim_end());
+        }
+    }
+}
+
+/// As deep as the counts allow: sums to the right, each in parentheses.
+#[test]
+fn deep_expressions_come_back() {
+    on_large_stack(|| {
+        let mut deep = table::Table::new(&[1]);
+        deep.inner(0, 0);
+        let fall = deep.fall();
+        deep.state(0, 0, fall);
+        let mut value = deep.constant(0);
+        for _ in 0..1_023 {
+            let one = deep.constant(1);
+            value = deep.add(one, value);
+        }
+        let assign = deep.assign(0, value);
+        let go = deep.goto(1);
+        let body = deep.sequence(assign, go);
+        deep.state(0, 0, body);
+        assert_same_design("deep", &deep.image());
+    });
+}

@@ -1,0 +1,188 @@
+//! The text form: what binds how, what is numbered how, and what each fault says.
+
+use crate::common::on_large_stack;
+use caisson_tools::assemble;
+
+/// A design with three registers, whose state `s` has this body.
+fn design(body: &str) -> String {
+    format!(
+        "label low\nregister a : low = 0\nregister b : low = 0\nport c : low = 0\n\
+         state root : low {{ fall }}\nstate s in root : low {{ {body} }}\n"
+    )
+}
+
+fn assert_same(one: &str, other: &str) {
+    let tables = [one, other].map(|body| assemble(&design(body)).unwrap());
+    assert!(tables[0] == tables[1], "{one} is not {other}");
+}
+
+fn assert_differ(one: &str, other: &str) {
+    let tables = [one, other].map(|body| assemble(&design(body)).unwrap());
+    assert!(tables[0] != tables[1], "{one} is {other}");
+}
+
+fn value(expression: &str) -> String {
+    format!("a := {expression}; goto s")
+}
+
+#[test]
+fn operators_bind() {
+    for (one, other) in [
+        ("a + b & c", "(a + b) & c"),
+        ("a & b - c", "a & (b - c)"),
+        ("a & b ^ c & a", "(a & b) ^ (c & a)"),
+        ("a ^ b | c ^ a", "(a ^ b) | (c ^ a)"),
+        ("a | b == c | 1", "(a | b) == (c | 1)"),
+        ("a + 1 < b - 1", "(a + 1) < (b - 1)"),
+        ("a - b - c", "(a - b) - c"),
+        ("a - b + c", "(a - b) + c"),
+        ("a | b | c", "(a | b) | c"),
+        ("((a))", "a"),
+    ] {
+        assert_same(&value(one), &value(other));
+    }
+    assert_differ(&value("a - b - c"), &value("a - (b - c)"));
+    assert_differ(&value("a & b + c"), &value("(a & b) + c"));
+}
+
+#[test]
+fn commands_bind() {
+    assert_same("skip; skip; goto s", "skip; { skip; goto s }");
+    assert_differ("skip; skip; goto s", "{ skip; skip }; goto s");
+    let (one, other) = (
+        "if a then skip else skip; goto s",
+        "{ if a then skip else skip }; goto s",
+    );
+    assert_same(one, other);
+    let (one, other) = (
+        "if a then if b then goto s else goto root else goto s",
+        "if a then { if b then goto s else goto root } else goto s",
+    );
+    assert_same(one, other);
+    assert_same("{ { goto s } }", "goto s # a comment\n");
+}
+
+/// Comments end a line only, and the order of the kinds of declarations does not matter.
+#[test]
+fn layout_does_not_matter() {
+    let other = "state root:low{fall} # the root\n\n\tstate s in root:low{a:=c+1;goto s}\n\
+                 register a:low=0 register b:low=0\r\nport c:low=0 label low";
+    let expected = assemble(&design("a := c + 1; goto s")).unwrap();
+    assert_eq!(assemble(other).unwrap(), expected);
+}
+
+/// Names of labels, registers and states are apart.
+#[test]
+fn one_name_may_serve_three_kinds() {
+    let source = "label x register x : x = 1 state x : x { x := x; fall } \
+                  state y in x : x { goto y }";
+    assert!(assemble(source).is_ok());
+}
+
+fn fault(source: &str) -> String {
+    assemble(source).unwrap_err().to_string()
+}
+
+#[test]
+fn faults_of_declarations() {
+    for (source, message) in [
+        ("", "line 1, column 1: expected at least one label, found the end of the text"),
+        ("label a", "line 1, column 8: expected at least one state, found the end of the text"),
+        ("lable a", "line 1, column 1: expected `label`, `register`, `port` or `state`, found `lable`"),
+        ("label if", "line 1, column 7: expected the label's name, found `if`"),
+        ("label a -> b\nstate r : a { fall }", "line 1, column 12: expected the name of a label, found `b`"),
+        ("label a\nlabel a\nstate r : a { fall }", "line 2, column 7: expected a name that no label above has, found `a`"),
+        ("label a register r = 3", "line 1, column 20: expected `:` and a label, found `=`"),
+        ("label a\n  register r : a", "line 2, column 17: expected `=` and the reset value, found the end of the text"),
+        ("label a\nport é : a = 0", "line 2, column 6: expected a name, a number or a symbol, found `é`"),
+        (
+            "register r : a = 4294967296",
+            "line 1, column 18: expected a decimal number from 0 to 4294967295, found `4294967296`",
+        ),
+        (
+            "label a state r : a { fall } state s : a { fall }",
+            "line 1, column 38: expected `in` and the parent (only the first state goes without), found `:`",
+        ),
+        ("label a state r : a fall", "line 1, column 21: expected `{` and the state's body, found `fall`"),
+    ] {
+        assert_eq!(fault(source), message);
+    }
+}
+
+#[test]
+fn faults_of_bodies() {
+    for (body, message) in [
+        ("goto t", "expected the name of a state, found `t`"),
+        ("d := 1", "expected the name of a register, found `d`"),
+        ("a = 1", "expected `:=` and an expression, found `=`"),
+        ("a := d", "expected the name of a register, found `d`"),
+        ("a := 1 == 2 == 3", "expected parentheses, as comparisons do not chain, found `==`"),
+        ("a := 1 < 2 == 3", "expected parentheses, as comparisons do not chain, found `==`"),
+        ("a := (1", "expected an operator or `)`, found `}`"),
+        ("a := 1x", "expected a decimal number from 0 to 4294967295, found `1x`"),
+        ("a := -1", "expected an expression: a number, the name of a register or `(`, found `-`"),
+        ("if a fall else fall", "expected an operator or `then`, found `fall`"),
+        (
+            "if a then a := 1; fall else fall",
+            "expected `else` (a sequence in a branch stands in braces), found `;`",
+        ),
+        (
+            "fall;",
+            "expected a command: `skip`, `fall`, `goto`, `if`, `{` or the name of a register, found `}`",
+        ),
+        ("fall fall", "expected `;` or `}`, found `fall`"),
+        ("[command 3]", "expected a name, a number or a symbol, found `[`"),
+    ] {
+        let found = fault(&design(body));
+        assert!(found.starts_with("line 6, column "), "{found}");
+        assert!(found.ends_with(message), "{found}");
+    }
+}
+
+#[test]
+fn counts_are_kept() {
+    let many = |count: usize, one: &dyn Fn(usize) -> String| -> String {
+        (0..count).map(one).collect::<Vec<_>>().join("\n")
+    };
+    let state = "\nlabel low\nstate root : low { fall }";
+    let labels = |count| many(count, &|n| format!("label l{n}")) + "\nstate root : l0 { fall }";
+    assert!(assemble(&labels(16)).is_ok());
+    assert!(fault(&labels(17)).ends_with("expected at most 16 labels, found one more"));
+    let registers = |count| many(count, &|n| format!("port r{n} : low = 0")) + state;
+    assert!(assemble(&registers(64)).is_ok());
+    assert!(fault(&registers(65)).ends_with("expected at most 64 registers, found one more"));
+    let states = |count| {
+        format!(
+            "{state}\n{}",
+            many(count, &|n| format!("state s{n} in root : low {{ fall }}"))
+        )
+    };
+    assert!(assemble(&states(63)).is_ok());
+    assert!(fault(&states(64)).ends_with("expected at most 64 states, found one more"));
+    let commands = |count| design(&(vec!["skip"; count].join(";") + "; fall"));
+    assert!(assemble(&commands(511)).is_ok());
+    assert!(fault(&commands(512)).ends_with("expected at most 1024 commands, found one more"));
+    let sums = |count| design(&value(&vec!["1"; count].join("+")));
+    assert!(assemble(&sums(1_024)).is_ok());
+    assert!(fault(&sums(1_025)).ends_with("expected at most 2048 expressions, found one more"));
+}
+
+/// However deep the text, the answer is a fault and not an exhausted stack.
+#[test]
+fn nesting_is_bounded() {
+    on_large_stack(|| {
+        let parentheses = |count| value(&("(".repeat(count) + "1" + &")".repeat(count)));
+        assert!(assemble(&design(&parentheses(1_024))).is_ok());
+        let braces = "{".repeat(100_000);
+        for body in [parentheses(1_025), parentheses(100_000), braces] {
+            let found = fault(&design(&body));
+            let expected = "expected at most 1024 levels of nesting, found one more";
+            assert!(found.ends_with(expected), "{found}");
+        }
+        let found = fault(&design(&"if a then ".repeat(100_000)));
+        assert!(
+            found.ends_with("expected at most 1024 commands, found one more"),
+            "{found}"
+        );
+    });
+}
