@@ -55,6 +55,7 @@ fn register_mask(image: &[u8], design: Design, r: usize) -> usize
 }
 
 // The mask of the labels of all registers that an expression reads.
+// A reborrow keeps the slice in registers of the processor; image itself would go through memory.
 fn reads(image: &[u8], design: Design, e: usize) -> usize
     requires { ⌜ Reading (now image) design e ⌝ }
     ensures { λ m. ⌜ MaskOf (designOf (now (image .entry)) .rows) (labelsRead (designOf (now (image .entry))) (exprOf (designOf (now (image .entry))) e)) m ⌝ }
@@ -69,8 +70,8 @@ fn reads(image: &[u8], design: Design, e: usize) -> usize
         2..=8 => {
             let a = Design::part_a(image, at, e);
             let b = Design::part_b(image, at, e);
-            let p = reads(image, design, a);
-            let q = reads(image, design, b);
+            let p = reads(&*image, design, a);
+            let q = reads(&*image, design, b);
             p & q
         }
         _ => 65535,
@@ -85,7 +86,7 @@ fn assign_flow(image: &[u8], design: Design, context: usize, n: usize) -> Answer
     let at = design.commands_at;
     let r = Design::item(image, at, n);
     let e = Design::part_a(image, at, n);
-    let mask = context & reads(image, design, e);
+    let mask = context & reads(&*image, design, e);
     let registers_at = design.registers_at;
     let label = Design::register_label(image, registers_at, r);
     refused_unless(bit(mask, label), Refusal::AssignFlow, n)
@@ -113,8 +114,8 @@ fn flow(image: &[u8], design: Design, s: usize, context: usize, n: usize) -> Ans
         2 => {
             let a = Design::part_a(image, at, n);
             let b = Design::part_b(image, at, n);
-            let p = flow(image, design, s, context, a);
-            let q = flow(image, design, s, context, b);
+            let p = flow(&*image, design, s, context, a);
+            let q = flow(&*image, design, s, context, b);
             nearer(p, q)
         }
         3 => {
@@ -130,9 +131,9 @@ fn flow(image: &[u8], design: Design, s: usize, context: usize, n: usize) -> Ans
             let e = Design::part_a(image, at, n);
             let b = Design::part_b(image, at, n);
             let c = Design::part_c(image, at, n);
-            let inner = context & reads(image, design, e);
-            let p = flow(image, design, s, inner, b);
-            let q = flow(image, design, s, inner, c);
+            let inner = context & reads(&*image, design, e);
+            let p = flow(&*image, design, s, inner, b);
+            let q = flow(&*image, design, s, inner, c);
             nearer(p, q)
         }
         _ => Answer::Accepted(0),

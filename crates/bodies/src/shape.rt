@@ -94,8 +94,8 @@ fn judge(image: &[u8], design: Design, s: usize, falls: bool, n: usize) -> Judge
         2 => {
             let a = Design::part_a(image, at, n);
             let b = Design::part_b(image, at, n);
-            let p = judge(image, design, s, falls, a);
-            let q = judge(image, design, s, falls, b);
+            let p = judge(&*image, design, s, falls, a);
+            let q = judge(&*image, design, s, falls, b);
             sequenced(n, p, q)
         }
         3 => Judged {
@@ -112,8 +112,8 @@ fn judge(image: &[u8], design: Design, s: usize, falls: bool, n: usize) -> Judge
         5 => {
             let b = Design::part_b(image, at, n);
             let c = Design::part_c(image, at, n);
-            let p = judge(image, design, s, falls, b);
-            let q = judge(image, design, s, falls, c);
+            let p = judge(&*image, design, s, falls, b);
+            let q = judge(&*image, design, s, falls, c);
             branched(n, p, q)
         }
         _ => Judged {

@@ -1,5 +1,5 @@
 use borrow.Author.Needs.{needs}
-use Rattle.bodies.proofs.ShapeRules.{judge-laws, branch-b-falls, branch-b, branch-c-falls, branch-c}
+use Rattle.bodies.proofs.ShapeRules.{judge-laws, sequence-a-falls, sequence-a, sequence-b-falls, sequence-b, branch-b-falls, branch-b, branch-c-falls, branch-c}
 use Prim.Native.Nat.{ℕ, _<_}
 use borrow.Fn.Kinds.{In}
 use borrow.Fn.PlainCycle.{Measures, is, falls, and}
@@ -41,10 +41,10 @@ judge-part-b-requires : (t : ℕ) → judge-lts.Need-part-b-requires (judge-call
 judge-part-b-requires t c κs = search (judge-laws, needs)
 
 judge-judge-requires : (t : ℕ) → judge-lts.Need-judge-requires (judge-calls t) (judge-at t) judge.Post
-judge-judge-requires t c κs = search (judge-laws, needs)
+judge-judge-requires t c κs = (search sequence-a-falls, search sequence-a)
 
 judge-judge-requires-2 : (t : ℕ) → judge-lts.Need-judge-requires-2 (judge-calls t) (judge-at t) judge.Post
-judge-judge-requires-2 t c κs = search (judge-laws, needs)
+judge-judge-requires-2 t c κs = (search sequence-b-falls, search sequence-b)
 
 judge-sequenced-requires : (t : ℕ) → judge-lts.Need-sequenced-requires (judge-calls t) (judge-at t) judge.Post
 judge-sequenced-requires t c κs = search (judge-laws, needs)
