@@ -1,0 +1,36 @@
+#include "box.h"
+
+#include "table.h"
+
+caisson_answer box_start(struct box *box, const uint8_t *image, size_t image_length)
+{
+    box->image = image;
+    box->image_length = image_length;
+    box->registers_length = CAISSON_WORD * table_registers(image);
+    box->targets_length = table_states(image);
+    return box_reset(box);
+}
+
+caisson_answer box_reset(struct box *box)
+{
+    return caisson_reset(box->image, box->image_length, box->registers, box->registers_length, box->targets,
+                         box->targets_length);
+}
+
+caisson_answer box_write_port(struct box *box, uint32_t reg, uint32_t value)
+{
+    return caisson_write_port(box->image, box->image_length, box->registers, box->registers_length, reg, value);
+}
+
+caisson_answer box_run(struct box *box, uint32_t cycles)
+{
+    return caisson_run(box->image, box->image_length, box->registers, box->registers_length, box->targets,
+                       box->targets_length, cycles);
+}
+
+uint32_t box_value(const struct box *box, size_t reg)
+{
+    const uint8_t *word = box->registers + CAISSON_WORD * reg;
+
+    return (uint32_t)word[0] | (uint32_t)word[1] << 8 | (uint32_t)word[2] << 16 | (uint32_t)word[3] << 24;
+}

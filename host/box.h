@@ -1,0 +1,38 @@
+/*
+ * box.h: a design with the two areas that are its state.
+ *
+ * The areas are changed by the functions below and by nothing else. That is more than tidiness: the
+ * promise that parties are kept apart is about areas that only reset, port write and run have
+ * changed.
+ */
+#ifndef BOX_H
+#define BOX_H
+
+#include "caisson.h"
+
+struct box {
+    const uint8_t *image; /* accepted by caisson_check; must outlive the box */
+    size_t image_length;
+    size_t registers_length;
+    size_t targets_length;
+    uint8_t registers[CAISSON_REGISTERS * CAISSON_WORD];
+    uint8_t targets[CAISSON_STATES];
+};
+
+/* Takes an image that caisson_check has accepted, and resets the areas. */
+CAISSON_LOOK_AT_ANSWER
+caisson_answer box_start(struct box *box, const uint8_t *image, size_t image_length);
+
+CAISSON_LOOK_AT_ANSWER
+caisson_answer box_reset(struct box *box);
+
+CAISSON_LOOK_AT_ANSWER
+caisson_answer box_write_port(struct box *box, uint32_t reg, uint32_t value);
+
+CAISSON_LOOK_AT_ANSWER
+caisson_answer box_run(struct box *box, uint32_t cycles);
+
+/* The value of a register, whose number must be below the count. */
+uint32_t box_value(const struct box *box, size_t reg);
+
+#endif

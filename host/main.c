@@ -1,0 +1,87 @@
+/*
+ * outstation: checks a design, takes the readings of the undertakings at a site from a trace, runs
+ * the design's cycles and writes each party's flow record. README.md describes it.
+ */
+#include <stdio.h>
+
+#include "cycles.h"
+#include "design.h"
+#include "record.h"
+#include "refusals.h"
+#include "say.h"
+
+static enum status refused(const char *path, caisson_answer answer)
+{
+    say("%s: ", path);
+    refusal_say(answer);
+    return STATUS_REFUSED;
+}
+
+/* The options with a party for each label where none was given; `each_label` must outlive them. */
+static struct options with_parties(const struct options *options, struct party each_label[CAISSON_LABELS],
+                                   const uint8_t *image)
+{
+    struct options chosen = *options;
+
+    if (chosen.party_count == 0) {
+        chosen.parties = each_label;
+        chosen.party_count = parties_of_labels(each_label, image);
+    }
+    return chosen;
+}
+
+/* Judges everything before the first cycle: the design, the parties' levels, all port writes. */
+static enum status operate(const struct options *options, const struct design *design, const struct trace *trace)
+{
+    struct party each_label[CAISSON_LABELS];
+    struct options chosen;
+    struct box box;
+    enum status status;
+    caisson_answer answer = caisson_check(design->image, design->length);
+
+    if (answer.number != CAISSON_ACCEPTED)
+        return refused(options->design, answer);
+    chosen = with_parties(options, each_label, design->image);
+    status = parties_judge(chosen.parties, chosen.party_count, design->image);
+    if (status != STATUS_DONE)
+        return status;
+    answer = box_start(&box, design->image, design->length);
+    if (answer.number != CAISSON_ACCEPTED)
+        return refused(options->design, answer);
+    status = cycles_rehearse(&box, trace, options->trace);
+    return status == STATUS_DONE ? cycles_run(&box, trace, &chosen) : status;
+}
+
+static enum status help(void)
+{
+    return fputs(options_usage, stdout) == EOF ? STATUS_INPUT : record_flush();
+}
+
+/* Reads both files before anything is done with either. */
+static enum status outstation(const struct options *options)
+{
+    struct design design;
+    struct trace trace;
+    enum status status;
+
+    if (options->help)
+        return help();
+    status = trace_read(&trace, options->trace);
+    if (status == STATUS_DONE)
+        status = design_load(&design, options->design);
+    if (status == STATUS_DONE)
+        status = operate(options, &design, &trace);
+    trace_free(&trace);
+    return status;
+}
+
+int main(int argc, char **argv)
+{
+    struct options options;
+    enum status status = options_read(&options, argc, argv);
+
+    if (status == STATUS_DONE)
+        status = outstation(&options);
+    options_free(&options);
+    return (int)status;
+}

@@ -1,0 +1,102 @@
+#include "options.h"
+
+#include <stdlib.h>
+#include <string.h>
+
+#include "numbers.h"
+#include "say.h"
+
+const char options_usage[] =
+    "usage: outstation DESIGN TRACE [--fast] [--cycles N] [--every K] [--party NAME:LEVEL]...\n"
+    "  --fast              run as fast as possible, not 100 cycles a second\n"
+    "  --cycles N          stop after N cycles, not after the last cycle that the trace names\n"
+    "  --every K           a sample after each K cycles, not after each cycle\n"
+    "  --party NAME:LEVEL  a flow record at this label, not one for each label; may be repeated\n";
+
+static enum status wrong(const char *what, const char *argument)
+{
+    say("outstation: %s%s\n%s", what, argument, options_usage);
+    return STATUS_INPUT;
+}
+
+/* An option with a value. */
+static enum status valued_read(struct options *options, const char *name, const char *value)
+{
+    if (strcmp(name, "--cycles") == 0) {
+        options->limited = true;
+        if (!number_read_all(value, UINT64_MAX, &options->cycles))
+            return wrong("--cycles takes a number of cycles, not ", value);
+    } else if (strcmp(name, "--every") == 0) {
+        if (!number_read_all(value, UINT64_MAX, &options->every) || options->every == 0)
+            return wrong("--every takes a number of cycles from 1 on, not ", value);
+    } else {
+        if (!party_read(&options->parties[options->party_count], value))
+            return wrong("--party takes NAME:LEVEL, a name of letters, digits, - _ . and a label, not ", value);
+        options->party_count++;
+    }
+    return STATUS_DONE;
+}
+
+static enum status path_read(struct options *options, const char *path)
+{
+    if (options->design == NULL)
+        options->design = path;
+    else if (options->trace == NULL)
+        options->trace = path;
+    else
+        return wrong("a third file: ", path);
+    return STATUS_DONE;
+}
+
+static bool takes_value(const char *name)
+{
+    return strcmp(name, "--cycles") == 0 || strcmp(name, "--every") == 0 || strcmp(name, "--party") == 0;
+}
+
+/* Reads the argument at `at`, with its value, and answers where the next one stands in `next`. */
+static enum status argument_read(struct options *options, int argc, char **argv, int at, int *next)
+{
+    const char *argument = argv[at];
+
+    *next = at + 1;
+    if (argument[0] != '-')
+        return path_read(options, argument);
+    if (strcmp(argument, "--fast") == 0) {
+        options->fast = true;
+        return STATUS_DONE;
+    }
+    if (strcmp(argument, "--help") == 0) {
+        options->help = true;
+        return STATUS_DONE;
+    }
+    if (!takes_value(argument))
+        return wrong("unknown option ", argument);
+    if (*next >= argc)
+        return wrong("no value after ", argument);
+    *next = at + 2;
+    return valued_read(options, argument, argv[at + 1]);
+}
+
+enum status options_read(struct options *options, int argc, char **argv)
+{
+    *options = (struct options){.every = 1};
+    /* No more parties than arguments, and at least one, since room for none may be NULL. */
+    options->parties = calloc((size_t)argc + 1, sizeof *options->parties);
+    if (options->parties == NULL)
+        return wrong("no memory for the options", "");
+    for (int at = 1; at < argc;) {
+        enum status status = argument_read(options, argc, argv, at, &at);
+
+        if (status != STATUS_DONE)
+            return status;
+    }
+    if (options->trace == NULL && !options->help)
+        return wrong("a design and a trace are needed", "");
+    return STATUS_DONE;
+}
+
+void options_free(struct options *options)
+{
+    free(options->parties);
+    *options = (struct options){0};
+}

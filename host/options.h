@@ -1,0 +1,31 @@
+/* options.h: the arguments of the program. README.md describes them. */
+#ifndef OPTIONS_H
+#define OPTIONS_H
+
+#include <stdbool.h>
+
+#include "parties.h"
+#include "status.h"
+
+struct options {
+    const char *design; /* path of the design */
+    const char *trace;  /* path of the trace */
+    bool help;          /* only say how the program is used */
+    bool fast;          /* do not wait between cycles */
+    bool limited;       /* `cycles` was given */
+    uint64_t cycles;    /* how many to run */
+    uint64_t every;     /* a sample after each so many cycles; at least 1 */
+    struct party *parties;
+    size_t party_count; /* 0: one party for each label */
+};
+
+/* STATUS_INPUT, with a message, on wrong usage. In either case options_free is to be called. */
+CAISSON_LOOK_AT_ANSWER
+enum status options_read(struct options *options, int argc, char **argv);
+
+void options_free(struct options *options);
+
+/* How the program is used. */
+extern const char options_usage[];
+
+#endif

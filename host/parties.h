@@ -1,0 +1,32 @@
+/* parties.h: who gets a flow record, and at which level. */
+#ifndef PARTIES_H
+#define PARTIES_H
+
+#include <stdbool.h>
+
+#include "caisson.h"
+#include "status.h"
+
+#define PARTY_LONGEST_NAME 63u /* characters */
+
+struct party {
+    const char *name; /* not ended by a NUL */
+    size_t name_length; /* from 1 to PARTY_LONGEST_NAME */
+    uint32_t level; /* a label */
+};
+
+/*
+ * Reads NAME:LEVEL. A name is letters, digits, and the signs - _ . so that it cannot be taken for
+ * another part of a record. The party keeps a pointer into the text. False where it is no party.
+ */
+CAISSON_LOOK_AT_ANSWER
+bool party_read(struct party *party, const char *text);
+
+/* One party for each label of a checked image, named label0 and so on; answers how many. */
+size_t parties_of_labels(struct party parties[CAISSON_LABELS], const uint8_t *image);
+
+/* STATUS_INPUT, with a message, where a party's level is no label of a checked image. */
+CAISSON_LOOK_AT_ANSWER
+enum status parties_judge(const struct party *parties, size_t count, const uint8_t *image);
+
+#endif

@@ -1,0 +1,28 @@
+/*
+ * table.h: what a host has to know of the records in a design table.
+ *
+ * Only for an image that caisson_check has accepted. Nothing is checked here: offsets and labels are
+ * taken as they stand, and the acceptance is the reason why they lie within the image. Register and
+ * label numbers given must be below the counts.
+ */
+#ifndef TABLE_H
+#define TABLE_H
+
+#include <stdbool.h>
+#include <stddef.h>
+#include <stdint.h>
+
+size_t table_labels(const uint8_t *image);    /* how many labels; from 1 to CAISSON_LABELS */
+size_t table_registers(const uint8_t *image); /* how many registers; at most CAISSON_REGISTERS */
+size_t table_states(const uint8_t *image);    /* how many states; from 1 to CAISSON_STATES */
+
+/* Whether label `from` flows to label `to`, that is, lies at or below it. */
+bool table_flows(const uint8_t *image, size_t from, size_t to);
+
+/* Whether a register lies at or below a level: whether a party of that level sees it. */
+bool table_sees(const uint8_t *image, size_t level, size_t reg);
+
+/* Whether a register is a port; caisson_write_port refuses every other one. */
+bool table_is_port(const uint8_t *image, size_t reg);
+
+#endif

@@ -1,0 +1,36 @@
+/*
+ * trace.h: port writes to be made, from a text file. README.md describes the file.
+ *
+ * Whether a register is a port is not judged here: the library does that.
+ */
+#ifndef TRACE_H
+#define TRACE_H
+
+#include "caisson.h"
+#include "status.h"
+
+#define TRACE_LONGEST_LINE 1000u /* bytes, the line feed not counted */
+
+struct reading {
+    uint64_t cycle; /* written before this cycle; from 1 */
+    uint32_t reg;
+    uint32_t value;
+    size_t line;    /* where it stands in the file; from 1 */
+};
+
+struct trace {
+    struct reading *readings; /* no later one has a lower cycle */
+    size_t count;
+    size_t room; /* how many readings fit before more is allocated */
+};
+
+/*
+ * Reads a whole file. STATUS_INPUT, with a message that names file and line, where it cannot be read
+ * or a line is wrong. In either case trace_free is to be called.
+ */
+CAISSON_LOOK_AT_ANSWER
+enum status trace_read(struct trace *trace, const char *path);
+
+void trace_free(struct trace *trace);
+
+#endif
