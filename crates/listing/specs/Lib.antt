@@ -1,0 +1,2 @@
+-- What the contracts of this crate cite: text written to a buffer.
+pub mod Texts
