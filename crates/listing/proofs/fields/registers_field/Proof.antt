@@ -1,0 +1,24 @@
+use Rattle.listing.proofs.TextRules.{put-then}
+use borrow.Author.Needs.{needs}
+use Rattle.listing.proofs.fields.registers_field.Statement.{statement}
+use Rattle.listing.proofs.fields.registers_field.Tie as tie
+use Rattle.listing.proofs.fields.registers_field.Reads as reads
+use Rattle.listing.proofs.fields.registers_field.Lts as lts
+use Rattle.listing.proofs.fields.put_registers.Reads as put-registers-reads
+use Rattle.listing.proofs.texts.put_byte.Reads as put-byte-reads
+
+put-registers-requires : tie.Need-put-registers-requires
+put-registers-requires c κs = search needs
+
+put-byte-requires : tie.Need-put-byte-requires
+put-byte-requires c κs = search needs
+
+same-length : tie.Need-same-length
+same-length c = search needs
+
+returns : tie.Need-returns
+returns c = search (put-then, needs)
+
+pub registers-field-spec : {M : Type 1} → statement M
+registers-field-spec =
+    tie.close (tie.spec put-registers-requires put-byte-requires same-length returns)

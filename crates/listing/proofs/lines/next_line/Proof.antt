@@ -1,0 +1,45 @@
+use Rattle.listing.proofs.LineRules.{running-states, running-registers, walk-within, walk-few, line-listed}
+use borrow.Author.Needs.{needs}
+use Rattle.listing.proofs.lines.next_line.Statement.{statement}
+use Rattle.listing.proofs.lines.next_line.Tie as tie
+use Rattle.listing.proofs.lines.next_line.Reads as reads
+use Rattle.listing.proofs.lines.next_line.Lts as lts
+use Rattle.listing.proofs.lines.line.Reads as line-reads
+use Rattle.machine.proofs.cycle.cycle.Reads as cycle-reads
+
+slice-aggregate-cycle : tie.Need-slice-aggregate-cycle
+slice-aggregate-cycle c = search needs
+
+cycle-requires : tie.Need-cycle-requires
+cycle-requires c κs = (search needs, search (running-states, needs))
+
+slice-aggregate-line : tie.Need-slice-aggregate-line
+slice-aggregate-line c = search needs
+
+line-requires : tie.Need-line-requires
+line-requires c κs = (search needs, search (walk-within, needs), search (walk-few, needs), search needs, search (running-registers, needs))
+
+same-length : tie.Need-same-length
+same-length c = search needs
+
+same-length-2 : tie.Need-same-length-2
+same-length-2 c = search needs
+
+same-length-3 : tie.Need-same-length-3
+same-length-3 c = search needs
+
+returns : tie.Need-returns
+returns c = (search (line-listed, needs), search needs)
+
+pub next-line-spec : {M : Type 1} → statement M
+next-line-spec =
+    tie.close
+    (tie.spec
+    slice-aggregate-cycle
+    cycle-requires
+    slice-aggregate-line
+    line-requires
+    same-length
+    same-length-2
+    same-length-3
+    returns)

@@ -1,0 +1,98 @@
+// The lines, from the front of a lent buffer: each function answers the length of its line.
+use crate::fields::number_field;
+use crate::fields::registers_field;
+use crate::fields::walk_field;
+use crate::texts::put_text;
+use design::Design;
+use machine::cycle::cycle;
+use model::Refusal;
+ghost use Prim.Native.Nat.{_*_, _≤_};
+ghost use mathlib.Core.Path.{_≡_};
+ghost use lib.ListN.{length, take};
+ghost use Rattle.model.specs.Image.{designOf};
+ghost use Rattle.model.specs.Answers.{numberOf};
+ghost use Rattle.model.specs.Values.{wordsOf};
+ghost use Rattle.model.specs.Machine.{cycle as cycleOf};
+ghost use Rattle.model.specs.Listing.{header as headerOf, line as lineOf, refusalLine};
+ghost use Rattle.machine.specs.Cycles.{Running, areasIn};
+ghost use Rattle.listing.specs.Texts.{Put};
+ghost use Rattle.listing.specs.Lines.{shown, Listed};
+
+// The number of a refusal in the table.
+fn number(refusal: Refusal) -> u32
+    ensures { λ r. ⌜ r ≡ numberOf refusal ⌝ }
+{
+    match refusal {
+        Refusal::Directory => 1,
+        Refusal::LabelRow => 2,
+        Refusal::RegisterRecord => 3,
+        Refusal::StateRecord => 4,
+        Refusal::NodeRecord => 5,
+        Refusal::NodeUse => 6,
+        Refusal::Depth => 7,
+        Refusal::Shape => 8,
+        Refusal::ChildLabel => 9,
+        Refusal::AssignFlow => 10,
+        Refusal::GotoFlow => 11,
+        Refusal::FallFlow => 12,
+        Refusal::NoPort => 13,
+        Refusal::Area => 14,
+        Refusal::CycleCount => 15,
+    }
+}
+
+// The line above the cycles.
+pub fn header(out: &mut [u8]) -> usize
+    requires { ⌜ 21 ≤ length (now out) ⌝ }
+    ensures { λ r. ⌜ Put (now (out .entry)) 0 headerOf (now (out .exit)) r ⌝ }
+{
+    put_text(out, 0, b"cycle;walk;registers\n")
+}
+
+// The line of a refusal.
+pub fn refusal_line(out: &mut [u8], refusal: Refusal, place: u32) -> usize
+    requires { ⌜ 30 ≤ length (now out) ⌝ }
+    ensures { λ r. ⌜ Put (now (out .entry)) 0 (refusalLine refusal place) (now (out .exit)) r ⌝ }
+{
+    let n = number(refusal);
+    let name = put_text(out, 0, b"refused;");
+    let first = number_field(out, name, n, b';');
+    number_field(out, first, place, b'\n')
+}
+
+// The line of a cycle with a walk, of which so many bytes of its table are used, and with so many
+// registers after it.
+fn line(
+    out: &mut [u8],
+    number: u32,
+    walk: &[u8],
+    states: usize,
+    registers: &[u8],
+    count: usize,
+) -> usize
+    requires { ⌜ (1421 ≤ length (now out)) × (states ≤ length (now walk)) × (states ≤ 64) × (length (now registers) ≡ 4 * count) × (count ≤ 64) ⌝ }
+    ensures { λ r. ⌜ Put (now (out .entry)) 0 (lineOf number (shown (take states (now (walk .entry))) (wordsOf count (now (registers .entry))))) (now (out .exit)) r ⌝ }
+{
+    let first = number_field(out, 0, number, b';');
+    let second = walk_field(out, first, walk, states);
+    registers_field(out, second, registers, count)
+}
+
+// Runs a cycle and puts its line.
+pub fn next_line(
+    image: &[u8],
+    design: Design,
+    defaults: &[u8],
+    registers: &mut [u8],
+    targets: &mut [u8],
+    number: u32,
+    out: &mut [u8],
+) -> usize
+    requires { ⌜ Running (now image) design (now defaults) (now registers) (now targets) × (1421 ≤ length (now out)) ⌝ }
+    ensures { λ r. ⌜ Listed (cycleOf (designOf (now (image .entry))) (areasIn (designOf (now (image .entry))) (now (registers .entry)) (now (targets .entry)))) (areasIn (designOf (now (image .entry))) (now (registers .exit)) (now (targets .exit))) number (now (out .entry)) (now (out .exit)) r ⌝ }
+    ensures { λ r. ⌜ Running (now (image .entry)) design (now (defaults .entry)) (now (registers .exit)) (now (targets .exit)) ⌝ }
+{
+    let mut walk = [0u8; Design::STATES];
+    let states = cycle(image, design, defaults, registers, targets, &mut walk);
+    line(out, number, &walk, states, registers, design.registers)
+}
