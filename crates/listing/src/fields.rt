@@ -86,6 +86,7 @@ pub fn walk_field(out: &mut [u8], at: usize, walk: &[u8], count: usize) -> usize
 pub fn registers_field(out: &mut [u8], at: usize, registers: &[u8], count: usize) -> usize
     requires { ⌜ (length (now registers) ≡ 4 * count) × (at + 11 * count < length (now out)) ⌝ }
     ensures { λ r. ⌜ Put (now (out .entry)) at (spaced (wordsOf count (now (registers .entry))) ++ 10 ∷ []) (now (out .exit)) r ⌝ }
+    ensures { λ r. ⌜ r ≤ at + 11 * count + 1 ⌝ }
 {
     let p = put_registers(out, at, registers, count);
     put_byte(out, p, b'\n')

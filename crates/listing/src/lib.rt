@@ -2,4 +2,5 @@
 pub mod decimal;
 pub mod fields;
 pub mod lines;
+pub mod starts;
 pub mod texts;

@@ -45,6 +45,7 @@ fn number(refusal: Refusal) -> u32
 pub fn header(out: &mut [u8]) -> usize
     requires { ⌜ 21 ≤ length (now out) ⌝ }
     ensures { λ r. ⌜ Put (now (out .entry)) 0 headerOf (now (out .exit)) r ⌝ }
+    ensures { λ r. ⌜ r ≤ 21 ⌝ }
 {
     put_text(out, 0, b"cycle;walk;registers\n")
 }
@@ -53,6 +54,7 @@ pub fn header(out: &mut [u8]) -> usize
 pub fn refusal_line(out: &mut [u8], refusal: Refusal, place: u32) -> usize
     requires { ⌜ 30 ≤ length (now out) ⌝ }
     ensures { λ r. ⌜ Put (now (out .entry)) 0 (refusalLine refusal place) (now (out .exit)) r ⌝ }
+    ensures { λ r. ⌜ r ≤ 30 ⌝ }
 {
     let n = number(refusal);
     let name = put_text(out, 0, b"refused;");
@@ -72,6 +74,7 @@ fn line(
 ) -> usize
     requires { ⌜ (1421 ≤ length (now out)) × (states ≤ length (now walk)) × (states ≤ 64) × (length (now registers) ≡ 4 * count) × (count ≤ 64) ⌝ }
     ensures { λ r. ⌜ Put (now (out .entry)) 0 (lineOf number (shown (take states (now (walk .entry))) (wordsOf count (now (registers .entry))))) (now (out .exit)) r ⌝ }
+    ensures { λ r. ⌜ r ≤ 1421 ⌝ }
 {
     let first = number_field(out, 0, number, b';');
     let second = walk_field(out, first, walk, states);
@@ -91,6 +94,7 @@ pub fn next_line(
     requires { ⌜ Running (now image) design (now defaults) (now registers) (now targets) × (1421 ≤ length (now out)) ⌝ }
     ensures { λ r. ⌜ Listed (cycleOf (designOf (now (image .entry))) (areasIn (designOf (now (image .entry))) (now (registers .entry)) (now (targets .entry)))) (areasIn (designOf (now (image .entry))) (now (registers .exit)) (now (targets .exit))) number (now (out .entry)) (now (out .exit)) r ⌝ }
     ensures { λ r. ⌜ Running (now (image .entry)) design (now (defaults .entry)) (now (registers .exit)) (now (targets .exit)) ⌝ }
+    ensures { λ r. ⌜ r ≤ 1421 ⌝ }
 {
     let mut walk = [0u8; Design::STATES];
     let states = cycle(image, design, defaults, registers, targets, &mut walk);

@@ -17,7 +17,7 @@ same-length : tie.Need-same-length
 same-length c = search needs
 
 returns : tie.Need-returns
-returns c = search (put-then, needs)
+returns c = (search (put-then, needs), search needs)
 
 pub registers-field-spec : {M : Type 1} → statement M
 registers-field-spec =

@@ -17,7 +17,7 @@ same-length c = search needs
 
 returns : tie.Need-returns
 unfolding header bytesOfText
-returns c = search needs
+returns c = (search needs, search needs)
 
 pub header-spec : {M : Type 1} → statement M
 header-spec = tie.close (tie.spec slice-aggregate-put-text put-text-requires same-length returns)

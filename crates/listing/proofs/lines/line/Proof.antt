@@ -21,7 +21,7 @@ same-length : tie.Need-same-length
 same-length c = search needs
 
 returns : tie.Need-returns
-returns c = search (line-put, needs)
+returns c = (search (line-put, needs), search needs)
 
 pub line-spec : {M : Type 1} → statement M
 line-spec =

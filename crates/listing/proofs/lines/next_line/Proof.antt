@@ -29,7 +29,7 @@ same-length-3 : tie.Need-same-length-3
 same-length-3 c = search needs
 
 returns : tie.Need-returns
-returns c = (search (line-listed, needs), search needs)
+returns c = (search (line-listed, needs), (search needs, search needs))
 
 pub next-line-spec : {M : Type 1} → statement M
 next-line-spec =

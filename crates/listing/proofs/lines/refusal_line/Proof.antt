@@ -27,7 +27,7 @@ same-length : tie.Need-same-length
 same-length c = search needs
 
 returns : tie.Need-returns
-returns c = search (refusal-put, needs)
+returns c = (search (refusal-put, needs), search needs)
 
 pub refusal-line-spec : {M : Type 1} → statement M
 refusal-line-spec =

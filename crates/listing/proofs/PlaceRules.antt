@@ -1,0 +1,265 @@
+-- The place of a refusal is small: a label, a register, a state or a node of an image that keeps its directory, and a tree has no node above its own number.
+use Prim.Native.Nat.{ℕ, zero, suc, min, _+_, _≤_, _<_}
+use mathlib.Core.Path.{_≡_, refl, sym, _∙_, ap}
+use mathlib.Core.Bool.{Bool, true, false, not, cond, Bool·beq}
+use mathlib.Core.List.{List, [], _∷_, _++_}
+use native.Mathlib.Omega.{arith}
+use lib.Dec.{ltb}
+use lib.ListN.{length}
+use borrow.Author.Tests.{ltb-true}
+use Rattle.model.specs.declared.Found.{Found}
+use Rattle.model.specs.declared.Found.the-variants.{At, Nowhere}
+use Rattle.model.specs.declared.Refusal.{Refusal}
+use Rattle.model.specs.declared.Refusal.the-variants.{Directory, LabelRow, RegisterRecord, StateRecord, NodeRecord, NodeUse, Depth, Shape, ChildLabel, AssignFlow, GotoFlow, FallFlow}
+use Rattle.model.specs.declared.Answer.{Answer}
+use Rattle.model.specs.declared.Answer.the-variants.{Accepted, Refused}
+use Rattle.model.specs.Limits.{expressionPlace}
+use Rattle.model.specs.Indices.{lower, lowestOf, lowestFailing, joinBelow, upTo, recursively}
+use Rattle.model.specs.Image.{Design as Table, Node, Labels, Registers, States, Commands, Expressions, designOf, directoryKept, stateAt, commandAt}
+use Rattle.model.specs.Kinds.{CommandKind, skips, assigns, sequences, falls, goes, branches, unknownCommand, commandKind}
+use Rattle.model.specs.Trees.{Expr, Cmd, skip, assign, sequence, fall, goto, branch, cmdOfKind, cmdStep, cmdOf, bodyOf, exprOf}
+use Rattle.model.specs.Shape.{chargedUnless, transfers, shapeFaults, stateShapeFaults, shapeFault}
+use Rattle.model.specs.Flow.{refusedUnless, flowFaults, stateFlowFaults, nearer, nearest, flowAnswer, labelsRead}
+use Rattle.model.specs.Lattice.{allFlowTo, registerLabel, stateLabel}
+use Rattle.model.specs.States.{stateKept, hasChild, siblingOrSelf}
+use Rattle.model.specs.Rules.{DirectoryKeeps}
+use Rattle.model.specs.Verdict.{_before_, refusedAt, atZeroUnless, commandsFirst, lowestNode, designVerdict, verdict}
+use Rattle.model.proofs.Laws.Indices.{extend, failing-none, lowest-failing-below}
+use Rattle.model.proofs.Laws.Images.{label-count, register-count, state-count, command-count, expression-count}
+use Rattle.model.proofs.Exact.Directories.{directory-iff}
+use Rattle.model.proofs.Exact.Records.{state-iff}
+
+-- ---- what holds of each entry of a list
+data Each {A : Type 0} (P : A → Type 0) : List A → Type 0 where
+  none : Each P []
+  one-more : {x : A} {more : List A} → P x → Each P more → Each P (x ∷ more)
+
+module _ {A : Type 0} {P : A → Type 0} where
+  each-append : {xs ys : List A} → Each P xs → Each P ys → Each P (xs ++ ys)
+  each-append none q = q
+  each-append (one-more x p) q = one-more x (each-append p q)
+
+  each-join : (f : ℕ → List A) (n : ℕ) → ((k : ℕ) → k < n → Each P (f k)) → Each P (joinBelow f n)
+  unfolding joinBelow
+  each-join f zero h = none
+  each-join f (suc n) h = each-append (each-join f n (λ k l. h k (omega arith))) (h n (omega arith))
+
+-- ---- places below b
+abbrev FoundBelow : ℕ → Found → Type 0
+FoundBelow b f = (p : ℕ) → f ≡ At p → p < b
+
+abbrev PlacedBelow : ℕ → Answer → Type 0
+PlacedBelow b a = (r : Refusal) (p : ℕ) → a ≡ Refused r p → p < b
+
+found-at : (b n : ℕ) → n < b → FoundBelow b (At n)
+found-at b n l p e = let same : n ≡ p = cc in omega arith
+
+found-nowhere : (b : ℕ) → FoundBelow b Nowhere
+found-nowhere b p e = let z : _≡_ {A = ℕ} 0 1 = cc in absurd (omega arith)
+
+placed-refused : (b : ℕ) (r : Refusal) (n : ℕ) → n < b → PlacedBelow b (Refused r n)
+placed-refused b r n l s p e = let same : n ≡ p = cc in omega arith
+
+placed-accepted : (b n : ℕ) → PlacedBelow b (Accepted n)
+placed-accepted b n s p e = let z : _≡_ {A = ℕ} 0 1 = cc in absurd (omega arith)
+
+-- a stage, and what comes after it where the stage refuses nothing
+placed-before : (b : ℕ) (r : Refusal) (f : Found) (later : Answer) → FoundBelow b f → (f ≡ Nowhere → PlacedBelow b later) → PlacedBelow b (refusedAt r f before later)
+unfolding refusedAt _before_
+placed-before b r (At n) later h k = placed-refused b r n (h n refl)
+placed-before b r Nowhere later h k = k refl
+
+-- the lowest of charged nodes, and the nearest of refusals
+lower-below : (b i : ℕ) (f : Found) → i < b → FoundBelow b (lower (At i) f)
+lower-below b i Nowhere l = found-at b i l
+lower-below b i (At j) l = found-at b (min i j) (omega arith)
+
+lowest-below : (b : ℕ) {xs : List ℕ} → Each (λ x. x < b) xs → FoundBelow b (lowestOf xs)
+unfolding lowestOf
+lowest-below b none = found-nowhere b
+lowest-below b (one-more {x} {more} l h) = lower-below b x (lowestOf more) l
+
+nearer-below : (b : ℕ) (a other : Answer) → PlacedBelow b a → PlacedBelow b other → PlacedBelow b (nearer a other)
+unfolding nearer
+nearer-below b (Accepted n) other h k = k
+nearer-below b (Refused r i) (Accepted n) h k = h
+nearer-below b (Refused r i) (Refused s j) h k = go (ltb j i)
+  where
+    go : (w : Bool) → PlacedBelow b (cond w (Refused s j) (Refused r i))
+    go true = k
+    go false = h
+
+nearest-below : (b : ℕ) {xs : List Answer} → Each (PlacedBelow b) xs → PlacedBelow b (nearest xs)
+unfolding nearest
+nearest-below b none = placed-accepted b 0
+nearest-below b (one-more {x} {more} l h) = nearer-below b x (nearest more) l (nearest-below b h)
+
+-- ---- the nodes of a tree
+abbrev Numbered : ℕ → Cmd → Type 0
+Numbered b (skip n) = n < b
+Numbered b (assign n r e) = n < b
+Numbered b (sequence n p q) = (n < b) × Numbered b p × Numbered b q
+Numbered b (fall n) = n < b
+Numbered b (goto n t) = n < b
+Numbered b (branch n e p q) = (n < b) × Numbered b p × Numbered b q
+
+kind-numbered : (b : ℕ) (kind : CommandKind) (n : ℕ) (x : Node) (e : Expr) (p q r : Cmd) → n < b → Numbered b p → Numbered b q → Numbered b r → Numbered b (cmdOfKind kind n x e p q r)
+unfolding cmdOfKind
+kind-numbered b skips n x e p q r l h k m = l
+kind-numbered b assigns n x e p q r l h k m = l
+kind-numbered b sequences n x e p q r l h k m = (l, h, k)
+kind-numbered b falls n x e p q r l h k m = l
+kind-numbered b goes n x e p q r l h k m = l
+kind-numbered b branches n x e p q r l h k m = (l, k, m)
+kind-numbered b unknownCommand n x e p q r l h k m = l
+
+module _ (d : Table) (b : ℕ) where
+  part-numbered : (n m : ℕ) (part : Cmd) (w : Bool) → ltb m n ≡ w → n < b → (m < b → Numbered b part) → Numbered b (elim w [ true ↦ part | false ↦ skip 0 ])
+  part-numbered n m part true e l h = let below = ltb-true m n e in h (omega arith)
+  part-numbered n m part false e l h = omega arith
+
+  up-to-numbered : (f n : ℕ) → n < b → Numbered b (upTo (skip 0) (cmdStep d) f n)
+  unfolding upTo cmdStep
+  up-to-numbered zero n l = omega arith
+  up-to-numbered (suc f) n l =
+      let x = commandAt d n in
+      kind-numbered
+      b
+      (commandKind (x .kind))
+      n
+      x
+      (exprOf d (x .a))
+      _
+      _
+      _
+      l
+      (part-numbered n (x .a) (upTo (skip 0) (cmdStep d) f (x .a)) (ltb (x .a) n) refl l (up-to-numbered f (x .a)))
+      (part-numbered n (x .b) (upTo (skip 0) (cmdStep d) f (x .b)) (ltb (x .b) n) refl l (up-to-numbered f (x .b)))
+      (part-numbered n (x .c) (upTo (skip 0) (cmdStep d) f (x .c)) (ltb (x .c) n) refl l (up-to-numbered f (x .c)))
+
+  cmd-numbered : (n : ℕ) → n < b → Numbered b (cmdOf d n)
+  unfolding cmdOf recursively
+  cmd-numbered n l = up-to-numbered (suc n) n l
+
+  -- ---- the faults of a tree
+  charged-below : (w : Bool) (n : ℕ) → n < b → Each (λ x. x < b) (chargedUnless w n)
+  charged-below true n l = none
+  charged-below false n l = one-more l none
+
+  shape-below : (s : ℕ) (c : Cmd) → Numbered b c → Each (λ x. x < b) (shapeFaults d s c)
+  unfolding shapeFaults
+  shape-below s (skip n) h = none
+  shape-below s (assign n r e) h = none
+  shape-below s (sequence n p q) h = each-append (charged-below (not (transfers p)) n (h .0)) (each-append (shape-below s p (h .1)) (shape-below s q (h .2)))
+  shape-below s (fall n) h = charged-below (hasChild d s) n h
+  shape-below s (goto n t) h = charged-below (siblingOrSelf d s t) n h
+  shape-below s (branch n e p q) h = each-append (charged-below (Bool·beq (transfers p) (transfers q)) n (h .0)) (each-append (shape-below s p (h .1)) (shape-below s q (h .2)))
+
+  unless-below : (w : Bool) (r : Refusal) (n : ℕ) → n < b → Each (PlacedBelow b) (refusedUnless w r n)
+  unless-below true r n l = none
+  unless-below false r n l = one-more (placed-refused b r n l) none
+
+  flow-below : (s : ℕ) (context : List ℕ) (c : Cmd) → Numbered b c → Each (PlacedBelow b) (flowFaults d s context c)
+  unfolding flowFaults
+  flow-below s context (skip n) h = none
+  flow-below s context (assign n r e) h = unless-below (allFlowTo (d .rows) (context ++ labelsRead d e) (registerLabel d r)) AssignFlow n h
+  flow-below s context (sequence n p q) h = each-append (flow-below s context p (h .1)) (flow-below s context q (h .2))
+  flow-below s context (fall n) h = unless-below (allFlowTo (d .rows) context (stateLabel d s)) FallFlow n h
+  flow-below s context (goto n t) h = unless-below (allFlowTo (d .rows) context (stateLabel d t)) GotoFlow n h
+  flow-below s context (branch n e p q) h = each-append (flow-below s (context ++ labelsRead d e) p (h .1)) (flow-below s (context ++ labelsRead d e) q (h .2))
+
+  module _ (commands : (s : ℕ) → s < length (d .states) → stateAt d s .command < b) where
+    shape-fault-below : FoundBelow b (shapeFault d)
+    unfolding shapeFault stateShapeFaults bodyOf
+    shape-fault-below =
+        lowest-below
+        b
+        (each-join
+        (stateShapeFaults d)
+        (length (d .states))
+        (λ s l. each-append (charged-below (transfers (bodyOf d s)) (stateAt d s .command) (commands s l)) (shape-below s (bodyOf d s) (cmd-numbered (stateAt d s .command) (commands s l)))))
+
+    flow-answer-below : PlacedBelow b (flowAnswer d)
+    unfolding flowAnswer stateFlowFaults bodyOf
+    flow-answer-below =
+        nearest-below
+        b
+        (each-join
+        (stateFlowFaults d)
+        (length (d .states))
+        (λ s l. flow-below s (stateLabel d s ∷ []) (bodyOf d s) (cmd-numbered (stateAt d s .command) (commands s l))))
+
+-- ---- the stages
+failing-below : (rule : ℕ → Bool) (n b : ℕ) → n ≤ b → FoundBelow b (lowestFailing rule n)
+failing-below rule n b l p e = let below = lowest-failing-below rule n p e in omega arith
+
+first-below : (f g : Found) → FoundBelow 1024 f → FoundBelow 2048 g → FoundBelow 3072 (commandsFirst f g)
+first-below (At n) g h k = let below = h n refl in found-at 3072 n (omega arith)
+first-below Nowhere (At n) h k = let below = k n refl in found-at 3072 (expressionPlace + n) (omega arith)
+first-below Nowhere Nowhere h k = found-nowhere 3072
+
+module _ (d : Table) (rows : length (d .rows) ≤ 3072) (registers : length (d .registers) ≤ 3072) (states : length (d .states) ≤ 3072) (commands : length (d .commands) ≤ 1024) (expressions : length (d .expressions) ≤ 2048) where
+  node-below : (command expression : ℕ → Bool) → FoundBelow 3072 (lowestNode d command expression)
+  unfolding lowestNode
+  node-below command expression =
+      first-below
+      (lowestFailing command (length (d .commands)))
+      (lowestFailing expression (length (d .expressions)))
+      (failing-below command (length (d .commands)) 1024 commands)
+      (failing-below expression (length (d .expressions)) 2048 expressions)
+
+  command-below : lowestFailing (stateKept d) (length (d .states)) ≡ Nowhere → (s : ℕ) → s < length (d .states) → stateAt d s .command < 3072
+  command-below e s l =
+      let below = state-iff d s .0 (failing-none (stateKept d) (length (d .states)) e s l) .command in
+      omega arith
+
+  design-below : PlacedBelow 3072 (designVerdict d)
+  unfolding designVerdict
+  design-below =
+      placed-before 3072 LabelRow _ _ (failing-below _ (length (d .rows)) 3072 rows)
+      (λ e1. placed-before 3072 RegisterRecord _ _ (failing-below _ (length (d .registers)) 3072 registers)
+      (λ e2. placed-before 3072 StateRecord _ _ (failing-below _ (length (d .states)) 3072 states)
+      (λ e3. placed-before 3072 NodeRecord _ _ (node-below _ _)
+      (λ e4. placed-before 3072 NodeUse _ _ (node-below _ _)
+      (λ e5. placed-before 3072 Depth _ _ (node-below _ _)
+      (λ e6. placed-before 3072 Shape _ _ (shape-fault-below d 3072 (command-below e3))
+      (λ e7. placed-before 3072 ChildLabel _ _ (failing-below _ (length (d .states)) 3072 states)
+      (λ e8. flow-answer-below d 3072 (command-below e3)))))))))
+
+zero-below : (w : Bool) → FoundBelow 3072 (atZeroUnless w)
+zero-below true = found-nowhere 3072
+zero-below false = found-at 3072 0 (omega arith)
+
+kept-when : (w : Bool) → atZeroUnless w ≡ Nowhere → w ≡ true
+kept-when true e = refl
+kept-when false e = absurd (found-nowhere-at e)
+  where
+    found-nowhere-at : At 0 ≡ Nowhere → ⊥
+    found-nowhere-at e = let z : _≡_ {A = ℕ} 0 1 = cc in omega arith
+
+verdict-below : (image : List ℕ) → PlacedBelow 3072 (verdict image)
+unfolding verdict
+verdict-below image =
+    placed-before
+    3072
+    Directory
+    (atZeroUnless (directoryKept image))
+    (designVerdict (designOf image))
+    (zero-below (directoryKept image))
+    (λ e.
+    let keeps = directory-iff image .0 (kept-when (directoryKept image) e) in
+    let l = label-count image in
+    let r = register-count image in
+    let s = state-count image in
+    let c = command-count image in
+    let x = expression-count image in
+    design-below
+    (designOf image)
+    (omega (arith, keeps .sections Labels))
+    (omega (arith, keeps .sections Registers))
+    (omega (arith, keeps .sections States))
+    (omega (arith, keeps .sections Commands))
+    (omega (arith, keeps .sections Expressions)))
+
+pub place-small : (image : List ℕ) {a : Answer} {r : Refusal} {p : ℕ} → a ≡ verdict image → a ≡ Refused r p → p < 3072
+place-small image {r = r} {p = p} e h = verdict-below image r p (sym e ∙ h)

@@ -1,0 +1,84 @@
+-- After a reset the areas hold the reset values, which are 32 bits each, and the default targets, which are states.
+use Prim.Native.Nat.{ℕ, _*_, _≤_, _<_}
+use mathlib.Core.Path.{_≡_, refl, sym, _∙_, ap}
+use mathlib.Core.List.{List}
+use native.Mathlib.Omega.{arith}
+use lib.ListN.{length, getD, length-map}
+use mir.Syntax.{w8}
+use mir.Val.{Fits}
+use Rattle.model.specs.Indices.{tabulate}
+use Rattle.model.specs.Image.{Design as Table, Register, AreBytes, designOf}
+use Rattle.model.specs.States.{defaultTarget}
+use Rattle.model.specs.Rules.{Keeps}
+use Rattle.model.specs.Values.{wordsOf, bytesOf}
+use Rattle.model.specs.Machine.{Areas, resetAreas}
+use Rattle.model.specs.Calls.{Lent, lentOf}
+use Rattle.model.proofs.Laws.Indices.{length-tabulate, getD-tabulate}
+use Rattle.model.proofs.Laws.Words.{length-bytesOf, words-of-bytes-bounded}
+use Rattle.model.proofs.Independence.Bounded.{reset-bounded}
+use Rattle.model.proofs.Exact.Records.{state-iff}
+use Rattle.design.specs.declared.Design.{Design}
+use Rattle.design.specs.Describes.{Describes}
+use Rattle.design.specs.Kept.{StatesKept}
+use Rattle.design.specs.Resets.{Defaults, withDefaults, lends}
+use Rattle.design.proofs.Laws.{registers-count, states-count}
+use Rattle.design.proofs.ResetRules.{default-inside, defaults-of}
+use Rattle.machine.specs.Cycles.{Running, areasIn}
+use Rattle.rules.proofs.Accepted.{accepted-known}
+
+pub start-kept : {image : List ℕ} → Keeps image → StatesKept (designOf image)
+start-kept {image} keeps = record { kept = λ s l. state-iff (designOf image) s .1 (keeps .design .states s l) }
+
+reset-registers-count : (d : Table) → length (resetAreas d .registers) ≡ length (d .registers)
+unfolding resetAreas
+reset-registers-count d = length-map (d .registers) (λ (r : Register). r .reset)
+
+reset-target : (d : Table) (s : ℕ) → s < length (d .states) → getD (resetAreas d .targets) s 0 ≡ defaultTarget d s
+unfolding resetAreas
+reset-target d s l = getD-tabulate (defaultTarget d) (length (d .states)) s 0 l
+
+module _ (image : List ℕ) (bytes : (i : ℕ) → Fits w8 (getD image i 0)) (registers targets : List ℕ) (reset : lends registers targets ≡ lentOf (resetAreas (designOf image))) where
+  registers-are : registers ≡ bytesOf (resetAreas (designOf image) .registers)
+  unfolding lentOf
+  registers-are = ap (λ (lent : Lent). lent .registers) reset
+
+  targets-are : targets ≡ resetAreas (designOf image) .targets
+  unfolding lentOf
+  targets-are = ap (λ (lent : Lent). lent .targets) reset
+
+  pub start-areas : areasIn (designOf image) registers targets ≡ resetAreas (designOf image)
+  start-areas =
+      let d = designOf image in
+      let values : wordsOf (length (d .registers)) registers ≡ resetAreas d .registers =
+      ap (wordsOf (length (d .registers))) registers-are
+      ∙ ap (λ (n : ℕ). wordsOf n (bytesOf (resetAreas d .registers))) (sym (reset-registers-count d))
+      ∙ words-of-bytes-bounded (resetAreas d .registers) (reset-bounded image (λ i. bytes i .fits))
+      in
+      rw (values, targets-are)
+
+  area-long : {x : Design} → Describes image x → length registers ≡ 4 * x .registers
+  area-long describes =
+      let d = designOf image in
+      let long = ap length registers-are ∙ length-bytesOf (resetAreas d .registers) in
+      let values = reset-registers-count d in
+      let count = registers-count describes in
+      omega arith
+
+  targets-long : {x : Design} → Describes image x → length targets ≡ x .states
+  unfolding resetAreas
+  targets-long describes =
+      let d = designOf image in
+      ap length targets-are ∙ length-tabulate (defaultTarget d) (length (d .states)) ∙ sym (states-count describes)
+
+  pub start-running : {x : Design} {table : List ℕ} (old : List ℕ) → Keeps image → Describes image x → table ≡ withDefaults (designOf image) old → x .states ≤ length old → Running image x table registers targets
+  start-running {x} old keeps describes e room =
+      let d = designOf image in
+      let count = states-count describes in
+      record {
+        known = accepted-known keeps describes;
+        keeps = keeps;
+        defaults = defaults-of old describes room e;
+        area = area-long describes;
+        states = targets-long describes;
+        inside = λ s l. default-inside describes l (ap (λ (t : List ℕ). getD t s 0) targets-are ∙ reset-target d s (omega arith));
+      }

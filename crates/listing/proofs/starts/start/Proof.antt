@@ -1,0 +1,37 @@
+use Rattle.listing.proofs.StartRules.{start-kept, start-areas, start-running}
+use borrow.Author.Needs.{needs}
+use Rattle.listing.proofs.starts.start.Statement.{statement}
+use Rattle.listing.proofs.starts.start.Tie as tie
+use Rattle.listing.proofs.starts.start.Reads as reads
+use Rattle.listing.proofs.starts.start.Lts as lts
+use Rattle.design.proofs.Design.reset.Reads as reset-reads
+use Rattle.design.proofs.reset.default_targets.Reads as default-targets-reads
+
+default-targets-requires : tie.Need-default-targets-requires
+default-targets-requires c κs = (search needs, search (start-kept, needs), search needs)
+
+reset-requires : tie.Need-reset-requires
+reset-requires c κs = (search needs, search (start-kept, needs), search needs, search needs)
+
+same-length : tie.Need-same-length
+same-length c = search needs
+
+same-length-2 : tie.Need-same-length-2
+same-length-2 c = search needs
+
+same-length-3 : tie.Need-same-length-3
+same-length-3 c = search needs
+
+returns : tie.Need-returns
+returns c = (search (start-areas, needs), search (start-running, needs))
+
+pub start-spec : {M : Type 1} → statement M
+start-spec =
+    tie.close
+    (tie.spec
+    default-targets-requires
+    reset-requires
+    same-length
+    same-length-2
+    same-length-3
+    returns)
