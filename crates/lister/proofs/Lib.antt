@@ -1,0 +1,3 @@
+-- Laws of the program's buffers and of its loop.
+pub mod Buffers
+pub mod ListRules

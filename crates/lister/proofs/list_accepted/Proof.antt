@@ -1,0 +1,51 @@
+use lib.Seq.{length-take-le}
+use Rattle.design.proofs.ResetRules.{states-few}
+use Rattle.lister.proofs.Buffers.{part-length, registers-fit}
+use borrow.Author.Needs.{needs}
+use Rattle.lister.proofs.list_accepted.Statement.{statement}
+use Rattle.lister.proofs.list_accepted.Tie as tie
+use Rattle.lister.proofs.list_accepted.Reads as reads
+use Rattle.lister.proofs.list_accepted.Lts as lts
+use Rattle.design.proofs.Design.read.Reads as read-reads
+use Rattle.lister.proofs.list_on.Reads as list-on-reads
+
+print-header-requires : tie.Need-print-header-requires
+print-header-requires c κs = search needs
+
+read-requires : tie.Need-read-requires
+read-requires c κs = search needs
+
+mul-r : tie.Need-mul-r
+mul-r c = search needs
+
+array-borrow-prefix-registers : tie.Need-array-borrow-prefix-registers
+array-borrow-prefix-registers c = search (registers-fit, needs)
+
+slice-aggregate-list-on : tie.Need-slice-aggregate-list-on
+slice-aggregate-list-on c = part-length _ _ (search (registers-fit, needs))
+
+array-borrow-prefix-targets : tie.Need-array-borrow-prefix-targets
+array-borrow-prefix-targets c = search (states-few, needs)
+
+slice-aggregate-list-on-2 : tie.Need-slice-aggregate-list-on-2
+slice-aggregate-list-on-2 c = part-length _ _ (search (states-few, needs))
+
+list-on-requires : tie.Need-list-on-requires
+list-on-requires c κs = (length-take-le _ _ (search (registers-fit, needs)), length-take-le _ _ (search (states-few, needs)), search needs, search needs)
+
+returns : tie.Need-returns
+returns c = search needs
+
+pub list-accepted-spec : {M : Type 1} → statement M
+list-accepted-spec =
+    tie.close
+    (tie.spec
+    print-header-requires
+    read-requires
+    mul-r
+    array-borrow-prefix-registers
+    slice-aggregate-list-on
+    array-borrow-prefix-targets
+    slice-aggregate-list-on-2
+    list-on-requires
+    returns)

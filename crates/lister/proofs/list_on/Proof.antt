@@ -1,0 +1,43 @@
+use Rattle.design.proofs.ResetRules.{states-few}
+use Rattle.lister.proofs.Buffers.{area-same, targets-same}
+use Rattle.lister.proofs.ListRules.{from-reset}
+use borrow.Author.Needs.{needs}
+use Rattle.lister.proofs.list_on.Statement.{statement}
+use Rattle.lister.proofs.list_on.Tie as tie
+use Rattle.lister.proofs.list_on.Reads as reads
+use Rattle.lister.proofs.list_on.Lts as lts
+use Rattle.lister.proofs.print_cycles.Reads as print-cycles-reads
+use Rattle.listing.proofs.starts.start.Reads as start-reads
+
+slice-aggregate-start : tie.Need-slice-aggregate-start
+slice-aggregate-start c = search needs
+
+start-requires : tie.Need-start-requires
+start-requires c κs = (search needs, search needs, search (states-few, needs), search needs, search needs)
+
+slice-aggregate-print-cycles : tie.Need-slice-aggregate-print-cycles
+slice-aggregate-print-cycles c = search needs
+
+print-cycles-requires : tie.Need-print-cycles-requires
+print-cycles-requires c κs = search needs
+
+same-length : tie.Need-same-length
+same-length c = search area-same
+
+same-length-2 : tie.Need-same-length-2
+same-length-2 c = search targets-same
+
+returns : tie.Need-returns
+returns c = search (from-reset, needs)
+
+pub list-on-spec : {M : Type 1} → statement M
+list-on-spec =
+    tie.close
+    (tie.spec
+    slice-aggregate-start
+    start-requires
+    slice-aggregate-print-cycles
+    print-cycles-requires
+    same-length
+    same-length-2
+    returns)

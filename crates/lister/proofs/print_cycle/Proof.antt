@@ -1,0 +1,42 @@
+use Rattle.lister.proofs.Buffers.{line-fits}
+use Rattle.lister.proofs.ListRules.{listed-after}
+use borrow.Author.Needs.{needs}
+use Rattle.lister.proofs.print_cycle.Statement.{statement}
+use Rattle.lister.proofs.print_cycle.Tie as tie
+use Rattle.lister.proofs.print_cycle.Reads as reads
+use Rattle.lister.proofs.print_cycle.Lts as lts
+use Rattle.lister.proofs.print.Reads as print-reads
+use Rattle.listing.proofs.lines.next_line.Reads as next-line-reads
+
+slice-aggregate-next-line : tie.Need-slice-aggregate-next-line
+slice-aggregate-next-line c = search needs
+
+next-line-requires : tie.Need-next-line-requires
+next-line-requires c κs = search needs
+
+slice-aggregate-print : tie.Need-slice-aggregate-print
+slice-aggregate-print c = search needs
+
+print-requires : tie.Need-print-requires
+print-requires c κs = search (line-fits, needs)
+
+same-length : tie.Need-same-length
+same-length c = search needs
+
+same-length-2 : tie.Need-same-length-2
+same-length-2 c = search needs
+
+returns : tie.Need-returns
+returns c = (search (listed-after, needs), search needs)
+
+pub print-cycle-spec : {M : Type 1} → statement M
+print-cycle-spec =
+    tie.close
+    (tie.spec
+    slice-aggregate-next-line
+    next-line-requires
+    slice-aggregate-print
+    print-requires
+    same-length
+    same-length-2
+    returns)

@@ -1,0 +1,53 @@
+use Prim.Native.Nat.{_-_}
+use Rattle.lister.proofs.ListRules.{ListSo, list-begins, list-falls, list-more, list-done}
+use borrow.Author.Needs.{needs}
+use Rattle.lister.proofs.print_cycles.Statement.{statement}
+use Rattle.lister.proofs.print_cycles.Tie as tie
+use Rattle.lister.proofs.print_cycles.Reads as reads
+use Rattle.lister.proofs.print_cycles.Lts as lts
+use Rattle.lister.proofs.print_cycle.Reads as print-cycle-reads
+
+abbrev Inv-loop : tie.InvT-loop
+Inv-loop image design defaults registers₀ targets₀ count i₀ registers targets i = ListSo image design defaults count registers₀ targets₀ i registers targets
+
+abbrev μ-loop : tie.MeasureT-loop
+μ-loop image design defaults registers₀ targets₀ count i₀ registers targets i = count - i
+
+loop-holds : tie.Need-loop-holds Inv-loop μ-loop
+loop-holds c = search (list-begins, needs)
+
+add-i : tie.Need-add-i Inv-loop μ-loop
+add-i c = search needs
+
+print-cycle-requires : tie.Need-print-cycle-requires Inv-loop μ-loop
+print-cycle-requires c κs = search needs
+
+loop-less : tie.Need-loop-less Inv-loop μ-loop
+loop-less c = search (list-falls, needs)
+
+loop-again : tie.Need-loop-again Inv-loop μ-loop
+loop-again c = search (list-more, needs)
+
+same-length : tie.Need-same-length Inv-loop μ-loop
+same-length c = search needs
+
+same-length-2 : tie.Need-same-length-2 Inv-loop μ-loop
+same-length-2 c = search needs
+
+returns : tie.Need-returns Inv-loop μ-loop
+returns c = (search (list-done, needs), search needs)
+
+pub print-cycles-spec : {M : Type 1} → statement M
+print-cycles-spec =
+    tie.close
+    (tie.spec
+    Inv-loop
+    μ-loop
+    loop-holds
+    add-i
+    print-cycle-requires
+    loop-less
+    loop-again
+    same-length
+    same-length-2
+    returns)

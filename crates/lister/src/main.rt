@@ -1,0 +1,144 @@
+// The cycle lister: a cycle count of 16 bits and an image on standard input, the cycles from reset
+// on standard output. Each line is written at once, so the memory does not grow with the count.
+use design::Design;
+use listing::lines::header;
+use listing::lines::next_line;
+use listing::lines::refusal_line;
+use listing::starts::start;
+use model::Answer;
+use model::Refusal;
+ghost use Prim.Native.Nat.{_+_, _*_, _≤_};
+ghost use mathlib.Core.Path.{_≡_};
+ghost use lib.ListN.{length};
+ghost use Rattle.model.specs.Image.{designOf};
+ghost use Rattle.model.specs.Rules.{Keeps};
+ghost use Rattle.model.specs.Machine.{resetAreas, cycle, afterCycles};
+ghost use Rattle.design.specs.Describes.{Describes};
+ghost use Rattle.machine.specs.Cycles.{Running, areasIn};
+
+// A cycle count, the longest image and one byte more: whatever stands behind them, an image so long
+// is refused.
+const INPUT: usize = 25271;
+// The bytes of all registers.
+const REGISTERS: usize = 256;
+// The longest header, refusal and line of a cycle.
+const HEADER: usize = 21;
+
+const REFUSAL: usize = 30;
+
+const LINE: usize = 1421;
+
+// Writes so many bytes to standard output.
+fn print(text: &[u8], n: usize)
+    requires { ⌜ n ≤ length (now text) ⌝ }
+{
+    io::write_all(1, &text[..n]);
+}
+
+fn print_header() {
+    let mut out = [0u8; HEADER];
+    let n = header(&mut out);
+    print(&out, n);
+}
+
+fn print_refusal(refusal: Refusal, place: u32) {
+    let mut out = [0u8; REFUSAL];
+    let n = refusal_line(&mut out, refusal, place);
+    print(&out, n);
+}
+
+// Runs a cycle and writes its line.
+fn print_cycle(
+    image: &[u8],
+    design: Design,
+    defaults: &[u8],
+    registers: &mut [u8],
+    targets: &mut [u8],
+    number: u32,
+)
+    requires { ⌜ Running (now image) design (now defaults) (now registers) (now targets) ⌝ }
+    ensures { λ _. ⌜ areasIn (designOf (now (image .entry))) (now (registers .exit)) (now (targets .exit)) ≡ cycle (designOf (now (image .entry))) (areasIn (designOf (now (image .entry))) (now (registers .entry)) (now (targets .entry))) .after ⌝ }
+    ensures { λ _. ⌜ Running (now (image .entry)) design (now (defaults .entry)) (now (registers .exit)) (now (targets .exit)) ⌝ }
+{
+    let mut out = [0u8; LINE];
+    let n = next_line(
+        image,
+        design,
+        defaults,
+        registers,
+        targets,
+        number,
+        &mut out,
+    );
+    print(&out, n);
+}
+
+// Runs so many cycles and writes their lines, the first with number 1.
+fn print_cycles(
+    image: &[u8],
+    design: Design,
+    defaults: &[u8],
+    registers: &mut [u8],
+    targets: &mut [u8],
+    count: u32,
+)
+    requires { ⌜ Running (now image) design (now defaults) (now registers) (now targets) ⌝ }
+    ensures { λ _. ⌜ areasIn (designOf (now (image .entry))) (now (registers .exit)) (now (targets .exit)) ≡ afterCycles (designOf (now (image .entry))) count (areasIn (designOf (now (image .entry))) (now (registers .entry)) (now (targets .entry))) ⌝ }
+    ensures { λ _. ⌜ Running (now (image .entry)) design (now (defaults .entry)) (now (registers .exit)) (now (targets .exit)) ⌝ }
+{
+    let mut i = 0;
+    while i < count {
+        i += 1;
+        print_cycle(image, design, defaults, registers, targets, i);
+    }
+}
+
+// The lines of the cycles from reset, on areas of the right lengths.
+fn list_on(image: &[u8], design: Design, registers: &mut [u8], targets: &mut [u8], count: u32)
+    requires { ⌜ (length (now registers) ≡ 4 * design .registers) × (length (now targets) ≡ design .states) × Describes (now image) design × Keeps (now image) ⌝ }
+    ensures { λ _. ⌜ areasIn (designOf (now (image .entry))) (now (registers .exit)) (now (targets .exit)) ≡ afterCycles (designOf (now (image .entry))) count (resetAreas (designOf (now (image .entry)))) ⌝ }
+{
+    let mut defaults = [0u8; Design::STATES];
+    start(image, design, &mut defaults, registers, targets);
+    print_cycles(image, design, &defaults, registers, targets, count);
+}
+
+// The listing of an image that keeps the rules.
+fn list_accepted(image: &[u8], count: u32)
+    requires { ⌜ Keeps (now image) ⌝ }
+{
+    print_header();
+    let design = Design::read(image);
+    let mut registers = [0u8; REGISTERS];
+    let mut targets = [0u8; Design::STATES];
+    let r = Design::WORD_LENGTH * design.registers;
+    let s = design.states;
+    list_on(image, design, &mut registers[..r], &mut targets[..s], count);
+}
+
+// The listing of an image.
+fn list(image: &[u8], count: u32) {
+    let verdict = rules::verdict(image);
+    match verdict {
+        Answer::Refused(refusal, place) => print_refusal(refusal, place as u32),
+        Answer::Accepted(_) => list_accepted(image, count),
+    }
+}
+
+// A number of 16 bits.
+fn word16(low: u8, high: u8) -> u32
+    ensures { λ r. ⌜ r ≡ low + 256 * high ⌝ }
+{
+    low as u32 + 256 * high as u32
+}
+
+fn main() {
+    let mut input = [0u8; INPUT];
+    let got = io::read_full(0, &mut input);
+    if got < 2 {
+        print_refusal(Refusal::Directory, 0);
+        return;
+    }
+    let count = word16(input[0], input[1]);
+    list(&input[2..got], count);
+}
