@@ -3,6 +3,7 @@ use crate::fields::number_field;
 use crate::fields::registers_field;
 use crate::fields::walk_field;
 use crate::texts::put_text;
+use calls::numbers::number;
 use design::Design;
 use machine::cycle::cycle;
 use model::Refusal;
@@ -10,36 +11,12 @@ ghost use Prim.Native.Nat.{_*_, _≤_};
 ghost use mathlib.Core.Path.{_≡_};
 ghost use lib.ListN.{length, take};
 ghost use Rattle.model.specs.Image.{designOf};
-ghost use Rattle.model.specs.Answers.{numberOf};
 ghost use Rattle.model.specs.Values.{wordsOf};
 ghost use Rattle.model.specs.Machine.{cycle as cycleOf};
 ghost use Rattle.model.specs.Listing.{header as headerOf, line as lineOf, refusalLine};
 ghost use Rattle.machine.specs.Cycles.{Running, areasIn};
 ghost use Rattle.listing.specs.Texts.{Put};
 ghost use Rattle.listing.specs.Lines.{shown, Listed};
-
-// The number of a refusal in the table.
-fn number(refusal: Refusal) -> u32
-    ensures { λ r. ⌜ r ≡ numberOf refusal ⌝ }
-{
-    match refusal {
-        Refusal::Directory => 1,
-        Refusal::LabelRow => 2,
-        Refusal::RegisterRecord => 3,
-        Refusal::StateRecord => 4,
-        Refusal::NodeRecord => 5,
-        Refusal::NodeUse => 6,
-        Refusal::Depth => 7,
-        Refusal::Shape => 8,
-        Refusal::ChildLabel => 9,
-        Refusal::AssignFlow => 10,
-        Refusal::GotoFlow => 11,
-        Refusal::FallFlow => 12,
-        Refusal::NoPort => 13,
-        Refusal::Area => 14,
-        Refusal::CycleCount => 15,
-    }
-}
 
 // The line above the cycles.
 pub fn header(out: &mut [u8]) -> usize
