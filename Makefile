@@ -6,7 +6,7 @@ SOAK_SEED = 1
 library = target/staticlib/libcaisson.a
 soak_sources = tests/soak/soak.c $(addprefix host/, box.c design.c numbers.c refusals.c say.c table.c)
 
-.PHONY: test quick bench run host soak library lister install clean
+.PHONY: test quick bench run host tool soak library lister install clean
 
 # The gate, as CI runs it: proofs from nothing, must-fail edits, tests outside Rattle.
 test:
@@ -28,6 +28,11 @@ run: lister
 # The host to start from, target/host/outstation; host/README.md says how it is used.
 host: library
 	$(MAKE) -C host
+
+# The tool for designs, target/tools/release/caisson; tools/README.md says how it is used.
+tool: library
+	CAISSON_LIB_DIR=$(CURDIR)/target/staticlib CARGO_TARGET_DIR=$(CURDIR)/target/tools \
+		cargo build --quiet --release --offline --manifest-path tools/Cargo.toml
 
 # Two boxes side by side with unlike readings for one party, for SOAK_SECONDS; not part of the gate.
 soak: library
