@@ -5,11 +5,11 @@ use mathlib.Core.Bool.{true, false}
 use mathlib.Core.List.{List, [], _∷_, _++_}
 use native.Mathlib.Omega.{arith}
 use native.Mathlib.Decide.{decLt}
-use native.Mathlib.Nat.{pow-suc, pow-succ', pow-le-pow-right, div-lt-iff-lt-mul, le-div-iff-mul-le, div-div-eq-div-mul, div-one, mod-eq-of-lt, mod-lt}
+use native.Mathlib.Nat.{pow-suc, pow-succ', pow-le-pow-right, div-lt-iff-lt-mul, le-div-iff-mul-le, div-div-eq-div-mul, div-one, mod-eq-of-lt}
 use lib.Dec.{ltb, eqb}
 use lib.ListN.{length, getD, set, length-append, length-set}
 use borrow.Author.Tests.{lt-ltb, le-ltb, eqb-true}
-use Rattle.model.specs.Indices.{allBelow, recursively}
+use Rattle.model.specs.Indices.{allBelow}
 use Rattle.model.specs.Listing.{decimal}
 use Rattle.model.proofs.Laws.Indices.{all-at, recursively-step, onlyBelow, only-below-at}
 use Rattle.listing.specs.Texts.{written, Put}

@@ -1,6 +1,6 @@
 -- A line is its fields, one behind the other.
 use Prim.Native.Nat.{ℕ, _+_, _≤_}
-use mathlib.Core.Path.{_≡_, refl, sym, _∙_, ap}
+use mathlib.Core.Path.{_≡_, sym, _∙_, ap}
 use mathlib.Core.List.{List, [], _∷_, _++_, append-assoc}
 use native.Mathlib.Omega.{arith}
 use lib.ListN.{length, take, drop, length-append}
@@ -10,7 +10,7 @@ use Rattle.model.specs.Image.{Registers, designOf}
 use Rattle.model.specs.Answers.{numberOf}
 use Rattle.model.specs.Values.{wordsOf}
 use Rattle.model.specs.Machine.{Areas, Cycle}
-use Rattle.model.specs.Listing.{bytesOfText, decimal, spaced, header, line, refusalLine}
+use Rattle.model.specs.Listing.{bytesOfText, decimal, spaced, line, refusalLine}
 use Rattle.design.specs.declared.Design.{Design}
 use Rattle.design.proofs.Laws.{registers-count}
 use Rattle.design.proofs.ResetRules.{states-few}

@@ -1,6 +1,6 @@
 -- The place of a refusal is small: a label, a register, a state or a node of an image that keeps its directory, and a tree has no node above its own number.
 use Prim.Native.Nat.{ℕ, zero, suc, min, _+_, _≤_, _<_}
-use mathlib.Core.Path.{_≡_, refl, sym, _∙_, ap}
+use mathlib.Core.Path.{_≡_, refl, sym, _∙_}
 use mathlib.Core.Bool.{Bool, true, false, not, cond, Bool·beq}
 use mathlib.Core.List.{List, [], _∷_, _++_}
 use native.Mathlib.Omega.{arith}
@@ -22,9 +22,8 @@ use Rattle.model.specs.Shape.{chargedUnless, transfers, shapeFaults, stateShape
 use Rattle.model.specs.Flow.{refusedUnless, flowFaults, stateFlowFaults, nearer, nearest, flowAnswer, labelsRead}
 use Rattle.model.specs.Lattice.{allFlowTo, registerLabel, stateLabel}
 use Rattle.model.specs.States.{stateKept, hasChild, siblingOrSelf}
-use Rattle.model.specs.Rules.{DirectoryKeeps}
 use Rattle.model.specs.Verdict.{_before_, refusedAt, atZeroUnless, commandsFirst, lowestNode, designVerdict, verdict}
-use Rattle.model.proofs.Laws.Indices.{extend, failing-none, lowest-failing-below}
+use Rattle.model.proofs.Laws.Indices.{failing-none, lowest-failing-below}
 use Rattle.model.proofs.Laws.Images.{label-count, register-count, state-count, command-count, expression-count}
 use Rattle.model.proofs.Exact.Directories.{directory-iff}
 use Rattle.model.proofs.Exact.Records.{state-iff}

@@ -1,17 +1,16 @@
 -- After a reset the areas hold the reset values, which are 32 bits each, and the default targets, which are states.
 use Prim.Native.Nat.{ℕ, _*_, _≤_, _<_}
-use mathlib.Core.Path.{_≡_, refl, sym, _∙_, ap}
+use mathlib.Core.Path.{_≡_, sym, _∙_, ap}
 use mathlib.Core.List.{List}
 use native.Mathlib.Omega.{arith}
 use lib.ListN.{length, getD, length-map}
 use mir.Syntax.{w8}
 use mir.Val.{Fits}
-use Rattle.model.specs.Indices.{tabulate}
-use Rattle.model.specs.Image.{Design as Table, Register, AreBytes, designOf}
+use Rattle.model.specs.Image.{Design as Table, Register, designOf}
 use Rattle.model.specs.States.{defaultTarget}
 use Rattle.model.specs.Rules.{Keeps}
 use Rattle.model.specs.Values.{wordsOf, bytesOf}
-use Rattle.model.specs.Machine.{Areas, resetAreas}
+use Rattle.model.specs.Machine.{resetAreas}
 use Rattle.model.specs.Calls.{Lent, lentOf}
 use Rattle.model.proofs.Laws.Indices.{length-tabulate, getD-tabulate}
 use Rattle.model.proofs.Laws.Words.{length-bytesOf, words-of-bytes-bounded}
@@ -20,7 +19,7 @@ use Rattle.model.proofs.Exact.Records.{state-iff}
 use Rattle.design.specs.declared.Design.{Design}
 use Rattle.design.specs.Describes.{Describes}
 use Rattle.design.specs.Kept.{StatesKept}
-use Rattle.design.specs.Resets.{Defaults, withDefaults, lends}
+use Rattle.design.specs.Resets.{withDefaults, lends}
 use Rattle.design.proofs.Laws.{registers-count, states-count}
 use Rattle.design.proofs.ResetRules.{default-inside, defaults-of}
 use Rattle.machine.specs.Cycles.{Running, areasIn}

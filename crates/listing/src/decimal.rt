@@ -1,5 +1,5 @@
 // Numbers in decimal.
-ghost use Prim.Native.Nat.{_+_, _^_, _*_, _/_, _%_, _<_, _≤_};
+ghost use Prim.Native.Nat.{_+_, _^_, _/_, _%_, _<_, _≤_};
 ghost use mathlib.Core.Path.{_≡_};
 ghost use lib.ListN.{length};
 ghost use Rattle.model.specs.Listing.{decimal};

@@ -39,8 +39,8 @@ pub fn refusal_line(out: &mut [u8], refusal: Refusal, place: u32) -> usize
     number_field(out, first, place, b'\n')
 }
 
-// The line of a cycle with a walk, of which so many bytes of its table are used, and with so many
-// registers after it.
+// The line of a cycle: its number, its walk, of whose table so many bytes are used, and the values
+// of so many registers after it. A number has at most 10 digits, and 64 items are a field's most.
 fn line(
     out: &mut [u8],
     number: u32,

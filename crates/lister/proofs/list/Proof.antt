@@ -3,11 +3,6 @@ use Rattle.lister.proofs.Buffers.{place-word}
 use borrow.Author.Needs.{needs}
 use Rattle.lister.proofs.list.Statement.{statement}
 use Rattle.lister.proofs.list.Tie as tie
-use Rattle.lister.proofs.list.Reads as reads
-use Rattle.lister.proofs.list.Lts as lts
-use Rattle.lister.proofs.list_accepted.Reads as list-accepted-reads
-use Rattle.lister.proofs.print_refusal.Reads as print-refusal-reads
-use Rattle.rules.proofs.verdict.Reads as verdict-reads
 
 verdict-requires : tie.Need-verdict-requires
 verdict-requires c κs = search needs

@@ -4,10 +4,6 @@ use Rattle.lister.proofs.Buffers.{part-length, registers-fit}
 use borrow.Author.Needs.{needs}
 use Rattle.lister.proofs.list_accepted.Statement.{statement}
 use Rattle.lister.proofs.list_accepted.Tie as tie
-use Rattle.lister.proofs.list_accepted.Reads as reads
-use Rattle.lister.proofs.list_accepted.Lts as lts
-use Rattle.design.proofs.Design.read.Reads as read-reads
-use Rattle.lister.proofs.list_on.Reads as list-on-reads
 
 print-header-requires : tie.Need-print-header-requires
 print-header-requires c κs = search needs

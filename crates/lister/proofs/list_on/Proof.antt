@@ -4,10 +4,6 @@ use Rattle.lister.proofs.ListRules.{from-reset}
 use borrow.Author.Needs.{needs}
 use Rattle.lister.proofs.list_on.Statement.{statement}
 use Rattle.lister.proofs.list_on.Tie as tie
-use Rattle.lister.proofs.list_on.Reads as reads
-use Rattle.lister.proofs.list_on.Lts as lts
-use Rattle.lister.proofs.print_cycles.Reads as print-cycles-reads
-use Rattle.listing.proofs.starts.start.Reads as start-reads
 
 slice-aggregate-start : tie.Need-slice-aggregate-start
 slice-aggregate-start c = search needs

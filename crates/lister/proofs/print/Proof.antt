@@ -2,9 +2,6 @@ use Rattle.lister.proofs.Buffers.{part-length}
 use borrow.Author.Needs.{needs}
 use Rattle.lister.proofs.print.Statement.{statement}
 use Rattle.lister.proofs.print.Tie as tie
-use Rattle.lister.proofs.print.Reads as reads
-use Rattle.lister.proofs.print.Lts as lts
-use Rattle.io.proofs.write_all.Reads as write-all-reads
 
 slice-aggregate-write-all : tie.Need-slice-aggregate-write-all
 slice-aggregate-write-all c = part-length _ _ (search needs)

@@ -3,10 +3,6 @@ use Rattle.lister.proofs.ListRules.{listed-after}
 use borrow.Author.Needs.{needs}
 use Rattle.lister.proofs.print_cycle.Statement.{statement}
 use Rattle.lister.proofs.print_cycle.Tie as tie
-use Rattle.lister.proofs.print_cycle.Reads as reads
-use Rattle.lister.proofs.print_cycle.Lts as lts
-use Rattle.lister.proofs.print.Reads as print-reads
-use Rattle.listing.proofs.lines.next_line.Reads as next-line-reads
 
 slice-aggregate-next-line : tie.Need-slice-aggregate-next-line
 slice-aggregate-next-line c = search needs

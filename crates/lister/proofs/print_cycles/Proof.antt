@@ -3,9 +3,6 @@ use Rattle.lister.proofs.ListRules.{ListSo, list-begins, list-falls, li
 use borrow.Author.Needs.{needs}
 use Rattle.lister.proofs.print_cycles.Statement.{statement}
 use Rattle.lister.proofs.print_cycles.Tie as tie
-use Rattle.lister.proofs.print_cycles.Reads as reads
-use Rattle.lister.proofs.print_cycles.Lts as lts
-use Rattle.lister.proofs.print_cycle.Reads as print-cycle-reads
 
 abbrev Inv-loop : tie.InvT-loop
 Inv-loop image design defaults registers₀ targets₀ count i₀ registers targets i = ListSo image design defaults count registers₀ targets₀ i registers targets

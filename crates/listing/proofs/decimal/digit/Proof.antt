@@ -2,9 +2,6 @@ use Rattle.listing.proofs.DecimalRules.{divisor, digit-is}
 use borrow.Author.Needs.{needs}
 use Rattle.listing.proofs.decimal.digit.Statement.{statement}
 use Rattle.listing.proofs.decimal.digit.Tie as tie
-use Rattle.listing.proofs.decimal.digit.Reads as reads
-use Rattle.listing.proofs.decimal.digit.Lts as lts
-use Rattle.listing.proofs.decimal.power.Reads as power-reads
 
 power-requires : tie.Need-power-requires
 power-requires c κs = search needs

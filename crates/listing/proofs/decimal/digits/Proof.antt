@@ -3,9 +3,6 @@ use Rattle.listing.proofs.DecimalRules.{DigitsSo, digits-begin, digits-
 use borrow.Author.Needs.{needs}
 use Rattle.listing.proofs.decimal.digits.Statement.{statement}
 use Rattle.listing.proofs.decimal.digits.Tie as tie
-use Rattle.listing.proofs.decimal.digits.Reads as reads
-use Rattle.listing.proofs.decimal.digits.Lts as lts
-use Rattle.listing.proofs.decimal.power.Reads as power-reads
 
 abbrev Inv-loop : tie.InvT-loop
 Inv-loop n k₀ k = DigitsSo n k

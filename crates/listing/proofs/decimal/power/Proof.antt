@@ -2,8 +2,6 @@ use Rattle.listing.proofs.DecimalRules.{power-is}
 use borrow.Author.Needs.{needs}
 use Rattle.listing.proofs.decimal.power.Statement.{statement}
 use Rattle.listing.proofs.decimal.power.Tie as tie
-use Rattle.listing.proofs.decimal.power.Reads as reads
-use Rattle.listing.proofs.decimal.power.Lts as lts
 
 mul-result : tie.Need-mul-result
 mul-result c = search needs

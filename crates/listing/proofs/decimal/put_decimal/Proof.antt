@@ -2,10 +2,6 @@ use Rattle.listing.proofs.DecimalRules.{DecimalSo, decimal-begins, deci
 use borrow.Author.Needs.{needs}
 use Rattle.listing.proofs.decimal.put_decimal.Statement.{statement}
 use Rattle.listing.proofs.decimal.put_decimal.Tie as tie
-use Rattle.listing.proofs.decimal.put_decimal.Reads as reads
-use Rattle.listing.proofs.decimal.put_decimal.Lts as lts
-use Rattle.listing.proofs.decimal.digit.Reads as digit-reads
-use Rattle.listing.proofs.decimal.digits.Reads as digits-reads
 
 abbrev Inv-loop : tie.InvT-loop
 Inv-loop out₀ at n k₀ p₀ out k p = DecimalSo n out₀ at out p k

@@ -2,10 +2,6 @@ use Rattle.listing.proofs.TextRules.{put-then}
 use borrow.Author.Needs.{needs}
 use Rattle.listing.proofs.fields.number_field.Statement.{statement}
 use Rattle.listing.proofs.fields.number_field.Tie as tie
-use Rattle.listing.proofs.fields.number_field.Reads as reads
-use Rattle.listing.proofs.fields.number_field.Lts as lts
-use Rattle.listing.proofs.decimal.put_decimal.Reads as put-decimal-reads
-use Rattle.listing.proofs.texts.put_byte.Reads as put-byte-reads
 
 put-decimal-requires : tie.Need-put-decimal-requires
 put-decimal-requires c κs = search needs

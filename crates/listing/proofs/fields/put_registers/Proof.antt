@@ -4,10 +4,6 @@ use Rattle.listing.proofs.TextRules.{FieldSo, field-begins, field-room,
 use borrow.Author.Needs.{needs}
 use Rattle.listing.proofs.fields.put_registers.Statement.{statement}
 use Rattle.listing.proofs.fields.put_registers.Tie as tie
-use Rattle.listing.proofs.fields.put_registers.Reads as reads
-use Rattle.listing.proofs.fields.put_registers.Lts as lts
-use Rattle.design.proofs.words.word.Reads as word-reads
-use Rattle.listing.proofs.fields.put_item.Reads as put-item-reads
 
 abbrev Inv-loop : tie.InvT-loop
 Inv-loop out₀ at registers count p₀ i₀ out p i = FieldSo (wordsOf count registers) out₀ at i out p × (i ≤ count)

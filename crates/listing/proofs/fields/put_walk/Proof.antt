@@ -3,10 +3,6 @@ use Rattle.listing.proofs.TextRules.{FieldSo, field-begins, field-room,
 use borrow.Author.Needs.{needs}
 use Rattle.listing.proofs.fields.put_walk.Statement.{statement}
 use Rattle.listing.proofs.fields.put_walk.Tie as tie
-use Rattle.listing.proofs.fields.put_walk.Reads as reads
-use Rattle.listing.proofs.fields.put_walk.Lts as lts
-use Rattle.listing.proofs.fields.put_item.Reads as put-item-reads
-use Rattle.listing.proofs.fields.wide.Reads as wide-reads
 
 abbrev Inv-loop : tie.InvT-loop
 Inv-loop out₀ at walk count p₀ i₀ out p i = FieldSo walk out₀ at i out p × (i ≤ count)

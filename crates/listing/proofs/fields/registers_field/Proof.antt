@@ -2,10 +2,6 @@ use Rattle.listing.proofs.TextRules.{put-then}
 use borrow.Author.Needs.{needs}
 use Rattle.listing.proofs.fields.registers_field.Statement.{statement}
 use Rattle.listing.proofs.fields.registers_field.Tie as tie
-use Rattle.listing.proofs.fields.registers_field.Reads as reads
-use Rattle.listing.proofs.fields.registers_field.Lts as lts
-use Rattle.listing.proofs.fields.put_registers.Reads as put-registers-reads
-use Rattle.listing.proofs.texts.put_byte.Reads as put-byte-reads
 
 put-registers-requires : tie.Need-put-registers-requires
 put-registers-requires c κs = search needs

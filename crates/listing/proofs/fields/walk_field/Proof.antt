@@ -2,10 +2,6 @@ use Rattle.listing.proofs.TextRules.{put-then}
 use borrow.Author.Needs.{needs}
 use Rattle.listing.proofs.fields.walk_field.Statement.{statement}
 use Rattle.listing.proofs.fields.walk_field.Tie as tie
-use Rattle.listing.proofs.fields.walk_field.Reads as reads
-use Rattle.listing.proofs.fields.walk_field.Lts as lts
-use Rattle.listing.proofs.fields.put_walk.Reads as put-walk-reads
-use Rattle.listing.proofs.texts.put_byte.Reads as put-byte-reads
 
 put-walk-requires : tie.Need-put-walk-requires
 put-walk-requires c κs = search needs

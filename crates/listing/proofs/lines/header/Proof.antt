@@ -2,9 +2,6 @@ use Rattle.model.specs.Listing.{header, bytesOfText}
 use borrow.Author.Needs.{needs}
 use Rattle.listing.proofs.lines.header.Statement.{statement}
 use Rattle.listing.proofs.lines.header.Tie as tie
-use Rattle.listing.proofs.lines.header.Reads as reads
-use Rattle.listing.proofs.lines.header.Lts as lts
-use Rattle.listing.proofs.texts.put_text.Reads as put-text-reads
 
 slice-aggregate-put-text : tie.Need-slice-aggregate-put-text
 slice-aggregate-put-text c = search needs

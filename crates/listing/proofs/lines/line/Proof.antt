@@ -2,11 +2,6 @@ use Rattle.listing.proofs.LineRules.{line-put}
 use borrow.Author.Needs.{needs}
 use Rattle.listing.proofs.lines.line.Statement.{statement}
 use Rattle.listing.proofs.lines.line.Tie as tie
-use Rattle.listing.proofs.lines.line.Reads as reads
-use Rattle.listing.proofs.lines.line.Lts as lts
-use Rattle.listing.proofs.fields.number_field.Reads as number-field-reads
-use Rattle.listing.proofs.fields.registers_field.Reads as registers-field-reads
-use Rattle.listing.proofs.fields.walk_field.Reads as walk-field-reads
 
 number-field-requires : tie.Need-number-field-requires
 number-field-requires c κs = search needs

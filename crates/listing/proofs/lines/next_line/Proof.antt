@@ -2,10 +2,6 @@ use Rattle.listing.proofs.LineRules.{running-states, running-registers,
 use borrow.Author.Needs.{needs}
 use Rattle.listing.proofs.lines.next_line.Statement.{statement}
 use Rattle.listing.proofs.lines.next_line.Tie as tie
-use Rattle.listing.proofs.lines.next_line.Reads as reads
-use Rattle.listing.proofs.lines.next_line.Lts as lts
-use Rattle.listing.proofs.lines.line.Reads as line-reads
-use Rattle.machine.proofs.cycle.cycle.Reads as cycle-reads
 
 slice-aggregate-cycle : tie.Need-slice-aggregate-cycle
 slice-aggregate-cycle c = search needs

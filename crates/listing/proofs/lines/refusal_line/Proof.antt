@@ -2,11 +2,6 @@ use Rattle.listing.proofs.LineRules.{refusal-put}
 use borrow.Author.Needs.{needs}
 use Rattle.listing.proofs.lines.refusal_line.Statement.{statement}
 use Rattle.listing.proofs.lines.refusal_line.Tie as tie
-use Rattle.listing.proofs.lines.refusal_line.Reads as reads
-use Rattle.listing.proofs.lines.refusal_line.Lts as lts
-use Rattle.listing.proofs.fields.number_field.Reads as number-field-reads
-use Rattle.calls.proofs.numbers.number.Reads as number-reads
-use Rattle.listing.proofs.texts.put_text.Reads as put-text-reads
 
 number-requires : tie.Need-number-requires
 number-requires c κs = search needs

@@ -2,10 +2,6 @@ use Rattle.listing.proofs.StartRules.{start-kept, start-areas, start-ru
 use borrow.Author.Needs.{needs}
 use Rattle.listing.proofs.starts.start.Statement.{statement}
 use Rattle.listing.proofs.starts.start.Tie as tie
-use Rattle.listing.proofs.starts.start.Reads as reads
-use Rattle.listing.proofs.starts.start.Lts as lts
-use Rattle.design.proofs.Design.reset.Reads as reset-reads
-use Rattle.design.proofs.reset.default_targets.Reads as default-targets-reads
 
 default-targets-requires : tie.Need-default-targets-requires
 default-targets-requires c κs = (search needs, search (start-kept, needs), search needs)

@@ -4,8 +4,6 @@ use Rattle.listing.proofs.TextRules.{TextSo, text-begins, text-inside, 
 use borrow.Author.Needs.{needs}
 use Rattle.listing.proofs.texts.put_text.Statement.{statement}
 use Rattle.listing.proofs.texts.put_text.Tie as tie
-use Rattle.listing.proofs.texts.put_text.Reads as reads
-use Rattle.listing.proofs.texts.put_text.Lts as lts
 
 abbrev Inv-loop : tie.InvT-loop
 Inv-loop out₀ at text i₀ out i = TextSo text out₀ at i out
