@@ -1,6 +1,6 @@
 -- A part of a buffer has the length asked for, and the buffers are long enough for a design that keeps the limits.
 use Prim.Native.Nat.{ℕ, _*_, _≤_, _<_}
-use mathlib.Core.Path.{_≡_, sym, _∙_}
+use mathlib.Core.Path.{_≡_, sym}
 use mathlib.Core.List.{List}
 use native.Mathlib.Omega.{arith}
 use lib.ListN.{length, take}
@@ -12,7 +12,6 @@ use Rattle.model.specs.Image.{Registers}
 use Rattle.model.specs.Verdict.{verdict}
 use Rattle.design.specs.declared.Design.{Design}
 use Rattle.design.specs.Describes.{Describes}
-use Rattle.machine.specs.Cycles.{Running}
 use Rattle.listing.proofs.PlaceRules.{place-small}
 
 pub part-length : (n : ℕ) (bytes : List ℕ) → n ≤ length bytes → n ≡ length (take n bytes)
@@ -23,13 +22,6 @@ registers-fit d = omega (arith, d .registers, d .directory .sections Registers)
 
 pub line-fits : {n : ℕ} (out : List ℕ) → n ≤ 1421 → length out ≡ 1421 → n ≤ length out
 line-fits out l e = omega arith
-
--- areas on which cycles run have the lengths that they came with
-pub area-same : {image table registers targets : List ℕ} {x : Design} (before : List ℕ) → Running image x table registers targets → length before ≡ 4 * x .registers → length registers ≡ length before
-area-same before running e = running .area ∙ sym e
-
-pub targets-same : {image table registers targets : List ℕ} {x : Design} (before : List ℕ) → Running image x table registers targets → length before ≡ x .states → length targets ≡ length before
-targets-same before running e = running .states ∙ sym e
 
 -- a place is a number of 32 bits
 pub place-word : (image : List ℕ) {a : Answer} {r : Refusal} {p : ℕ} → a ≡ verdict image → a ≡ Refused r p → p < 4294967296

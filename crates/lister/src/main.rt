@@ -7,14 +7,15 @@ use listing::lines::refusal_line;
 use listing::starts::start;
 use model::Answer;
 use model::Refusal;
-ghost use Prim.Native.Nat.{_+_, _*_, _≤_};
+ghost use Prim.Native.Nat.{_+_, _*_, _<_, _≤_};
 ghost use mathlib.Core.Path.{_≡_};
 ghost use lib.ListN.{length};
 ghost use Rattle.model.specs.Image.{designOf};
 ghost use Rattle.model.specs.Rules.{Keeps};
-ghost use Rattle.model.specs.Machine.{resetAreas, cycle, afterCycles};
+ghost use Rattle.model.specs.Machine.{resetAreas, afterCycles};
 ghost use Rattle.design.specs.Describes.{Describes};
-ghost use Rattle.machine.specs.Cycles.{Running, areasIn};
+ghost use Rattle.machine.specs.Cycles.{areasIn};
+ghost use Rattle.listing.specs.Lines.{RunningAt};
 
 // A cycle count, the longest image and one byte more: whatever stands behind them, an image so long
 // is refused.
@@ -47,33 +48,24 @@ fn print_refusal(refusal: Refusal, place: u32) {
     print(&out, n);
 }
 
-// Runs a cycle and writes its line.
+// Runs the cycle behind those done from reset, and writes its line.
 fn print_cycle(
     image: &[u8],
     design: Design,
     defaults: &[u8],
     registers: &mut [u8],
     targets: &mut [u8],
-    number: u32,
+    done: u32,
 )
-    requires { ⌜ Running (now image) design (now defaults) (now registers) (now targets) ⌝ }
-    ensures { λ _. ⌜ areasIn (designOf (now (image .entry))) (now (registers .exit)) (now (targets .exit)) ≡ cycle (designOf (now (image .entry))) (areasIn (designOf (now (image .entry))) (now (registers .entry)) (now (targets .entry))) .after ⌝ }
-    ensures { λ _. ⌜ Running (now (image .entry)) design (now (defaults .entry)) (now (registers .exit)) (now (targets .exit)) ⌝ }
+    requires { ⌜ (done + 1 < 4294967296) × RunningAt (now image) design (now defaults) (now registers) (now targets) done ⌝ }
+    ensures { λ _. ⌜ RunningAt (now (image .entry)) design (now (defaults .entry)) (now (registers .exit)) (now (targets .exit)) (done + 1) ⌝ }
 {
     let mut out = [0u8; LINE];
-    let n = next_line(
-        image,
-        design,
-        defaults,
-        registers,
-        targets,
-        number,
-        &mut out,
-    );
+    let n = next_line(image, design, defaults, registers, targets, done, &mut out);
     print(&out, n);
 }
 
-// Runs so many cycles and writes their lines, the first with number 1.
+// Runs so many cycles from reset, and writes their lines.
 fn print_cycles(
     image: &[u8],
     design: Design,
@@ -82,18 +74,17 @@ fn print_cycles(
     targets: &mut [u8],
     count: u32,
 )
-    requires { ⌜ Running (now image) design (now defaults) (now registers) (now targets) ⌝ }
-    ensures { λ _. ⌜ areasIn (designOf (now (image .entry))) (now (registers .exit)) (now (targets .exit)) ≡ afterCycles (designOf (now (image .entry))) count (areasIn (designOf (now (image .entry))) (now (registers .entry)) (now (targets .entry))) ⌝ }
-    ensures { λ _. ⌜ Running (now (image .entry)) design (now (defaults .entry)) (now (registers .exit)) (now (targets .exit)) ⌝ }
+    requires { ⌜ RunningAt (now image) design (now defaults) (now registers) (now targets) 0 ⌝ }
+    ensures { λ _. ⌜ RunningAt (now (image .entry)) design (now (defaults .entry)) (now (registers .exit)) (now (targets .exit)) count ⌝ }
 {
     let mut i = 0;
     while i < count {
-        i += 1;
         print_cycle(image, design, defaults, registers, targets, i);
+        i += 1;
     }
 }
 
-// The lines of the cycles from reset, on areas of the right lengths.
+// The lines of the cycles, on areas of the right lengths.
 fn list_on(image: &[u8], design: Design, registers: &mut [u8], targets: &mut [u8], count: u32)
     requires { ⌜ (length (now registers) ≡ 4 * design .registers) × (length (now targets) ≡ design .states) × Describes (now image) design × Keeps (now image) ⌝ }
     ensures { λ _. ⌜ areasIn (designOf (now (image .entry))) (now (registers .exit)) (now (targets .exit)) ≡ afterCycles (designOf (now (image .entry))) count (resetAreas (designOf (now (image .entry)))) ⌝ }

@@ -3,21 +3,23 @@ use Prim.Native.Nat.{ℕ, _+_, _≤_}
 use mathlib.Core.Path.{_≡_, sym, _∙_, ap}
 use mathlib.Core.List.{List, [], _∷_, _++_, append-assoc}
 use native.Mathlib.Omega.{arith}
+use native.Mathlib.Numerals.{add-one}
 use lib.ListN.{length, take, drop, length-append}
 use lib.Seq.{take-at}
 use Rattle.model.specs.declared.Refusal.{Refusal}
 use Rattle.model.specs.Image.{Registers, designOf}
 use Rattle.model.specs.Answers.{numberOf}
 use Rattle.model.specs.Values.{wordsOf}
-use Rattle.model.specs.Machine.{Areas, Cycle}
+use Rattle.model.specs.Machine.{Areas, Cycle, resetAreas, cycle, afterCycles}
 use Rattle.model.specs.Listing.{bytesOfText, decimal, spaced, line, refusalLine}
 use Rattle.design.specs.declared.Design.{Design}
 use Rattle.design.proofs.Laws.{registers-count}
 use Rattle.design.proofs.ResetRules.{states-few}
 use Rattle.machine.specs.Cycles.{Running, Cycled, areasIn}
 use Rattle.listing.specs.Texts.{Put}
-use Rattle.listing.specs.Lines.{shown, Listed}
+use Rattle.listing.specs.Lines.{cycleLine, shown, RunningAt}
 use Rattle.listing.proofs.TextRules.{put-then}
+use Rattle.listing.proofs.ListingRules.{after-more}
 
 -- a field and the byte that ends it, behind a text
 then-field : {out between after text : List ℕ} {at p r : ℕ} (field end : List ℕ) → Put out at text between p → Put between p (field ++ end) after r → Put out at (text ++ field ++ end) after r
@@ -37,12 +39,15 @@ unfolding line bytesOfText
 line-put number walk values first second third = then-field (spaced values) (10 ∷ []) (then-field (spaced walk) (59 ∷ []) first second) third
 
 -- ---- the line of a cycle
-module _ {image : List ℕ} {x : Design} {table registers targets : List ℕ} (running : Running image x table registers targets) where
-  pub running-states : x .states ≤ 64
-  running-states = states-few (running .known .describes)
+module _ {image : List ℕ} {x : Design} {table registers targets : List ℕ} {done : ℕ} (at : RunningAt image x table registers targets done) where
+  pub at-running : Running image x table registers targets
+  at-running = at .running
 
-  pub running-registers : x .registers ≤ 64
-  running-registers = let d = running .known .describes in omega (arith, d .registers, d .directory .sections Registers)
+  pub at-states : x .states ≤ 64
+  at-states = states-few (at .running .known .describes)
+
+  pub at-registers : x .registers ≤ 64
+  at-registers = let d = at .running .known .describes in omega (arith, d .registers, d .directory .sections Registers)
 
 module _ {c : Cycle} {areas : Areas} {before walk : List ℕ} {n : ℕ} (cycled : Cycled c areas before walk n) where
   pub walk-within : n ≤ length walk
@@ -61,13 +66,26 @@ line-shows : (number : ℕ) (c : Cycle) (walk values : List ℕ) → walk ≡ c 
 unfolding line
 line-shows number c walk values e h = rw (e, h)
 
-pub line-listed : {image : List ℕ} {x : Design} {table registers targets : List ℕ} {c : Cycle} {before walk out after : List ℕ} {n r : ℕ} (number : ℕ) → Running image x table registers targets
-    → Cycled c (areasIn (designOf image) registers targets) before walk n
-    → Put out 0 (line number (shown (take n walk) (wordsOf (x .registers) registers))) after r
-    → Listed c (areasIn (designOf image) registers targets) number out after r
-line-listed {registers = registers} {c = c} {walk = walk} {n = n} number running cycled put =
-    let values = ap (λ (k : ℕ). wordsOf k registers) (registers-count (running .known .describes)) ∙ ap (λ (areas : Areas). areas .registers) (cycled .after) in
-    record {
-      areas-after = cycled .after;
-      put = rw (line-shows number c (take n walk) _ (walk-is cycled) values) at put;
-    }
+module _ {image : List ℕ} {x : Design} {table registers₀ targets₀ registers targets before walk : List ℕ} {done n : ℕ}
+    (at : RunningAt image x table registers₀ targets₀ done)
+    (cycled : Cycled (cycle (designOf image) (areasIn (designOf image) registers₀ targets₀)) (areasIn (designOf image) registers targets) before walk n)
+    (running : Running image x table registers targets) where
+  pub line-listed : {out after : List ℕ} {r : ℕ} → Put out 0 (line (done + 1) (shown (take n walk) (wordsOf (x .registers) registers))) after r → Put out 0 (cycleLine (designOf image) done) after r
+  unfolding cycleLine
+  line-listed put =
+      let d = designOf image in
+      let c = cycle d (areasIn d registers₀ targets₀) in
+      let values = ap (λ (k : ℕ). wordsOf k registers) (registers-count (running .known .describes)) ∙ ap (λ (areas : Areas). areas .registers) (cycled .after) in
+      let shows = line-shows (done + 1) c (take n walk) (wordsOf (x .registers) registers) (walk-is cycled) values in
+      rw (shows ∙ ap (λ (areas : Areas). line (done + 1) (cycle d areas)) (at .areas)) at put
+
+  pub ran-more : RunningAt image x table registers targets (done + 1)
+  ran-more =
+      let d = designOf image in
+      record {
+        areas = cycled .after
+            ∙ ap (λ (areas : Areas). cycle d areas .after) (at .areas)
+            ∙ sym (after-more d done (resetAreas d))
+            ∙ ap (λ (k : ℕ). afterCycles d k (resetAreas d)) (sym (add-one done));
+        running = running;
+      }

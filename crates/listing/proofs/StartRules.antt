@@ -10,7 +10,7 @@ use Rattle.model.specs.Image.{Design as Table, Register, designOf}
 use Rattle.model.specs.States.{defaultTarget}
 use Rattle.model.specs.Rules.{Keeps}
 use Rattle.model.specs.Values.{wordsOf, bytesOf}
-use Rattle.model.specs.Machine.{resetAreas}
+use Rattle.model.specs.Machine.{resetAreas, cycles, afterLast, afterCycles}
 use Rattle.model.specs.Calls.{Lent, lentOf}
 use Rattle.model.proofs.Laws.Indices.{length-tabulate, getD-tabulate}
 use Rattle.model.proofs.Laws.Words.{length-bytesOf, words-of-bytes-bounded}
@@ -24,6 +24,7 @@ use Rattle.design.proofs.Laws.{registers-count, states-count}
 use Rattle.design.proofs.ResetRules.{default-inside, defaults-of}
 use Rattle.machine.specs.Cycles.{Running, areasIn}
 use Rattle.rules.proofs.Accepted.{accepted-known}
+use Rattle.listing.specs.Lines.{RunningAt}
 
 pub start-kept : {image : List ℕ} → Keeps image → StatesKept (designOf image)
 start-kept {image} keeps = record { kept = λ s l. state-iff (designOf image) s .1 (keeps .design .states s l) }
@@ -45,7 +46,7 @@ module _ (image : List ℕ) (bytes : (i : ℕ) → Fits w8 (getD image i 0)) (re
   unfolding lentOf
   targets-are = ap (λ (lent : Lent). lent .targets) reset
 
-  pub start-areas : areasIn (designOf image) registers targets ≡ resetAreas (designOf image)
+  start-areas : areasIn (designOf image) registers targets ≡ resetAreas (designOf image)
   start-areas =
       let d = designOf image in
       let values : wordsOf (length (d .registers)) registers ≡ resetAreas d .registers =
@@ -69,7 +70,7 @@ module _ (image : List ℕ) (bytes : (i : ℕ) → Fits w8 (getD image i 0)) (re
       let d = designOf image in
       ap length targets-are ∙ length-tabulate (defaultTarget d) (length (d .states)) ∙ sym (states-count describes)
 
-  pub start-running : {x : Design} {table : List ℕ} (old : List ℕ) → Keeps image → Describes image x → table ≡ withDefaults (designOf image) old → x .states ≤ length old → Running image x table registers targets
+  start-running : {x : Design} {table : List ℕ} (old : List ℕ) → Keeps image → Describes image x → table ≡ withDefaults (designOf image) old → x .states ≤ length old → Running image x table registers targets
   start-running {x} old keeps describes e room =
       let d = designOf image in
       let count = states-count describes in
@@ -81,3 +82,7 @@ module _ (image : List ℕ) (bytes : (i : ℕ) → Fits w8 (getD image i 0)) (re
         states = targets-long describes;
         inside = λ s l. default-inside describes l (ap (λ (t : List ℕ). getD t s 0) targets-are ∙ reset-target d s (omega arith));
       }
+
+  pub start-at : {x : Design} {table : List ℕ} (old : List ℕ) → Keeps image → Describes image x → table ≡ withDefaults (designOf image) old → x .states ≤ length old → RunningAt image x table registers targets 0
+  unfolding afterCycles cycles afterLast
+  start-at old keeps describes e room = record { areas = start-areas; running = start-running old keeps describes e room }

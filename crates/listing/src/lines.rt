@@ -7,16 +7,14 @@ use calls::numbers::number;
 use design::Design;
 use machine::cycle::cycle;
 use model::Refusal;
-ghost use Prim.Native.Nat.{_*_, _≤_};
+ghost use Prim.Native.Nat.{_+_, _*_, _<_, _≤_};
 ghost use mathlib.Core.Path.{_≡_};
 ghost use lib.ListN.{length, take};
 ghost use Rattle.model.specs.Image.{designOf};
 ghost use Rattle.model.specs.Values.{wordsOf};
-ghost use Rattle.model.specs.Machine.{cycle as cycleOf};
 ghost use Rattle.model.specs.Listing.{header as headerOf, line as lineOf, refusalLine};
-ghost use Rattle.machine.specs.Cycles.{Running, areasIn};
 ghost use Rattle.listing.specs.Texts.{Put};
-ghost use Rattle.listing.specs.Lines.{shown, Listed};
+ghost use Rattle.listing.specs.Lines.{cycleLine, shown, RunningAt};
 
 // The line above the cycles.
 pub fn header(out: &mut [u8]) -> usize
@@ -58,22 +56,22 @@ fn line(
     registers_field(out, second, registers, count)
 }
 
-// Runs a cycle and puts its line.
+// Runs the cycle behind those done from reset, and puts its line.
 pub fn next_line(
     image: &[u8],
     design: Design,
     defaults: &[u8],
     registers: &mut [u8],
     targets: &mut [u8],
-    number: u32,
+    done: u32,
     out: &mut [u8],
 ) -> usize
-    requires { ⌜ Running (now image) design (now defaults) (now registers) (now targets) × (1421 ≤ length (now out)) ⌝ }
-    ensures { λ r. ⌜ Listed (cycleOf (designOf (now (image .entry))) (areasIn (designOf (now (image .entry))) (now (registers .entry)) (now (targets .entry)))) (areasIn (designOf (now (image .entry))) (now (registers .exit)) (now (targets .exit))) number (now (out .entry)) (now (out .exit)) r ⌝ }
-    ensures { λ r. ⌜ Running (now (image .entry)) design (now (defaults .entry)) (now (registers .exit)) (now (targets .exit)) ⌝ }
+    requires { ⌜ (1421 ≤ length (now out)) × (done + 1 < 4294967296) × RunningAt (now image) design (now defaults) (now registers) (now targets) done ⌝ }
+    ensures { λ r. ⌜ Put (now (out .entry)) 0 (cycleLine (designOf (now (image .entry))) done) (now (out .exit)) r ⌝ }
+    ensures { λ r. ⌜ RunningAt (now (image .entry)) design (now (defaults .entry)) (now (registers .exit)) (now (targets .exit)) (done + 1) ⌝ }
     ensures { λ r. ⌜ r ≤ 1421 ⌝ }
 {
     let mut walk = [0u8; Design::STATES];
     let states = cycle(image, design, defaults, registers, targets, &mut walk);
-    line(out, number, &walk, states, registers, design.registers)
+    line(out, done + 1, &walk, states, registers, design.registers)
 }

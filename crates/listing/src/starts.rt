@@ -4,11 +4,9 @@ use design::reset::default_targets;
 ghost use Prim.Native.Nat.{_*_, _≤_};
 ghost use mathlib.Core.Path.{_≡_};
 ghost use lib.ListN.{length};
-ghost use Rattle.model.specs.Image.{designOf};
 ghost use Rattle.model.specs.Rules.{Keeps};
-ghost use Rattle.model.specs.Machine.{resetAreas};
 ghost use Rattle.design.specs.Describes.{Describes};
-ghost use Rattle.machine.specs.Cycles.{Running, areasIn};
+ghost use Rattle.listing.specs.Lines.{RunningAt};
 
 // Writes the table of default targets and resets the areas.
 pub fn start(
@@ -19,8 +17,7 @@ pub fn start(
     targets: &mut [u8],
 )
     requires { ⌜ Keeps (now image) × Describes (now image) design × (design .states ≤ length (now defaults)) × (length (now registers) ≡ 4 * design .registers) × (length (now targets) ≡ design .states) ⌝ }
-    ensures { λ _. ⌜ areasIn (designOf (now (image .entry))) (now (registers .exit)) (now (targets .exit)) ≡ resetAreas (designOf (now (image .entry))) ⌝ }
-    ensures { λ _. ⌜ Running (now (image .entry)) design (now (defaults .exit)) (now (registers .exit)) (now (targets .exit)) ⌝ }
+    ensures { λ _. ⌜ RunningAt (now (image .entry)) design (now (defaults .exit)) (now (registers .exit)) (now (targets .exit)) 0 ⌝ }
 {
     default_targets(image, design, defaults);
     design.reset(image, registers, targets);

@@ -1,6 +1,5 @@
 use Rattle.design.proofs.ResetRules.{states-few}
-use Rattle.lister.proofs.Buffers.{area-same, targets-same}
-use Rattle.lister.proofs.ListRules.{from-reset}
+use Rattle.lister.proofs.ListRules.{area-same, targets-same, areas-after}
 use borrow.Author.Needs.{needs}
 use Rattle.lister.proofs.list_on.Statement.{statement}
 use Rattle.lister.proofs.list_on.Tie as tie
@@ -24,7 +23,7 @@ same-length-2 : tie.Need-same-length-2
 same-length-2 c = search targets-same
 
 returns : tie.Need-returns
-returns c = search (from-reset, needs)
+returns c = search (areas-after, needs)
 
 pub list-on-spec : {M : Type 1} → statement M
 list-on-spec =

@@ -1,5 +1,4 @@
 use Rattle.lister.proofs.Buffers.{line-fits}
-use Rattle.lister.proofs.ListRules.{listed-after}
 use borrow.Author.Needs.{needs}
 use Rattle.lister.proofs.print_cycle.Statement.{statement}
 use Rattle.lister.proofs.print_cycle.Tie as tie
@@ -23,7 +22,7 @@ same-length-2 : tie.Need-same-length-2
 same-length-2 c = search needs
 
 returns : tie.Need-returns
-returns c = (search (listed-after, needs), search needs)
+returns c = search needs
 
 pub print-cycle-spec : {M : Type 1} → statement M
 print-cycle-spec =

@@ -1,5 +1,5 @@
 use Prim.Native.Nat.{_-_}
-use Rattle.lister.proofs.ListRules.{ListSo, list-begins, list-falls, list-more, list-done}
+use Rattle.lister.proofs.ListRules.{ListSo, list-begins, list-fits, list-next, list-falls, list-at, list-more, list-done}
 use borrow.Author.Needs.{needs}
 use Rattle.lister.proofs.print_cycles.Statement.{statement}
 use Rattle.lister.proofs.print_cycles.Tie as tie
@@ -13,11 +13,11 @@ abbrev μ-loop : tie.MeasureT-loop
 loop-holds : tie.Need-loop-holds Inv-loop μ-loop
 loop-holds c = search (list-begins, needs)
 
-add-i : tie.Need-add-i Inv-loop μ-loop
-add-i c = search needs
-
 print-cycle-requires : tie.Need-print-cycle-requires Inv-loop μ-loop
-print-cycle-requires c κs = search needs
+print-cycle-requires c κs = (search (list-fits, needs), search (list-at, needs))
+
+add-i : tie.Need-add-i Inv-loop μ-loop
+add-i c = search (list-next, needs)
 
 loop-less : tie.Need-loop-less Inv-loop μ-loop
 loop-less c = search (list-falls, needs)
@@ -32,7 +32,7 @@ same-length-2 : tie.Need-same-length-2 Inv-loop μ-loop
 same-length-2 c = search needs
 
 returns : tie.Need-returns Inv-loop μ-loop
-returns c = (search (list-done, needs), search needs)
+returns c = search (list-done, needs)
 
 pub print-cycles-spec : {M : Type 1} → statement M
 print-cycles-spec =
@@ -41,8 +41,8 @@ print-cycles-spec =
     Inv-loop
     μ-loop
     loop-holds
-    add-i
     print-cycle-requires
+    add-i
     loop-less
     loop-again
     same-length

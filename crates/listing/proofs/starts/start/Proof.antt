@@ -1,4 +1,4 @@
-use Rattle.listing.proofs.StartRules.{start-kept, start-areas, start-running}
+use Rattle.listing.proofs.StartRules.{start-kept, start-at}
 use borrow.Author.Needs.{needs}
 use Rattle.listing.proofs.starts.start.Statement.{statement}
 use Rattle.listing.proofs.starts.start.Tie as tie
@@ -19,7 +19,7 @@ same-length-3 : tie.Need-same-length-3
 same-length-3 c = search needs
 
 returns : tie.Need-returns
-returns c = (search (start-areas, needs), search (start-running, needs))
+returns c = search (start-at, needs)
 
 pub start-spec : {M : Type 1} → statement M
 start-spec =
