@@ -1,3 +1,3 @@
--- Laws of answers in numbers.
+-- Laws of answers in numbers, and the promises as a host has them.
 pub mod Answered
 pub mod Promises

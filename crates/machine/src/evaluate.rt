@@ -33,7 +33,8 @@ fn apply(kind: u8, x: u32, y: u32) -> u32
     }
 }
 
-// The value of expression e over the registers. The place is where the expressions begin: the whole design would be copied at every call.
+// The value of expression e over the registers. The place is where the expressions begin: the whole
+// design would be copied at every call.
 pub fn evaluate(image: &[u8], at: usize, registers: &[u8], e: usize) -> u32
     requires { ⌜ Evaluating (now image) at (now registers) e ⌝ }
     ensures { λ v. ⌜ v ≡ eval (valuesIn (designOf (now (image .entry))) (now (registers .entry))) (exprOf (designOf (now (image .entry))) e) ⌝ }

@@ -22,7 +22,8 @@ fn transfers(kind: u8) -> bool
     (kind == 3) | (kind == 4)
 }
 
-// Command n runs: the registers are what it leaves, and the answer is the command that ran last, which holds no other.
+// Command n runs: the registers are what it leaves, and the answer is the command that ran last,
+// which holds no other.
 // A reborrow keeps the slice in registers of the processor; image itself would go through memory.
 fn last_run(
     image: &[u8],

@@ -1,4 +1,4 @@
-// One machine: the values of expressions, the effects of commands, and the targets of states.
+// One machine: the values of expressions, the effects of commands, the targets of states, and cycles.
 pub mod cycle;
 pub mod evaluate;
 pub mod execute;
