@@ -1,4 +1,5 @@
 -- Laws of the rules as the code tests them.
+pub mod PlaceRules
 pub mod ShapeRules
 pub mod Masks
 pub mod FlowRules

@@ -1,3 +1,4 @@
 -- What the passes of the checker say of a node: the meaning's rules, in the form in which the recursion over parts carries them.
+pub mod Places
 pub mod Shapes
 pub mod Flows
