@@ -1,5 +1,5 @@
 -- What the flow pass finds at a command of each kind, from what it finds at the parts.
-use Prim.Native.Nat.{ℕ, zero, suc, _+_, _*_, _≤_, _<_}
+use Prim.Native.Nat.{ℕ, zero, suc, min, _+_, _*_, _≤_, _<_}
 use mathlib.Core.Path.{_≡_, refl, sym, _∙_, ap}
 use mathlib.Core.Bool.{Bool}
 use mathlib.Core.List.{List, [], _∷_, _++_}
@@ -7,14 +7,13 @@ use native.Mathlib.Omega.{arith}
 use native.Mathlib.Nat.{lt-of-le-of-lt}
 use lib.Bits.{bitAnd, and-le-l}
 use lib.ListN.{length}
-use Rattle.model.specs.declared.Refusal.the-variants.{GotoFlow, FallFlow}
+use Rattle.model.specs.declared.Refusal.{Refusal}
 use Rattle.model.specs.declared.Answer.{Answer}
-use Rattle.model.specs.declared.Answer.the-variants.{Accepted}
 use Rattle.model.specs.Image.{Design as Table, Node, State, designOf, stateAt, commandAt}
 use Rattle.model.specs.Lattice.{allFlowTo, stateLabel}
-use Rattle.model.specs.Kinds.{CommandKind, skips, assigns, sequences, falls, goes, branches, commandKind}
+use Rattle.model.specs.Kinds.{CommandKind, skips, sequences, falls, goes, branches, commandKind}
 use Rattle.model.specs.Trees.{exprOf, cmdOf, bodyOf}
-use Rattle.model.specs.Flow.{refusedUnless, labelsRead, flowFaults, stateFlowFaults, nearer, nearest, flowAnswer}
+use Rattle.model.specs.Flow.{refusedUnless, labelsRead, flowFaults, stateFlowFaults, nearest, flowAnswer}
 use Rattle.model.specs.Rules.{CommandHolds}
 use Rattle.model.proofs.Laws.Faults.{nearest-append}
 use Rattle.model.proofs.Laws.Trees.{cmd-skip, cmd-sequence, cmd-fall, cmd-goto, cmd-branch}
@@ -24,9 +23,10 @@ use native.Mathlib.Numerals.{add-one}
 use Rattle.design.specs.declared.Design.{Design}
 use Rattle.design.specs.Records.{nodeIn, stateIn, rowIn}
 use Rattle.design.proofs.Laws.{labels-count, states-count, commands-count, expressions-count, row-inside, command-inside, row-in, state-in, command-in}
-use Rattle.bodies.specs.Flows.{MaskOf, FlowKnown, Reading, Assigning, Flowing}
+use Rattle.bodies.specs.Places.{placeUnless}
+use Rattle.bodies.specs.Flows.{MaskOf, FlowKnown, Naming, Gathering, Assigning, Flowing, flowRefusal, answerAmong}
 use Rattle.bodies.proofs.Masks.{mask-both, mask-row}
-use Rattle.bodies.proofs.FlowRules.{state-label-is, state-label-below}
+use Rattle.bodies.proofs.FlowRules.{answer-none, answer-lower, answer-charged, commands-few, state-label-is, state-label-below}
 
 -- a kind that is no assignment, sequence, fall, goto or if is a skip
 skip-kind : (d : Table) (n k : ℕ) (x : Node) → (k ≡ 1 → ⊥) → (k ≡ 2 → ⊥) → (k ≡ 3 → ⊥) → (k ≡ 4 → ⊥) → (k ≡ 5 → ⊥) → CommandHolds d n (commandKind k) x → commandKind k ≡ skips
@@ -43,123 +43,154 @@ skip-kind d n (suc (suc (suc (suc (suc (suc k)))))) x a b c e f h = absurd h
 pub mask-small : {a : ℕ} (b : ℕ) → a < 65536 → bitAnd a b < 65536
 mask-small {a} b l = lt-of-le-of-lt (and-le-l a b) l
 
-module _ {image : List ℕ} {x : Design} {s n : ℕ} (flowing : Flowing image x s n) where
-  pub command-node-inside : x .«commands_at» + 8 * n + 8 ≤ length image
-  command-node-inside = command-inside (flowing .known .describes) (flowing .node)
+module _ {image : List ℕ} {registersAt statesAt place expressionsAt s n : ℕ} (flowing : Flowing image registersAt statesAt place expressionsAt s n) where
+  pub command-node-inside : place + 8 * n + 8 ≤ length image
+  command-node-inside = rw (flowing .commands-begin) (command-inside (flowing .known .describes) (flowing .node))
 
-  same-command : nodeIn image (x .«commands_at») n ≡ commandAt (designOf image) n
-  same-command = command-in (flowing .known .describes) (flowing .node)
+  same-command : nodeIn image place n ≡ commandAt (designOf image) n
+  same-command = rw (flowing .commands-begin) (command-in (flowing .known .describes) (flowing .node))
 
-  command-kind-is : {k m : ℕ} → k ≡ nodeIn image (x .«commands_at») n .kind → k ≡ m → commandAt (designOf image) n .kind ≡ m
+  command-kind-is : {k m : ℕ} → k ≡ nodeIn image place n .kind → k ≡ m → commandAt (designOf image) n .kind ≡ m
   command-kind-is p q = sym (p ∙ ap (λ (y : Node). y .kind) same-command) ∙ q
 
-  command-holds : {k m : ℕ} → k ≡ nodeIn image (x .«commands_at») n .kind → k ≡ m → CommandHolds (designOf image) n (commandKind m) (commandAt (designOf image) n)
+  command-holds : {k m : ℕ} → k ≡ nodeIn image place n .kind → k ≡ m → CommandHolds (designOf image) n (commandKind m) (commandAt (designOf image) n)
   command-holds p q =
       let count = commands-count (flowing .known .describes) in
       let node = flowing .node in
       rw (command-kind-is p q) at (command-iff (designOf image) n .0 (flowing .known .commands .kept n (omega arith)))
 
-  lower-flowing : (m : ℕ) → m < n → Flowing image x s m
-  lower-flowing m l = let node = flowing .node in record { known = flowing .known; state = flowing .state; node = omega arith }
+  lower-flowing : (m : ℕ) → m < n → Flowing image registersAt statesAt place expressionsAt s m
+  lower-flowing m l =
+      let node = flowing .node in
+      record {
+        design = flowing .design;
+        known = flowing .known;
+        state = flowing .state;
+        node = omega arith;
+        registers-begin = flowing .registers-begin;
+        states-begin = flowing .states-begin;
+        commands-begin = flowing .commands-begin;
+        expressions-begin = flowing .expressions-begin;
+      }
 
-  pub assigning : {k : ℕ} → k ≡ nodeIn image (x .«commands_at») n .kind → k ≡ 1 → Assigning image x n
-  assigning p q = record { known = flowing .known; node = flowing .node; kind = command-kind-is p q }
+  pub assigning : {k : ℕ} → k ≡ nodeIn image place n .kind → k ≡ 1 → Assigning image registersAt place expressionsAt n
+  assigning p q =
+      record {
+        design = flowing .design;
+        known = flowing .known;
+        node = flowing .node;
+        kind = command-kind-is p q;
+        registers-begin = flowing .registers-begin;
+        commands-begin = flowing .commands-begin;
+        expressions-begin = flowing .expressions-begin;
+      }
 
-  sequence-a-below : {k a : ℕ} → k ≡ nodeIn image (x .«commands_at») n .kind → k ≡ 2 → a ≡ nodeIn image (x .«commands_at») n .a → a < n
+  sequence-a-below : {k a : ℕ} → k ≡ nodeIn image place n .kind → k ≡ 2 → a ≡ nodeIn image place n .a → a < n
   unfolding commandKind
   sequence-a-below p q e = rw (e ∙ ap (λ (y : Node). y .a) same-command) (command-holds p q .1)
 
-  pub sequence-a-falls : {k a t : ℕ} → k ≡ nodeIn image (x .«commands_at») n .kind → k ≡ 2 → a ≡ nodeIn image (x .«commands_at») n .a → n ≡ t → a < t
+  pub sequence-a-falls : {k a t : ℕ} → k ≡ nodeIn image place n .kind → k ≡ 2 → a ≡ nodeIn image place n .a → n ≡ t → a < t
   sequence-a-falls p q e m = rw m at (sequence-a-below p q e)
 
-  pub sequence-a-flowing : {k a : ℕ} → k ≡ nodeIn image (x .«commands_at») n .kind → k ≡ 2 → a ≡ nodeIn image (x .«commands_at») n .a → Flowing image x s a
+  pub sequence-a-flowing : {k a : ℕ} → k ≡ nodeIn image place n .kind → k ≡ 2 → a ≡ nodeIn image place n .a → Flowing image registersAt statesAt place expressionsAt s a
   sequence-a-flowing {a = m} p q e = lower-flowing m (sequence-a-below p q e)
 
-  sequence-b-below : {k b : ℕ} → k ≡ nodeIn image (x .«commands_at») n .kind → k ≡ 2 → b ≡ nodeIn image (x .«commands_at») n .b → b < n
+  sequence-b-below : {k b : ℕ} → k ≡ nodeIn image place n .kind → k ≡ 2 → b ≡ nodeIn image place n .b → b < n
   unfolding commandKind
   sequence-b-below p q e = rw (e ∙ ap (λ (y : Node). y .b) same-command) (command-holds p q .2)
 
-  pub sequence-b-falls : {k b t : ℕ} → k ≡ nodeIn image (x .«commands_at») n .kind → k ≡ 2 → b ≡ nodeIn image (x .«commands_at») n .b → n ≡ t → b < t
+  pub sequence-b-falls : {k b t : ℕ} → k ≡ nodeIn image place n .kind → k ≡ 2 → b ≡ nodeIn image place n .b → n ≡ t → b < t
   sequence-b-falls p q e m = rw m at (sequence-b-below p q e)
 
-  pub sequence-b-flowing : {k b : ℕ} → k ≡ nodeIn image (x .«commands_at») n .kind → k ≡ 2 → b ≡ nodeIn image (x .«commands_at») n .b → Flowing image x s b
+  pub sequence-b-flowing : {k b : ℕ} → k ≡ nodeIn image place n .kind → k ≡ 2 → b ≡ nodeIn image place n .b → Flowing image registersAt statesAt place expressionsAt s b
   sequence-b-flowing {b = m} p q e = lower-flowing m (sequence-b-below p q e)
 
-  branch-b-below : {k b : ℕ} → k ≡ nodeIn image (x .«commands_at») n .kind → k ≡ 5 → b ≡ nodeIn image (x .«commands_at») n .b → b < n
+  branch-b-below : {k b : ℕ} → k ≡ nodeIn image place n .kind → k ≡ 5 → b ≡ nodeIn image place n .b → b < n
   unfolding commandKind
   branch-b-below p q e = rw (e ∙ ap (λ (y : Node). y .b) same-command) (command-holds p q .2)
 
-  pub branch-b-falls : {k b t : ℕ} → k ≡ nodeIn image (x .«commands_at») n .kind → k ≡ 5 → b ≡ nodeIn image (x .«commands_at») n .b → n ≡ t → b < t
+  pub branch-b-falls : {k b t : ℕ} → k ≡ nodeIn image place n .kind → k ≡ 5 → b ≡ nodeIn image place n .b → n ≡ t → b < t
   branch-b-falls p q e m = rw m at (branch-b-below p q e)
 
-  pub branch-b-flowing : {k b : ℕ} → k ≡ nodeIn image (x .«commands_at») n .kind → k ≡ 5 → b ≡ nodeIn image (x .«commands_at») n .b → Flowing image x s b
+  pub branch-b-flowing : {k b : ℕ} → k ≡ nodeIn image place n .kind → k ≡ 5 → b ≡ nodeIn image place n .b → Flowing image registersAt statesAt place expressionsAt s b
   branch-b-flowing {b = m} p q e = lower-flowing m (branch-b-below p q e)
 
-  branch-c-below : {k c : ℕ} → k ≡ nodeIn image (x .«commands_at») n .kind → k ≡ 5 → c ≡ nodeIn image (x .«commands_at») n .c → c < n
+  branch-c-below : {k c : ℕ} → k ≡ nodeIn image place n .kind → k ≡ 5 → c ≡ nodeIn image place n .c → c < n
   unfolding commandKind
   branch-c-below p q e = rw (e ∙ ap (λ (y : Node). y .c) same-command) (command-holds p q .3)
 
-  pub branch-c-falls : {k c t : ℕ} → k ≡ nodeIn image (x .«commands_at») n .kind → k ≡ 5 → c ≡ nodeIn image (x .«commands_at») n .c → n ≡ t → c < t
+  pub branch-c-falls : {k c t : ℕ} → k ≡ nodeIn image place n .kind → k ≡ 5 → c ≡ nodeIn image place n .c → n ≡ t → c < t
   branch-c-falls p q e m = rw m at (branch-c-below p q e)
 
-  pub branch-c-flowing : {k c : ℕ} → k ≡ nodeIn image (x .«commands_at») n .kind → k ≡ 5 → c ≡ nodeIn image (x .«commands_at») n .c → Flowing image x s c
+  pub branch-c-flowing : {k c : ℕ} → k ≡ nodeIn image place n .kind → k ≡ 5 → c ≡ nodeIn image place n .c → Flowing image registersAt statesAt place expressionsAt s c
   branch-c-flowing {c = m} p q e = lower-flowing m (branch-c-below p q e)
 
-  pub condition-reading : {k e : ℕ} → k ≡ nodeIn image (x .«commands_at») n .kind → k ≡ 5 → e ≡ nodeIn image (x .«commands_at») n .a → Reading image x e
+  pub condition-reading : {k e : ℕ} → k ≡ nodeIn image place n .kind → k ≡ 5 → e ≡ nodeIn image place n .a → Gathering image registersAt expressionsAt e
   unfolding commandKind
   condition-reading {e = e} p q f =
       let count = expressions-count (flowing .known .describes) in
       let named : e < length (designOf image .expressions) = rw (f ∙ ap (λ (y : Node). y .a) same-command) (command-holds p q .1) in
-      record { known = flowing .known; node = omega arith }
+      record {
+        design = flowing .design;
+        reading = record { known = flowing .known; node = omega arith };
+        registers-begin = flowing .registers-begin;
+        expressions-begin = flowing .expressions-begin;
+      }
 
-  pub named-state : {k t : ℕ} → k ≡ nodeIn image (x .«commands_at») n .kind → k ≡ 4 → t ≡ nodeIn image (x .«commands_at») n .item → t < x .states
+  pub named-state : {k t : ℕ} → k ≡ nodeIn image place n .kind → k ≡ 4 → t ≡ nodeIn image place n .item → Naming image statesAt t
   unfolding commandKind
   named-state {t = t} p q f =
       let count = states-count (flowing .known .describes) in
       let named : t < length (designOf image .states) = rw (f ∙ ap (λ (y : Node). y .item) same-command) (command-holds p q .0) in
-      omega arith
+      record { design = flowing .design; known = flowing .known; state = omega arith; begins = flowing .states-begin }
+
+  pub own-state : Naming image statesAt s
+  own-state = record { design = flowing .design; known = flowing .known; state = flowing .state; begins = flowing .states-begin }
 
   -- ---- what the pass finds
-  kind-of : {k m : ℕ} (c : CommandKind) → k ≡ nodeIn image (x .«commands_at») n .kind → k ≡ m → commandKind m ≡ c → commandKind (commandAt (designOf image) n .kind) ≡ c
+  kind-of : {k m : ℕ} (c : CommandKind) → k ≡ nodeIn image place n .kind → k ≡ m → commandKind m ≡ c → commandKind (commandAt (designOf image) n .kind) ≡ c
   kind-of c p q e = ap commandKind (command-kind-is p q) ∙ e
 
+  charged : {r : Refusal} (b : Bool) → flowRefusal (commandKind (commandAt (designOf image) n .kind)) ≡ r → answerAmong (designOf image) (placeUnless b n) ≡ nearest (refusedUnless b r n)
+  charged b e =
+      let count = commands-count (flowing .known .describes) in
+      let node = flowing .node in
+      answer-charged (designOf image) b (omega arith) (commands-few (flowing .known .describes)) e
+
   pub flow-sequence :
-      {k a b context : ℕ} {p q r : Answer} {labels : List ℕ}
-      → k ≡ nodeIn image (x .«commands_at») n .kind
+      {k a b r context : ℕ} {labels : List ℕ} (p q : ℕ)
+      → k ≡ nodeIn image place n .kind
       → k ≡ 2
-      → a ≡ nodeIn image (x .«commands_at») n .a
-      → b ≡ nodeIn image (x .«commands_at») n .b
-      → ((labels : List ℕ) → MaskOf (designOf image .rows) labels context → p ≡ nearest (flowFaults (designOf image) s labels (cmdOf (designOf image) a)))
-      → ((labels : List ℕ) → MaskOf (designOf image .rows) labels context → q ≡ nearest (flowFaults (designOf image) s labels (cmdOf (designOf image) b)))
-      → r ≡ nearer p q
+      → a ≡ nodeIn image place n .a
+      → b ≡ nodeIn image place n .b
+      → ((labels : List ℕ) → MaskOf (designOf image .rows) labels context → answerAmong (designOf image) p ≡ nearest (flowFaults (designOf image) s labels (cmdOf (designOf image) a)))
+      → ((labels : List ℕ) → MaskOf (designOf image .rows) labels context → answerAmong (designOf image) q ≡ nearest (flowFaults (designOf image) s labels (cmdOf (designOf image) b)))
+      → r ≡ min p q
       → MaskOf (designOf image .rows) labels context
-      → r ≡ nearest (flowFaults (designOf image) s labels (cmdOf (designOf image) n))
+      → answerAmong (designOf image) r ≡ nearest (flowFaults (designOf image) s labels (cmdOf (designOf image) n))
   unfolding commandKind flowFaults
-  flow-sequence {a = a} {b = b} {labels = labels} e f fa fb fp fq fr mask =
+  flow-sequence {a = a} {b = b} {labels = labels} p q e f fa fb fp fq fr mask =
       let d = designOf image in
       let tree = cmd-sequence d n (kind-of sequences e f refl) (command-holds e f .1) (command-holds e f .2) in
       let first : a ≡ commandAt d n .a = fa ∙ ap (λ (y : Node). y .a) same-command in
       let second : b ≡ commandAt d n .b = fb ∙ ap (λ (y : Node). y .b) same-command in
-      fr
-      ∙ rw
-      (fp labels mask, fq labels mask, first, second, tree)
-      (sym (nearest-append (flowFaults d s labels (cmdOf d (commandAt d n .a))) (flowFaults d s labels (cmdOf d (commandAt d n .b)))))
+      rw fr (answer-lower d p q ∙ rw (fp labels mask, fq labels mask, first, second, tree) (sym (nearest-append (flowFaults d s labels (cmdOf d (commandAt d n .a))) (flowFaults d s labels (cmdOf d (commandAt d n .b))))))
 
   pub flow-branch :
-      {k e b c m context : ℕ} {p q r : Answer} {labels : List ℕ}
-      → k ≡ nodeIn image (x .«commands_at») n .kind
+      {k e b c m r context : ℕ} {labels : List ℕ} (p q : ℕ)
+      → k ≡ nodeIn image place n .kind
       → k ≡ 5
-      → e ≡ nodeIn image (x .«commands_at») n .a
-      → b ≡ nodeIn image (x .«commands_at») n .b
-      → c ≡ nodeIn image (x .«commands_at») n .c
+      → e ≡ nodeIn image place n .a
+      → b ≡ nodeIn image place n .b
+      → c ≡ nodeIn image place n .c
       → MaskOf (designOf image .rows) (labelsRead (designOf image) (exprOf (designOf image) e)) m
-      → ((labels : List ℕ) → MaskOf (designOf image .rows) labels (bitAnd context m) → p ≡ nearest (flowFaults (designOf image) s labels (cmdOf (designOf image) b)))
-      → ((labels : List ℕ) → MaskOf (designOf image .rows) labels (bitAnd context m) → q ≡ nearest (flowFaults (designOf image) s labels (cmdOf (designOf image) c)))
-      → r ≡ nearer p q
+      → ((labels : List ℕ) → MaskOf (designOf image .rows) labels (bitAnd context m) → answerAmong (designOf image) p ≡ nearest (flowFaults (designOf image) s labels (cmdOf (designOf image) b)))
+      → ((labels : List ℕ) → MaskOf (designOf image .rows) labels (bitAnd context m) → answerAmong (designOf image) q ≡ nearest (flowFaults (designOf image) s labels (cmdOf (designOf image) c)))
+      → r ≡ min p q
       → MaskOf (designOf image .rows) labels context
-      → r ≡ nearest (flowFaults (designOf image) s labels (cmdOf (designOf image) n))
+      → answerAmong (designOf image) r ≡ nearest (flowFaults (designOf image) s labels (cmdOf (designOf image) n))
   unfolding commandKind flowFaults
-  flow-branch {e = e} {b = b} {c = c} {labels = labels} g f fe fb fc read fp fq fr mask =
+  flow-branch {e = e} {b = b} {c = c} {labels = labels} p q g f fe fb fc read fp fq fr mask =
       let d = designOf image in
       let tree = cmd-branch d n (kind-of branches g f refl) (command-holds g f .2) (command-holds g f .3) in
       let condition : e ≡ commandAt d n .a = fe ∙ ap (λ (y : Node). y .a) same-command in
@@ -167,52 +198,52 @@ module _ {image : List ℕ} {x : Design} {s n : ℕ} (flowing : Flowing image x 
       let second : c ≡ commandAt d n .c = fc ∙ ap (λ (y : Node). y .c) same-command in
       let inner = labels ++ labelsRead d (exprOf d (commandAt d n .a)) in
       let both : MaskOf (d .rows) inner _ = mask-both mask (rw condition at read) in
-      fr
-      ∙ rw
-      (fp inner both, fq inner both, first, second, tree)
-      (sym (nearest-append (flowFaults d s inner (cmdOf d (commandAt d n .b))) (flowFaults d s inner (cmdOf d (commandAt d n .c)))))
+      rw fr (answer-lower d p q ∙ rw (fp inner both, fq inner both, first, second, tree) (sym (nearest-append (flowFaults d s inner (cmdOf d (commandAt d n .b))) (flowFaults d s inner (cmdOf d (commandAt d n .c))))))
 
   pub flow-fall :
-      {k context : ℕ} {b : Bool} {r : Answer} {labels : List ℕ}
-      → k ≡ nodeIn image (x .«commands_at») n .kind
+      {k r context : ℕ} {b : Bool} {labels : List ℕ}
+      → k ≡ nodeIn image place n .kind
       → k ≡ 3
       → ((labels : List ℕ) → MaskOf (designOf image .rows) labels context → b ≡ allFlowTo (designOf image .rows) labels (stateLabel (designOf image) s))
-      → r ≡ nearest (refusedUnless b FallFlow n)
+      → r ≡ placeUnless b n
       → MaskOf (designOf image .rows) labels context
-      → r ≡ nearest (flowFaults (designOf image) s labels (cmdOf (designOf image) n))
-  unfolding commandKind flowFaults
-  flow-fall {labels = labels} e f fb fr mask = fr ∙ rw (fb labels mask, cmd-fall (designOf image) n (kind-of falls e f refl)) refl
+      → answerAmong (designOf image) r ≡ nearest (flowFaults (designOf image) s labels (cmdOf (designOf image) n))
+  unfolding commandKind flowFaults flowRefusal
+  flow-fall {b = b} {labels = labels} e f fb fr mask =
+      let kind = kind-of falls e f refl in
+      rw fr (charged b (ap flowRefusal kind) ∙ rw (fb labels mask, cmd-fall (designOf image) n kind) refl)
 
   pub flow-goto :
-      {k t context : ℕ} {b : Bool} {r : Answer} {labels : List ℕ}
-      → k ≡ nodeIn image (x .«commands_at») n .kind
+      {k t r context : ℕ} {b : Bool} {labels : List ℕ}
+      → k ≡ nodeIn image place n .kind
       → k ≡ 4
-      → t ≡ nodeIn image (x .«commands_at») n .item
+      → t ≡ nodeIn image place n .item
       → ((labels : List ℕ) → MaskOf (designOf image .rows) labels context → b ≡ allFlowTo (designOf image .rows) labels (stateLabel (designOf image) t))
-      → r ≡ nearest (refusedUnless b GotoFlow n)
+      → r ≡ placeUnless b n
       → MaskOf (designOf image .rows) labels context
-      → r ≡ nearest (flowFaults (designOf image) s labels (cmdOf (designOf image) n))
-  unfolding commandKind flowFaults
-  flow-goto {t = t} {labels = labels} e f ft fb fr mask =
+      → answerAmong (designOf image) r ≡ nearest (flowFaults (designOf image) s labels (cmdOf (designOf image) n))
+  unfolding commandKind flowFaults flowRefusal
+  flow-goto {t = t} {b = b} {labels = labels} e f ft fb fr mask =
       let named : t ≡ commandAt (designOf image) n .item = ft ∙ ap (λ (y : Node). y .item) same-command in
-      fr ∙ rw (fb labels mask, named, cmd-goto (designOf image) n (kind-of goes e f refl)) refl
+      let kind = kind-of goes e f refl in
+      rw fr (charged b (ap flowRefusal kind) ∙ rw (fb labels mask, named, cmd-goto (designOf image) n kind) refl)
 
   pub flow-skip :
       {k context : ℕ} {labels : List ℕ}
-      → k ≡ nodeIn image (x .«commands_at») n .kind
+      → k ≡ nodeIn image place n .kind
       → (k ≡ 1 → ⊥)
       → (k ≡ 2 → ⊥)
       → (k ≡ 3 → ⊥)
       → (k ≡ 4 → ⊥)
       → (k ≡ 5 → ⊥)
       → MaskOf (designOf image .rows) labels context
-      → Accepted 0 ≡ nearest (flowFaults (designOf image) s labels (cmdOf (designOf image) n))
+      → answerAmong (designOf image) 1024 ≡ nearest (flowFaults (designOf image) s labels (cmdOf (designOf image) n))
   unfolding flowFaults nearest
   flow-skip {k} e a b c f g mask =
       let d = designOf image in
-      rw (cmd-skip d n (kind-of skips e refl (skip-kind d n k (commandAt d n) a b c f g (command-holds e refl)))) refl
+      rw (cmd-skip d n (kind-of skips e refl (skip-kind d n k (commandAt d n) a b c f g (command-holds e refl)))) (answer-none d (commands-few (flowing .known .describes)))
 
-pub ruleset flow-laws = (command-node-inside, assigning, mask-small, condition-reading, named-state, flow-sequence, flow-branch, flow-fall, flow-goto, flow-skip)
+pub ruleset flow-laws = (command-node-inside, assigning, mask-small, condition-reading, named-state, own-state, flow-sequence, flow-branch, flow-fall, flow-goto, flow-skip)
 
 -- ---- states
 module _ {image : List ℕ} {x : Design} (known : FlowKnown image x) where
@@ -222,13 +253,22 @@ module _ {image : List ℕ} {x : Design} (known : FlowKnown image x) where
       let below = state-label-below known h in
       row-inside (known .describes) (rw (state-label-is known h e) (omega arith))
 
-  pub state-flowing : {s n : ℕ} → s < x .states → n ≡ stateIn image (x .«states_at») s .command → Flowing image x s n
+  pub state-flowing : {s n : ℕ} → s < x .states → n ≡ stateIn image (x .«states_at») s .command → Flowing image (x .«registers_at») (x .«states_at») (x .«commands_at») (x .«expressions_at») s n
   state-flowing {s} {n} l e =
       let states = states-count (known .describes) in
       let commands = commands-count (known .describes) in
       let kept = state-iff (designOf image) s .0 (known .states .kept s (omega arith)) .command in
       let same : n ≡ stateAt (designOf image) s .command = e ∙ ap (λ (y : State). y .command) (state-in (known .describes) l) in
-      record { known = known; state = l; node = omega arith }
+      record {
+        design = x;
+        known = known;
+        state = l;
+        node = omega arith;
+        registers-begin = refl;
+        states-begin = refl;
+        commands-begin = refl;
+        expressions-begin = refl;
+      }
 
   -- the context of a body is the row of its state's label
   state-mask : {s l m : ℕ} → s < x .states → l ≡ stateIn image (x .«states_at») s .label → m ≡ rowIn image 20 l → m < 65536 → MaskOf (designOf image .rows) (stateLabel (designOf image) s ∷ []) m
@@ -238,37 +278,37 @@ module _ {image : List ℕ} {x : Design} (known : FlowKnown image x) where
       mask-row (f ∙ rw (state-label-is known h e) (row-in (known .describes) (omega arith))) small
 
   pub state-flow-rule :
-      {s l n m : ℕ} {a : Answer}
+      {s l n m : ℕ} (a : ℕ)
       → s < x .states
       → l ≡ stateIn image (x .«states_at») s .label
       → n ≡ stateIn image (x .«states_at») s .command
       → m ≡ rowIn image 20 l
       → m < 65536
-      → ((labels : List ℕ) → MaskOf (designOf image .rows) labels m → a ≡ nearest (flowFaults (designOf image) s labels (cmdOf (designOf image) n)))
-      → a ≡ nearest (stateFlowFaults (designOf image) s)
+      → ((labels : List ℕ) → MaskOf (designOf image .rows) labels m → answerAmong (designOf image) a ≡ nearest (flowFaults (designOf image) s labels (cmdOf (designOf image) n)))
+      → answerAmong (designOf image) a ≡ nearest (stateFlowFaults (designOf image) s)
   unfolding stateFlowFaults bodyOf
-  state-flow-rule {s} {l} {n} h fl fn fm small fa =
+  state-flow-rule {s} {l} {n} a h fl fn fm small fa =
       let d = designOf image in
       let same : n ≡ stateAt d s .command = fn ∙ ap (λ (y : State). y .command) (state-in (known .describes) h) in
       rw same at (fa (stateLabel d s ∷ []) (state-mask h fl fm small))
 
 -- the lowest fault of the states before s
-pub record NearestSo (d : Table) (s : ℕ) (lowest : Answer) : Type 0 where
-  pub is : lowest ≡ nearest (joinBelow (stateFlowFaults d) s)
+pub record NearestSo (d : Table) (s lowest : ℕ) : Type 0 where
+  pub is : answerAmong d lowest ≡ nearest (joinBelow (stateFlowFaults d) s)
 
 module _ {d : Table} where
-  pub nearest-none-yet : NearestSo d 0 (Accepted 0)
-  unfolding joinBelow nearest
-  nearest-none-yet = record { is = refl }
-
-  pub nearest-one-more : {s : ℕ} {so here r : Answer} → NearestSo d s so → here ≡ nearest (stateFlowFaults d s) → r ≡ nearer so here → NearestSo d (s + 1) r
+  pub nearest-one-more : {s so r : ℕ} (here : ℕ) → NearestSo d s so → answerAmong d here ≡ nearest (stateFlowFaults d s) → r ≡ min so here → NearestSo d (s + 1) r
   unfolding joinBelow
-  nearest-one-more {s} so here r =
-      record { is = r ∙ rw (so .is, here, add-one s) (sym (nearest-append (joinBelow (stateFlowFaults d) s) (stateFlowFaults d s))) }
+  nearest-one-more {s} {so} here before own r =
+      record { is = rw r (answer-lower d so here ∙ rw (before .is, own, add-one s) (sym (nearest-append (joinBelow (stateFlowFaults d) s) (stateFlowFaults d s)))) }
 
-pub nearest-of-all : {image : List ℕ} {x : Design} {s : ℕ} {r : Answer} → FlowKnown image x → NearestSo (designOf image) s r → s ≤ x .states → x .states ≤ s → r ≡ flowAnswer (designOf image)
+pub nearest-none-yet : {image : List ℕ} {x : Design} → FlowKnown image x → NearestSo (designOf image) 0 1024
+unfolding joinBelow nearest
+nearest-none-yet {image} known = record { is = answer-none (designOf image) (commands-few (known .describes)) }
+
+pub nearest-of-all : {image : List ℕ} {x : Design} {s r : ℕ} {a : Answer} → FlowKnown image x → NearestSo (designOf image) s r → s ≤ x .states → x .states ≤ s → a ≡ answerAmong (designOf image) r → a ≡ flowAnswer (designOf image)
 unfolding flowAnswer
-nearest-of-all {image} {x} {s} known so l m =
+nearest-of-all {image} {x} {s} known so l m e =
     let count = states-count (known .describes) in
     let end : s ≡ length (designOf image .states) = omega arith in
-    so .is ∙ ap (λ (n : ℕ). nearest (joinBelow (stateFlowFaults (designOf image)) n)) end
+    e ∙ so .is ∙ ap (λ (n : ℕ). nearest (joinBelow (stateFlowFaults (designOf image)) n)) end

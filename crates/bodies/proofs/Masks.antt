@@ -1,10 +1,10 @@
 -- Laws of masks: the bits of a conjunction are those of both, so a mask of two contexts together is the `and` of theirs.
-use Prim.Native.Nat.{ℕ, zero, suc, _+_, _*_, _/_, _%_, _^_, _≤_, _<_}
+use Prim.Native.Nat.{ℕ, _+_, _*_, _/_, _%_, _^_, _≤_, _<_}
 use mathlib.Core.Path.{_≡_, refl, sym, _∙_, ap}
 use mathlib.Core.Bool.{Bool, true, false, _&&_}
-use mathlib.Core.List.{List, [], _∷_, _++_, map}
+use mathlib.Core.List.{List, [], _∷_, _++_}
 use native.Mathlib.Omega.{arith}
-use native.Mathlib.Nat.{mod-lt, lt-of-le-of-lt}
+use native.Mathlib.Nat.{lt-of-le-of-lt}
 use lib.Bits.{bitAnd, and-le-l}
 use Rattle.model.proofs.Laws.Bits.{bit-and}
 use lib.Dec.{eqb}
@@ -16,9 +16,9 @@ use Rattle.model.proofs.Laws.Indices.{all-at}
 use Rattle.design.specs.declared.Design.{Design}
 use Rattle.design.specs.Records.{rowIn, registerIn}
 use Rattle.design.specs.Describes.{Describes}
-use Rattle.design.proofs.Laws.{labels-count, registers-count, row-inside, row-in, register-in}
+use Rattle.design.proofs.Laws.{labels-count, registers-count, row-inside, register-inside, row-in, register-in}
 use Rattle.model.proofs.Exact.Records.{register-iff}
-use Rattle.bodies.specs.Flows.{MaskOf, FlowKnown}
+use Rattle.bodies.specs.Flows.{MaskOf, FlowKnown, Labelled}
 
 -- ---- contexts
 and-assoc : (a b c : Bool) → (a && (b && c)) ≡ (a && b && c)
@@ -73,8 +73,15 @@ module _ {image : List ℕ} {x : Design} (known : FlowKnown image x) where
       let kept = register-iff (designOf image) r .0 (known .registers .kept r (omega arith)) .label in
       omega arith
 
-  pub label-inside : {r k : ℕ} → r < x .registers → k ≡ registerIn image (x .«registers_at») r .label → 20 + 2 * k + 2 ≤ length image
-  label-inside l e = row-inside (known .describes) (rw (label-is l e) (register-label l))
+module _ {image : List ℕ} {place r : ℕ} (here : Labelled image place r) where
+  pub register-place-inside : place + 6 * r + 6 ≤ length image
+  register-place-inside = rw (here .begins) (register-inside (here .known .describes) (here .register))
 
-  pub register-mask-rule : {r k m : ℕ} → r < x .registers → k ≡ registerIn image (x .«registers_at») r .label → m ≡ rowIn image 20 k → m < 65536 → MaskOf (designOf image .rows) (registerLabel (designOf image) r ∷ []) m
-  register-mask-rule {r} {k} {m} l e f small = mask-row (f ∙ rw (label-is l e) (row-in (known .describes) (register-label l))) small
+  label-at : {k : ℕ} → k ≡ registerIn image place r .label → k ≡ registerLabel (designOf image) r
+  label-at e = label-is (here .known) (here .register) (rw (here .begins) at e)
+
+  pub label-inside : {k : ℕ} → k ≡ registerIn image place r .label → 20 + 2 * k + 2 ≤ length image
+  label-inside e = row-inside (here .known .describes) (rw (label-at e) (register-label (here .known) (here .register)))
+
+  pub register-mask-rule : {k m : ℕ} → k ≡ registerIn image place r .label → m ≡ rowIn image 20 k → m < 65536 → MaskOf (designOf image .rows) (registerLabel (designOf image) r ∷ []) m
+  register-mask-rule e f small = mask-row (f ∙ rw (label-at e) (row-in (here .known .describes) (register-label (here .known) (here .register)))) small

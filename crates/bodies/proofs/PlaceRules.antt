@@ -1,13 +1,11 @@
 -- Laws of places: the lower of two says the lower of what they say.
 use Prim.Native.Nat.{ℕ, min, _≤_, _<_}
-use mathlib.Core.Path.{_≡_, refl, sym, _∙_, ap}
+use mathlib.Core.Path.{_≡_, refl}
 use mathlib.Core.Logic.{_⊎_, inl, inr, ⊎-elim}
-use mathlib.Core.Bool.{Bool, true, false, cond}
-use mathlib.Core.List.{List, [], _∷_}
+use mathlib.Core.Bool.{Bool, true, false}
 use native.Mathlib.Omega.{arith}
 use lib.Dec.{ltb}
 use borrow.Author.Tests.{lt-ltb, le-ltb, ltb-true, ltb-false}
-use Rattle.model.specs.declared.Found.{Found}
 use Rattle.model.specs.declared.Found.the-variants.{At, Nowhere}
 use Rattle.model.specs.Indices.{lower, lowestOf}
 use Rattle.model.specs.Limits.{commandsMax}
@@ -22,12 +20,12 @@ module _ {commands place : ℕ} where
   pub found-nowhere : commands ≤ place → foundAmong commands place ≡ Nowhere
   found-nowhere l = rw (le-ltb place commands l)
 
-below-or-not : (p q : ℕ) → (p < q) ⊎ (q ≤ p)
+pub below-or-not : (p q : ℕ) → (p < q) ⊎ (q ≤ p)
 below-or-not p q = tested (ltb p q) refl
   where
-  tested : (b : Bool) → ltb p q ≡ b → (p < q) ⊎ (q ≤ p)
-  tested true e = inl (ltb-true p q e)
-  tested false e = inr (ltb-false p q e)
+    tested : (b : Bool) → ltb p q ≡ b → (p < q) ⊎ (q ≤ p)
+    tested true e = inl (ltb-true p q e)
+    tested false e = inr (ltb-false p q e)
 
 pub found-lower : (commands p q : ℕ) → foundAmong commands (min p q) ≡ lower (foundAmong commands p) (foundAmong commands q)
 found-lower commands p q =

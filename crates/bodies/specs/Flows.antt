@@ -1,11 +1,17 @@
--- What the pass for refusals 10 to 12 knows at a node, and contexts as masks: bit l of a mask is set where the whole context flows to label l.
+-- What the pass for refusals 10 to 12 knows at a node, contexts as masks, where bit l of a mask is set where the whole context flows to label l, and what the place of a fault says.
 use Prim.Native.Nat.{ℕ, _/_, _%_, _^_, _<_}
 use mathlib.Core.Path.{_≡_}
-use mathlib.Core.List.{List, []}
-use lib.Dec.{eqb}
+use mathlib.Core.Bool.{cond}
+use mathlib.Core.List.{List}
+use lib.Dec.{ltb, eqb}
 use lib.ListN.{length}
-use Rattle.model.specs.Image.{designOf, commandAt}
+use Rattle.model.specs.declared.Refusal.{Refusal}
+use Rattle.model.specs.declared.Refusal.the-variants.{AssignFlow, GotoFlow, FallFlow}
+use Rattle.model.specs.declared.Answer.{Answer}
+use Rattle.model.specs.declared.Answer.the-variants.{Accepted, Refused}
+use Rattle.model.specs.Image.{Design as Table, designOf, commandAt}
 use Rattle.model.specs.Lattice.{allFlowTo}
+use Rattle.model.specs.Kinds.{CommandKind, skips, assigns, sequences, falls, goes, branches, unknownCommand, commandKind}
 use Rattle.design.specs.declared.Design.{Design}
 use Rattle.design.specs.Describes.{Describes}
 use Rattle.design.specs.Kept.{RegistersKept, StatesKept, CommandsKept, ExpressionsKept}
@@ -13,6 +19,20 @@ use Rattle.design.specs.Kept.{RegistersKept, StatesKept, CommandsKept, Expressi
 pub record MaskOf (rows context : List ℕ) (mask : ℕ) : Type 0 where
   pub small : mask < 65536
   pub bits : (l : ℕ) → l < length rows → eqb (mask / 2 ^ l % 2) 1 ≡ allFlowTo rows context l
+
+-- the flow rule that a command of each kind may break; skips, sequences and ifs have none of their own
+unfoldable pub flowRefusal : CommandKind → Refusal
+flowRefusal skips = FallFlow
+flowRefusal assigns = AssignFlow
+flowRefusal sequences = FallFlow
+flowRefusal falls = FallFlow
+flowRefusal goes = GotoFlow
+flowRefusal branches = FallFlow
+flowRefusal unknownCommand = FallFlow
+
+-- what the place of a flow fault says
+unfoldable pub answerAmong : Table → ℕ → Answer
+answerAmong d place = cond (ltb place (length (d .commands))) (Refused (flowRefusal (commandKind (commandAt d place .kind))) place) (Accepted 0)
 
 -- what the passes up to refusal 5 have established, and the flow pass needs
 pub record FlowKnown (image : List ℕ) (x : Design) : Type 0 where
@@ -22,18 +42,46 @@ pub record FlowKnown (image : List ℕ) (x : Design) : Type 0 where
   pub commands : CommandsKept (designOf image)
   pub expressions : ExpressionsKept (designOf image)
 
--- what is known where expression e is read, and where command n of state s is judged
+-- what is known where expression e is read
 pub record Reading (image : List ℕ) (x : Design) (e : ℕ) : Type 0 where
   pub known : FlowKnown image x
   pub node : e < x .expressions
 
-pub record Flowing (image : List ℕ) (x : Design) (s n : ℕ) : Type 0 where
-  pub known : FlowKnown image x
-  pub state : s < x .states
-  pub node : n < x .commands
+-- the same, where the recursion has the places of a design instead of the design: the label of register r and of state s is asked for, the labels that expression e reads are gathered
+pub record Labelled (image : List ℕ) (registersAt r : ℕ) : Type 0 where
+  pub design : Design
+  pub known : FlowKnown image design
+  pub register : r < design .registers
+  pub begins : registersAt ≡ design .«registers_at»
 
--- what is known at an assignment n
-pub record Assigning (image : List ℕ) (x : Design) (n : ℕ) : Type 0 where
-  pub known : FlowKnown image x
-  pub node : n < x .commands
+pub record Naming (image : List ℕ) (statesAt s : ℕ) : Type 0 where
+  pub design : Design
+  pub known : FlowKnown image design
+  pub state : s < design .states
+  pub begins : statesAt ≡ design .«states_at»
+
+pub record Gathering (image : List ℕ) (registersAt expressionsAt e : ℕ) : Type 0 where
+  pub design : Design
+  pub reading : Reading image design e
+  pub registers-begin : registersAt ≡ design .«registers_at»
+  pub expressions-begin : expressionsAt ≡ design .«expressions_at»
+
+-- an assignment n is judged, and a command n of state s
+pub record Assigning (image : List ℕ) (registersAt commandsAt expressionsAt n : ℕ) : Type 0 where
+  pub design : Design
+  pub known : FlowKnown image design
+  pub node : n < design .commands
   pub kind : commandAt (designOf image) n .kind ≡ 1
+  pub registers-begin : registersAt ≡ design .«registers_at»
+  pub commands-begin : commandsAt ≡ design .«commands_at»
+  pub expressions-begin : expressionsAt ≡ design .«expressions_at»
+
+pub record Flowing (image : List ℕ) (registersAt statesAt commandsAt expressionsAt s n : ℕ) : Type 0 where
+  pub design : Design
+  pub known : FlowKnown image design
+  pub state : s < design .states
+  pub node : n < design .commands
+  pub registers-begin : registersAt ≡ design .«registers_at»
+  pub states-begin : statesAt ≡ design .«states_at»
+  pub commands-begin : commandsAt ≡ design .«commands_at»
+  pub expressions-begin : expressionsAt ≡ design .«expressions_at»

@@ -1,5 +1,10 @@
 // Refusals 10 to 12: the flow rules, by recursion over parts. A context is a mask of labels: bit l
-// is set where all of the context flows to label l.
+// is set where all of the context flows to label l. The recursion has the places where sections
+// begin, since a whole design would be copied at every call, and answers a place; which rule is
+// broken there, the command's kind tells.
+use crate::places::NOWHERE;
+use crate::places::charged_unless;
+use crate::places::lower;
 use design::Design;
 use model::Answer;
 use model::Refusal;
@@ -10,8 +15,9 @@ ghost use lib.Dec.{eqb};
 ghost use Rattle.model.specs.Image.{designOf};
 ghost use Rattle.model.specs.Lattice.{allFlowTo, registerLabel, stateLabel};
 ghost use Rattle.model.specs.Trees.{exprOf, cmdOf};
-ghost use Rattle.model.specs.Flow.{refusedUnless, labelsRead, flowFaults, stateFlowFaults, nearer as nearerOf, nearest, flowAnswer};
-ghost use Rattle.bodies.specs.Flows.{MaskOf, FlowKnown, Reading, Assigning, Flowing};
+ghost use Rattle.model.specs.Flow.{labelsRead, flowFaults, stateFlowFaults, nearest, flowAnswer};
+ghost use Rattle.design.specs.Describes.{Describes};
+ghost use Rattle.bodies.specs.Flows.{MaskOf, FlowKnown, Gathering, Assigning, Flowing, Labelled, Naming, answerAmong};
 
 // Bit l of a mask.
 fn bit(mask: usize, l: usize) -> bool
@@ -21,57 +27,32 @@ fn bit(mask: usize, l: usize) -> bool
     (mask >> l) % 2 == 1
 }
 
-// The refusal at the lower place.
-fn nearer(a: Answer, b: Answer) -> Answer
-    ensures { λ r. ⌜ r ≡ nearerOf a b ⌝ }
-{
-    let Answer::Refused(_, i) = a else {
-        return b;
-    };
-    let Answer::Refused(_, j) = b else {
-        return a;
-    };
-    if j < i { b } else { a }
-}
-
-// The refusal at a node, unless its rule is kept.
-fn refused_unless(kept: bool, refusal: Refusal, n: usize) -> Answer
-    ensures { λ r. ⌜ r ≡ nearest (refusedUnless kept refusal n) ⌝ }
-{
-    if kept {
-        return Answer::Accepted(0);
-    }
-    Answer::Refused(refusal, n)
-}
-
-// The mask of register r: its label's row.
-fn register_mask(image: &[u8], design: Design, r: usize) -> usize
-    requires { ⌜ FlowKnown (now image) design × (r < design .registers) ⌝ }
+// The mask of register r, where the registers begin at a place: its label's row.
+fn register_mask(image: &[u8], at: usize, r: usize) -> usize
+    requires { ⌜ Labelled (now image) at r ⌝ }
     ensures { λ m. ⌜ MaskOf (designOf (now (image .entry)) .rows) (registerLabel (designOf (now (image .entry))) r ∷ []) m ⌝ }
 {
-    let at = design.registers_at;
     let label = Design::register_label(image, at, r);
     Design::row(image, label)
 }
 
 // The mask of the labels of all registers that an expression reads.
 // A reborrow keeps the slice in registers of the processor; image itself would go through memory.
-fn reads(image: &[u8], design: Design, e: usize) -> usize
-    requires { ⌜ Reading (now image) design e ⌝ }
+fn reads(image: &[u8], registers_at: usize, expressions_at: usize, e: usize) -> usize
+    requires { ⌜ Gathering (now image) «registers_at» «expressions_at» e ⌝ }
     ensures { λ m. ⌜ MaskOf (designOf (now (image .entry)) .rows) (labelsRead (designOf (now (image .entry))) (exprOf (designOf (now (image .entry))) e)) m ⌝ }
 {
-    let at = design.expressions_at;
-    let kind = Design::kind(image, at, e);
+    let kind = Design::kind(image, expressions_at, e);
     match kind {
         1 => {
-            let r = Design::item(image, at, e);
-            register_mask(image, design, r)
+            let r = Design::item(image, expressions_at, e);
+            register_mask(image, registers_at, r)
         }
         2..=8 => {
-            let a = Design::part_a(image, at, e);
-            let b = Design::part_b(image, at, e);
-            let p = reads(&*image, design, a);
-            let q = reads(&*image, design, b);
+            let a = Design::part_a(image, expressions_at, e);
+            let b = Design::part_b(image, expressions_at, e);
+            let p = reads(&*image, registers_at, expressions_at, a);
+            let q = reads(&*image, registers_at, expressions_at, b);
             p & q
         }
         _ => 65535,
@@ -79,77 +60,149 @@ fn reads(image: &[u8], design: Design, e: usize) -> usize
 }
 
 // The assignment n, in a context, flows to the register that it writes.
-fn assign_flow(image: &[u8], design: Design, context: usize, n: usize) -> Answer
-    requires { ⌜ Assigning (now image) design n × (context < 65536) ⌝ }
-    ensures { λ a. ⌜ ((s : ℕ) (labels : List ℕ) → MaskOf (designOf (now (image .entry)) .rows) labels context → a ≡ nearest (flowFaults (designOf (now (image .entry))) s labels (cmdOf (designOf (now (image .entry))) n))) ⌝ }
+fn assign_flow(
+    image: &[u8],
+    registers_at: usize,
+    commands_at: usize,
+    expressions_at: usize,
+    context: usize,
+    n: usize,
+) -> usize
+    requires { ⌜ Assigning (now image) «registers_at» «commands_at» «expressions_at» n × (context < 65536) ⌝ }
+    ensures { λ p. ⌜ ((s : ℕ) (labels : List ℕ) → MaskOf (designOf (now (image .entry)) .rows) labels context → answerAmong (designOf (now (image .entry))) p ≡ nearest (flowFaults (designOf (now (image .entry))) s labels (cmdOf (designOf (now (image .entry))) n))) ⌝ }
 {
-    let at = design.commands_at;
-    let r = Design::item(image, at, n);
-    let e = Design::part_a(image, at, n);
-    let mask = context & reads(&*image, design, e);
-    let registers_at = design.registers_at;
+    let r = Design::item(image, commands_at, n);
+    let e = Design::part_a(image, commands_at, n);
+    let mask = context & reads(&*image, registers_at, expressions_at, e);
     let label = Design::register_label(image, registers_at, r);
-    refused_unless(bit(mask, label), Refusal::AssignFlow, n)
+    charged_unless(bit(mask, label), n)
 }
 
-// A context flows to the label of a state.
-fn flows_to_state(image: &[u8], design: Design, context: usize, s: usize) -> bool
-    requires { ⌜ FlowKnown (now image) design × (s < design .states) ⌝ }
+// A context flows to the label of state s, where the states begin at a place.
+fn flows_to_state(image: &[u8], at: usize, context: usize, s: usize) -> bool
+    requires { ⌜ Naming (now image) at s ⌝ }
     ensures { λ b. ⌜ ((labels : List ℕ) → MaskOf (designOf (now (image .entry)) .rows) labels context → b ≡ allFlowTo (designOf (now (image .entry)) .rows) labels (stateLabel (designOf (now (image .entry))) s)) ⌝ }
 {
-    let at = design.states_at;
     let label = Design::state_label(image, at, s);
     bit(context, label)
 }
 
-// The lowest flow fault of command n of state s, in a context.
-fn flow(image: &[u8], design: Design, s: usize, context: usize, n: usize) -> Answer
-    requires { ⌜ Flowing (now image) design s n × (context < 65536) ⌝ }
-    ensures { λ a. ⌜ ((labels : List ℕ) → MaskOf (designOf (now (image .entry)) .rows) labels context → a ≡ nearest (flowFaults (designOf (now (image .entry))) s labels (cmdOf (designOf (now (image .entry))) n))) ⌝ }
+// The place of the lowest flow fault of command n of state s, in a context.
+fn flow(
+    image: &[u8],
+    registers_at: usize,
+    states_at: usize,
+    commands_at: usize,
+    expressions_at: usize,
+    s: usize,
+    context: usize,
+    n: usize,
+) -> usize
+    requires { ⌜ Flowing (now image) «registers_at» «states_at» «commands_at» «expressions_at» s n × (context < 65536) ⌝ }
+    ensures { λ p. ⌜ ((labels : List ℕ) → MaskOf (designOf (now (image .entry)) .rows) labels context → answerAmong (designOf (now (image .entry))) p ≡ nearest (flowFaults (designOf (now (image .entry))) s labels (cmdOf (designOf (now (image .entry))) n))) ⌝ }
 {
-    let at = design.commands_at;
-    let kind = Design::kind(image, at, n);
+    let kind = Design::kind(image, commands_at, n);
     match kind {
-        1 => assign_flow(image, design, context, n),
+        1 => assign_flow(image, registers_at, commands_at, expressions_at, context, n),
         2 => {
-            let a = Design::part_a(image, at, n);
-            let b = Design::part_b(image, at, n);
-            let p = flow(&*image, design, s, context, a);
-            let q = flow(&*image, design, s, context, b);
-            nearer(p, q)
+            let a = Design::part_a(image, commands_at, n);
+            let b = Design::part_b(image, commands_at, n);
+            let p = flow(
+                &*image,
+                registers_at,
+                states_at,
+                commands_at,
+                expressions_at,
+                s,
+                context,
+                a,
+            );
+            let q = flow(
+                &*image,
+                registers_at,
+                states_at,
+                commands_at,
+                expressions_at,
+                s,
+                context,
+                b,
+            );
+            lower(p, q)
         }
         3 => {
-            let kept = flows_to_state(image, design, context, s);
-            refused_unless(kept, Refusal::FallFlow, n)
+            let kept = flows_to_state(image, states_at, context, s);
+            charged_unless(kept, n)
         }
         4 => {
-            let t = Design::item(image, at, n);
-            let kept = flows_to_state(image, design, context, t);
-            refused_unless(kept, Refusal::GotoFlow, n)
+            let t = Design::item(image, commands_at, n);
+            let kept = flows_to_state(image, states_at, context, t);
+            charged_unless(kept, n)
         }
         5 => {
-            let e = Design::part_a(image, at, n);
-            let b = Design::part_b(image, at, n);
-            let c = Design::part_c(image, at, n);
-            let inner = context & reads(&*image, design, e);
-            let p = flow(&*image, design, s, inner, b);
-            let q = flow(&*image, design, s, inner, c);
-            nearer(p, q)
+            let e = Design::part_a(image, commands_at, n);
+            let b = Design::part_b(image, commands_at, n);
+            let c = Design::part_c(image, commands_at, n);
+            let inner = context & reads(&*image, registers_at, expressions_at, e);
+            let p = flow(
+                &*image,
+                registers_at,
+                states_at,
+                commands_at,
+                expressions_at,
+                s,
+                inner,
+                b,
+            );
+            let q = flow(
+                &*image,
+                registers_at,
+                states_at,
+                commands_at,
+                expressions_at,
+                s,
+                inner,
+                c,
+            );
+            lower(p, q)
         }
-        _ => Answer::Accepted(0),
+        _ => NOWHERE,
     }
 }
 
-// The lowest flow fault of state s, whose context is its label.
-fn state_flow(image: &[u8], design: Design, s: usize) -> Answer
+// The place of the lowest flow fault of state s, whose context is its label.
+fn state_flow(image: &[u8], design: Design, s: usize) -> usize
     requires { ⌜ FlowKnown (now image) design × (s < design .states) ⌝ }
-    ensures { λ a. ⌜ a ≡ nearest (stateFlowFaults (designOf (now (image .entry))) s) ⌝ }
+    ensures { λ p. ⌜ answerAmong (designOf (now (image .entry))) p ≡ nearest (stateFlowFaults (designOf (now (image .entry))) s) ⌝ }
 {
     let at = design.states_at;
     let label = Design::state_label(image, at, s);
     let n = Design::state_command(image, at, s);
     let context = Design::row(image, label);
-    flow(image, design, s, context, n)
+    flow(
+        image,
+        design.registers_at,
+        design.states_at,
+        design.commands_at,
+        design.expressions_at,
+        s,
+        context,
+        n,
+    )
+}
+
+// The refusal at a place: the command there tells which rule it breaks.
+fn answer(image: &[u8], design: Design, place: usize) -> Answer
+    requires { ⌜ Describes (now image) design ⌝ }
+    ensures { λ a. ⌜ a ≡ answerAmong (designOf (now (image .entry))) place ⌝ }
+{
+    if design.commands <= place {
+        return Answer::Accepted(0);
+    }
+    match Design::kind(image, design.commands_at, place) {
+        1 => Answer::Refused(Refusal::AssignFlow, place),
+        4 => Answer::Refused(Refusal::GotoFlow, place),
+        _ => Answer::Refused(Refusal::FallFlow, place),
+    }
 }
 
 // Refusals 10 to 12, at the lowest node.
@@ -157,12 +210,12 @@ pub fn faults(image: &[u8], design: Design) -> Answer
     requires { ⌜ FlowKnown (now image) design ⌝ }
     ensures { λ a. ⌜ a ≡ flowAnswer (designOf (now (image .entry))) ⌝ }
 {
-    let mut lowest = Answer::Accepted(0);
+    let mut lowest = NOWHERE;
     let mut s = 0;
     while s < design.states {
         let here = state_flow(image, design, s);
-        lowest = nearer(lowest, here);
+        lowest = lower(lowest, here);
         s += 1;
     }
-    lowest
+    answer(image, design, lowest)
 }

@@ -13,14 +13,14 @@ use Rattle.design.proofs.Design.part_b.Reads as part-b-reads
 use Rattle.design.proofs.Design.part_c.Reads as part-c-reads
 use Rattle.bodies.proofs.flow.assign_flow.Reads as assign-flow-reads
 use Rattle.bodies.proofs.flow.flows_to_state.Reads as flows-to-state-reads
-use Rattle.bodies.proofs.flow.nearer.Reads as nearer-reads
+use Rattle.bodies.proofs.places.lower.Reads as lower-reads
 use Rattle.bodies.proofs.flow.reads.Reads as reads-reads
-use Rattle.bodies.proofs.flow.refused_unless.Reads as refused-unless-reads
+use Rattle.bodies.proofs.places.charged_unless.Reads as charged-unless-reads
 use Rattle.bodies.proofs.flow.+flow.{statement}
 use Rattle.bodies.proofs.flow.+flow.Tie.{close}
 
 abbrev μ-flow : Measures 1 flow-kinds.ps ℕ
-μ-flow κs a = a .1 .1 .1 .1 .0
+μ-flow κs a = a .1 .1 .1 .1 .1 .1 .1 .0
 
 abbrev flow-at : ℕ → In 1 flow-kinds.ps
 flow-at t = and 1 flow-kinds.ps (is 1 flow-kinds.ps μ-flow t) flow.Pre
@@ -30,7 +30,7 @@ flow-below t = and 1 flow-kinds.ps (falls 1 flow-kinds.ps _<_ μ-flow t) flow.Pr
 
 -- what the callees ask and tell
 abbrev flow-calls : ℕ → flow-lts.Claims
-flow-calls t = (kind-reads.Asked, kind-reads.Learnt, assign-flow-reads.Asked, assign-flow-reads.Learnt, part-a-reads.Asked, part-a-reads.Learnt, part-b-reads.Asked, part-b-reads.Learnt, flow-below t, flow.Post, nearer-reads.Asked, nearer-reads.Learnt, flows-to-state-reads.Asked, flows-to-state-reads.Learnt, refused-unless-reads.Asked, refused-unless-reads.Learnt, item-reads.Asked, item-reads.Learnt, part-c-reads.Asked, part-c-reads.Learnt, reads-reads.Asked, reads-reads.Learnt)
+flow-calls t = (kind-reads.Asked, kind-reads.Learnt, assign-flow-reads.Asked, assign-flow-reads.Learnt, part-a-reads.Asked, part-a-reads.Learnt, part-b-reads.Asked, part-b-reads.Learnt, flow-below t, flow.Post, lower-reads.Asked, lower-reads.Learnt, flows-to-state-reads.Asked, flows-to-state-reads.Learnt, charged-unless-reads.Asked, charged-unless-reads.Learnt, item-reads.Asked, item-reads.Learnt, part-c-reads.Asked, part-c-reads.Learnt, reads-reads.Asked, reads-reads.Learnt)
 
 flow-kind-requires : (t : ℕ) → flow-lts.Need-kind-requires (flow-calls t) (flow-at t) flow.Post
 flow-kind-requires t c κs = search (flow-laws, needs)
@@ -50,14 +50,14 @@ flow-flow-requires t c κs = (search sequence-a-falls, (search sequence-a-flowin
 flow-flow-requires-2 : (t : ℕ) → flow-lts.Need-flow-requires-2 (flow-calls t) (flow-at t) flow.Post
 flow-flow-requires-2 t c κs = (search sequence-b-falls, (search sequence-b-flowing, search (mask-small, needs)))
 
-flow-nearer-requires : (t : ℕ) → flow-lts.Need-nearer-requires (flow-calls t) (flow-at t) flow.Post
-flow-nearer-requires t c κs = search (flow-laws, needs)
+flow-lower-requires : (t : ℕ) → flow-lts.Need-lower-requires (flow-calls t) (flow-at t) flow.Post
+flow-lower-requires t c κs = search (flow-laws, needs)
 
 flow-flows-to-state-requires : (t : ℕ) → flow-lts.Need-flows-to-state-requires (flow-calls t) (flow-at t) flow.Post
 flow-flows-to-state-requires t c κs = search (flow-laws, needs)
 
-flow-refused-unless-requires : (t : ℕ) → flow-lts.Need-refused-unless-requires (flow-calls t) (flow-at t) flow.Post
-flow-refused-unless-requires t c κs = search (flow-laws, needs)
+flow-charged-unless-requires : (t : ℕ) → flow-lts.Need-charged-unless-requires (flow-calls t) (flow-at t) flow.Post
+flow-charged-unless-requires t c κs = search (flow-laws, needs)
 
 flow-item-requires : (t : ℕ) → flow-lts.Need-item-requires (flow-calls t) (flow-at t) flow.Post
 flow-item-requires t c κs = search (flow-laws, needs)
@@ -65,8 +65,8 @@ flow-item-requires t c κs = search (flow-laws, needs)
 flow-flows-to-state-requires-2 : (t : ℕ) → flow-lts.Need-flows-to-state-requires-2 (flow-calls t) (flow-at t) flow.Post
 flow-flows-to-state-requires-2 t c κs = search (flow-laws, needs)
 
-flow-refused-unless-requires-2 : (t : ℕ) → flow-lts.Need-refused-unless-requires-2 (flow-calls t) (flow-at t) flow.Post
-flow-refused-unless-requires-2 t c κs = search (flow-laws, needs)
+flow-charged-unless-requires-2 : (t : ℕ) → flow-lts.Need-charged-unless-requires-2 (flow-calls t) (flow-at t) flow.Post
+flow-charged-unless-requires-2 t c κs = search (flow-laws, needs)
 
 flow-part-a-requires-2 : (t : ℕ) → flow-lts.Need-part-a-requires-2 (flow-calls t) (flow-at t) flow.Post
 flow-part-a-requires-2 t c κs = search (flow-laws, needs)
@@ -86,8 +86,8 @@ flow-flow-requires-3 t c κs = (search branch-b-falls, (search (branch-b-flowing
 flow-flow-requires-4 : (t : ℕ) → flow-lts.Need-flow-requires-4 (flow-calls t) (flow-at t) flow.Post
 flow-flow-requires-4 t c κs = (search branch-c-falls, (search (branch-c-flowing (c .before .before .before .before .before .before .before .before .pre .1 .0)), search (mask-small, needs)))
 
-flow-nearer-requires-2 : (t : ℕ) → flow-lts.Need-nearer-requires-2 (flow-calls t) (flow-at t) flow.Post
-flow-nearer-requires-2 t c κs = search (flow-laws, needs)
+flow-lower-requires-2 : (t : ℕ) → flow-lts.Need-lower-requires-2 (flow-calls t) (flow-at t) flow.Post
+flow-lower-requires-2 t c κs = search (flow-laws, needs)
 
 flow-returns : (t : ℕ) → flow-lts.Need-returns (flow-calls t) (flow-at t) flow.Post
 flow-returns t c = λ labels mask. c .assign-flow .ensures _ labels mask
@@ -117,19 +117,19 @@ pub +flow-spec : {M : Type 1} → statement M
     (flow-part-b-requires t)
     (flow-flow-requires t)
     (flow-flow-requires-2 t)
-    (flow-nearer-requires t)
+    (flow-lower-requires t)
     (flow-flows-to-state-requires t)
-    (flow-refused-unless-requires t)
+    (flow-charged-unless-requires t)
     (flow-item-requires t)
     (flow-flows-to-state-requires-2 t)
-    (flow-refused-unless-requires-2 t)
+    (flow-charged-unless-requires-2 t)
     (flow-part-a-requires-2 t)
     (flow-part-b-requires-2 t)
     (flow-part-c-requires t)
     (flow-reads-requires t)
     (flow-flow-requires-3 t)
     (flow-flow-requires-4 t)
-    (flow-nearer-requires-2 t)
+    (flow-lower-requires-2 t)
     (flow-returns t)
     (flow-returns-2 t)
     (flow-returns-3 t)

@@ -1,5 +1,5 @@
 use borrow.Author.Needs.{needs}
-use Rattle.bodies.proofs.FlowRules.{reads-laws, part-a-falls, part-a-reading, part-b-falls, part-b-reading}
+use Rattle.bodies.proofs.FlowRules.{reads-laws, operand-a-falls, operand-a-gathering, operand-b-falls, operand-b-gathering}
 use Prim.Native.Nat.{ℕ, _<_}
 use borrow.Fn.Kinds.{In}
 use borrow.Fn.PlainCycle.{Measures, is, falls, and}
@@ -15,7 +15,7 @@ use Rattle.bodies.proofs.flow.+reads.{statement}
 use Rattle.bodies.proofs.flow.+reads.Tie.{close}
 
 abbrev μ-reads : Measures 1 reads-kinds.ps ℕ
-μ-reads κs a = a .1 .1 .0
+μ-reads κs a = a .1 .1 .1 .0
 
 abbrev reads-at : ℕ → In 1 reads-kinds.ps
 reads-at t = and 1 reads-kinds.ps (is 1 reads-kinds.ps μ-reads t) reads′.Pre
@@ -43,10 +43,10 @@ reads-part-b-requires : (t : ℕ) → reads-lts.Need-part-b-requires (reads-call
 reads-part-b-requires t c κs = search (reads-laws, needs)
 
 reads-reads-requires : (t : ℕ) → reads-lts.Need-reads-requires (reads-calls t) (reads-at t) reads′.Post
-reads-reads-requires t c κs = (search part-a-falls, search part-a-reading)
+reads-reads-requires t c κs = (search operand-a-falls, search operand-a-gathering)
 
 reads-reads-requires-2 : (t : ℕ) → reads-lts.Need-reads-requires-2 (reads-calls t) (reads-at t) reads′.Post
-reads-reads-requires-2 t c κs = (search part-b-falls, search part-b-reading)
+reads-reads-requires-2 t c κs = (search operand-b-falls, search operand-b-gathering)
 
 reads-returns : (t : ℕ) → reads-lts.Need-returns (reads-calls t) (reads-at t) reads′.Post
 reads-returns t c = search (reads-laws, needs)

@@ -9,7 +9,7 @@ use Rattle.design.proofs.Design.part_a.Reads as part-a-reads
 use Rattle.design.proofs.Design.register_label.Reads as register-label-reads
 use Rattle.bodies.proofs.flow.bit.Reads as bit-reads
 use Rattle.bodies.proofs.flow.reads.Reads as reads-reads
-use Rattle.bodies.proofs.flow.refused_unless.Reads as refused-unless-reads
+use Rattle.bodies.proofs.places.charged_unless.Reads as charged-unless-reads
 
 item-requires : tie.Need-item-requires
 item-requires c κs = search (assignment-inside, assigned-inside, assigned-reading, assigned-label-small, assign-rule, needs)
@@ -26,8 +26,8 @@ register-label-requires c κs = search (assignment-inside, assigned-inside, assi
 bit-requires : tie.Need-bit-requires
 bit-requires c κs = search (assignment-inside, assigned-inside, assigned-reading, assigned-label-small, assign-rule, needs)
 
-refused-unless-requires : tie.Need-refused-unless-requires
-refused-unless-requires c κs = search (assignment-inside, assigned-inside, assigned-reading, assigned-label-small, assign-rule, needs)
+charged-unless-requires : tie.Need-charged-unless-requires
+charged-unless-requires c κs = search (assignment-inside, assigned-inside, assigned-reading, assigned-label-small, assign-rule, needs)
 
 returns : tie.Need-returns
 returns c = search (assignment-inside, assigned-inside, assigned-reading, assigned-label-small, assign-rule, needs)
@@ -41,5 +41,5 @@ assign-flow-spec =
     reads-requires
     register-label-requires
     bit-requires
-    refused-unless-requires
+    charged-unless-requires
     returns)

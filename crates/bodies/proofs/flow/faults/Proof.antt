@@ -6,7 +6,8 @@ use Rattle.bodies.proofs.flow.faults.Statement.{statement}
 use Rattle.bodies.proofs.flow.faults.Tie as tie
 use Rattle.bodies.proofs.flow.faults.Reads as reads
 use Rattle.bodies.proofs.flow.faults.Lts as lts
-use Rattle.bodies.proofs.flow.nearer.Reads as nearer-reads
+use Rattle.bodies.proofs.flow.answer.Reads as answer-reads
+use Rattle.bodies.proofs.places.lower.Reads as lower-reads
 use Rattle.bodies.proofs.flow.state_flow.Reads as state-flow-reads
 
 abbrev Inv-loop : tie.InvT-loop
@@ -21,8 +22,8 @@ loop-holds c = search (nearest-none-yet, nearest-one-more, nearest-of-all, needs
 state-flow-requires : tie.Need-state-flow-requires Inv-loop μ-loop
 state-flow-requires c κs = search (nearest-none-yet, nearest-one-more, nearest-of-all, needs)
 
-nearer-requires : tie.Need-nearer-requires Inv-loop μ-loop
-nearer-requires c κs = search (nearest-none-yet, nearest-one-more, nearest-of-all, needs)
+lower-requires : tie.Need-lower-requires Inv-loop μ-loop
+lower-requires c κs = search (nearest-none-yet, nearest-one-more, nearest-of-all, needs)
 
 add-s : tie.Need-add-s Inv-loop μ-loop
 add-s c = search (nearest-none-yet, nearest-one-more, nearest-of-all, needs)
@@ -32,6 +33,9 @@ loop-less c = search (nearest-none-yet, nearest-one-more, nearest-of-all, needs)
 
 loop-again : tie.Need-loop-again Inv-loop μ-loop
 loop-again c = search (nearest-none-yet, nearest-one-more, nearest-of-all, needs)
+
+answer-requires : tie.Need-answer-requires Inv-loop μ-loop
+answer-requires c κs = search needs
 
 returns : tie.Need-returns Inv-loop μ-loop
 returns c = search (nearest-none-yet, nearest-one-more, nearest-of-all, needs)
@@ -44,8 +48,9 @@ faults-spec =
     μ-loop
     loop-holds
     state-flow-requires
-    nearer-requires
+    lower-requires
     add-s
     loop-less
     loop-again
+    answer-requires
     returns)

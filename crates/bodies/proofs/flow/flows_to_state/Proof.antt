@@ -1,5 +1,4 @@
-use Rattle.design.proofs.Laws.{state-inside}
-use Rattle.bodies.proofs.FlowRules.{state-label-small, state-bit}
+use Rattle.bodies.proofs.FlowRules.{state-place-inside, state-label-small, state-bit}
 use borrow.Author.Needs.{needs}
 use Rattle.bodies.proofs.flow.flows_to_state.Statement.{statement}
 use Rattle.bodies.proofs.flow.flows_to_state.Tie as tie
@@ -9,7 +8,7 @@ use Rattle.design.proofs.Design.state_label.Reads as state-label-reads
 use Rattle.bodies.proofs.flow.bit.Reads as bit-reads
 
 state-label-requires : tie.Need-state-label-requires
-state-label-requires c κs = search (state-inside, needs)
+state-label-requires c κs = search (state-place-inside, needs)
 
 bit-requires : tie.Need-bit-requires
 bit-requires c κs = search (state-label-small, needs)

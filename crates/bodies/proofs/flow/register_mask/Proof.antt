@@ -1,5 +1,4 @@
-use Rattle.design.proofs.Laws.{register-inside}
-use Rattle.bodies.proofs.Masks.{label-inside, register-mask-rule}
+use Rattle.bodies.proofs.Masks.{register-place-inside, label-inside, register-mask-rule}
 use borrow.Author.Needs.{needs}
 use Rattle.bodies.proofs.flow.register_mask.Statement.{statement}
 use Rattle.bodies.proofs.flow.register_mask.Tie as tie
@@ -9,7 +8,7 @@ use Rattle.design.proofs.Design.register_label.Reads as register-label-reads
 use Rattle.design.proofs.Design.row.Reads as row-reads
 
 register-label-requires : tie.Need-register-label-requires
-register-label-requires c κs = search (register-inside, needs)
+register-label-requires c κs = search (register-place-inside, needs)
 
 row-requires : tie.Need-row-requires
 row-requires c κs = search (label-inside, needs)
