@@ -1,18 +1,20 @@
 -- What a command's shape comes to, from what its parts come to: the laws that the recursion over parts cites, one for each kind of command.
-use Prim.Native.Nat.{ℕ, zero, suc, _+_, _*_, _≤_, _<_}
+use Prim.Native.Nat.{ℕ, zero, suc, min, _+_, _*_, _/_, _%_, _≤_, _<_}
 use mathlib.Core.Logic.{_⊎_, inl, inr, ⊎-elim}
 use mathlib.Core.Path.{_≡_, refl, sym, _∙_, ap}
 use mathlib.Core.Bool.{Bool, true, false, _&&_, not, Bool·beq}
-use mathlib.Core.List.{List, [], _∷_, _++_}
+use mathlib.Core.List.{List, _++_}
 use native.Mathlib.Omega.{arith}
 use lib.Dec.{ltb, eqb}
+use borrow.Author.Tests.{lt-ltb}
 use lib.ListN.{length}
 use Rattle.model.specs.declared.Found.{Found}
-use Rattle.model.specs.declared.Found.the-variants.{At, Nowhere}
+use Rattle.model.specs.declared.Found.the-variants.{Nowhere}
 use Rattle.model.specs.Indices.{lower, lowestOf, joinBelow}
-use Rattle.model.specs.Image.{Design as Table, Node, State, designOf, stateAt, commandAt}
+use Rattle.model.specs.Limits.{commandsMax}
+use Rattle.model.specs.Image.{Commands, Design as Table, Node, State, designOf, stateAt, commandAt}
 use Rattle.model.specs.States.{isChild, hasChild, siblingOrSelf, parent}
-use Rattle.model.specs.Kinds.{CommandKind, skips, assigns, sequences, falls, goes, branches, commandKind, commandKept}
+use Rattle.model.specs.Kinds.{CommandKind, skips, assigns, sequences, falls, goes, branches, commandKind}
 use Rattle.model.specs.Trees.{Expr, Cmd, skip, assign, sequence, fall, goto, branch, exprOf, cmdOf, bodyOf}
 use Rattle.model.specs.Shape.{transfers, chargedUnless, shapeFaults, stateShapeFaults, shapeFault}
 use Rattle.model.specs.Rules.{CommandHolds}
@@ -24,64 +26,106 @@ use native.Mathlib.Numerals.{add-one}
 use Rattle.design.specs.declared.Design.{Design}
 use Rattle.design.specs.Records.{nodeIn, stateIn}
 use Rattle.design.specs.Describes.{Describes}
-use Rattle.design.proofs.Laws.{states-count, commands-count, command-inside, state-in, command-in}
-use Rattle.bodies.specs.declared.shape.Judged.{Judged}
-use Rattle.bodies.specs.Shapes.{judgedOf, sequencedOf, branchedOf, Judging, ShapeKnown}
-
--- ---- the lower of two finds
-pub lower-only : {a b : Found} {i : ℕ} → a ≡ At i → b ≡ Nowhere → At i ≡ lower a b
-lower-only p q = rw (p, q)
-
-pub lower-second : {a b : Found} {i j : ℕ} → a ≡ At i → b ≡ At j → j < i → At j ≡ lower a b
-lower-second {a} {b} {i} {j} p q l = rw (p, q) (ap At (omega arith))
-
-pub lower-first : {a b : Found} {i j : ℕ} → a ≡ At i → b ≡ At j → i ≤ j → At i ≡ lower a b
-lower-first {a} {b} {i} {j} p q l = rw (p, q) (ap At (omega arith))
-
-pub charged-kept : {b : Bool} (n : ℕ) → b ≡ true → Nowhere ≡ lowestOf (chargedUnless b n)
-unfolding lowestOf
-charged-kept n p = rw p
-
-pub charged-broken : {b : Bool} (n : ℕ) → b ≡ false → At n ≡ lowestOf (chargedUnless b n)
-unfolding lowestOf
-charged-broken n p = rw p
+use Rattle.design.proofs.Laws.{states-count, commands-count, state-inside, command-inside, state-in, command-in}
+use Rattle.bodies.specs.Places.{placeUnless, foundAmong}
+use Rattle.bodies.specs.Shapes.{Judged, judgedOf, sequencedOf, branchedOf, judgementOf, judgedAmong, sequencedAs, branchedAs, Judging, Going, ShapeKnown}
+use Rattle.bodies.proofs.PlaceRules.{found-nowhere, found-lower, found-charged}
 
 -- ---- siblings
-and-assoc : (a b c d : Bool) → (a && b && c && d) ≡ (a && (b && c && d))
-and-assoc true b c d = refl
-and-assoc false b c d = refl
+and-known : {w : Bool} (a b c : Bool) → w ≡ true → (a && b && c) ≡ (a && (b && w && c))
+and-known true true c e = rw e
+and-known true false c e = refl
+and-known false b c e = refl
 
-pub sibling-rule :
-    {image : List ℕ} {x : Design} {s t p q : ℕ}
-    → Describes image x
-    → s < x .states
-    → t < x .states
-    → p ≡ stateIn image (x .«states_at») t .parent
-    → q ≡ stateIn image (x .«states_at») s .parent
-    → (not (eqb s 0) && not (eqb t 0) && ltb t (x .states) && eqb p q) ≡ siblingOrSelf (designOf image) s t
-unfolding siblingOrSelf isChild
-sibling-rule {image} {x} {s} {t} {p = y} {q = z} d ls lt p q =
-    and-assoc (not (eqb s 0)) (not (eqb t 0)) (ltb t (x .states)) (eqb y z)
-    ∙ rw (p ∙ ap (λ (y : State). y .parent) (state-in d lt), q ∙ ap (λ (y : State). y .parent) (state-in d ls), states-count d)
+module _ {image : List ℕ} {place s t : ℕ} (here : Going image place s t) where
+  pub state-place-inside : place + 4 * s + 4 ≤ length image
+  state-place-inside = rw (here .states-begin) (state-inside (here .describes) (here .state))
 
--- ---- what an if and a sequence come to, in the code's order of calls
-pub sequenced-rule :
-    (n : ℕ) (p q : Judged) {parts own lowest : Found}
-    → parts ≡ lower (p .lowest) (q .lowest)
-    → own ≡ lowestOf (chargedUnless (not (p .transfers)) n)
-    → lowest ≡ lower own parts
-    → record { transfers = q .transfers; lowest = lowest } ≡ sequencedOf n p q
-unfolding sequencedOf
-sequenced-rule n p q a b c = ap (λ (f : Found). record { transfers = q .transfers; lowest = f }) (rw (c, b, a))
+  pub target-place-inside : place + 4 * t + 4 ≤ length image
+  target-place-inside = rw (here .states-begin) (state-inside (here .describes) (here .target))
 
-pub branched-rule :
-    (n : ℕ) (p q : Judged) {parts own lowest : Found}
-    → parts ≡ lower (p .lowest) (q .lowest)
-    → own ≡ lowestOf (chargedUnless (Bool·beq (p .transfers) (q .transfers)) n)
-    → lowest ≡ lower own parts
-    → record { transfers = p .transfers && q .transfers; lowest = lowest } ≡ branchedOf n p q
-unfolding branchedOf
-branched-rule n p q a b c = ap (λ (f : Found). record { transfers = p .transfers && q .transfers; lowest = f }) (rw (c, b, a))
+  pub sibling-rule :
+      {p q : ℕ}
+      → p ≡ stateIn image place t .parent
+      → q ≡ stateIn image place s .parent
+      → (not (eqb s 0) && not (eqb t 0) && eqb p q) ≡ siblingOrSelf (designOf image) s t
+  unfolding siblingOrSelf isChild
+  sibling-rule {p = y} {q = z} p q =
+      let d = designOf image in
+      let count = states-count (here .describes) in
+      let target = here .target in
+      let below : t < length (d .states) = omega arith in
+      let first : y ≡ parent d t = (rw (here .states-begin) at p) ∙ ap (λ (y : State). y .parent) (state-in (here .describes) (here .target)) in
+      let second : z ≡ parent d s = (rw (here .states-begin) at q) ∙ ap (λ (y : State). y .parent) (state-in (here .describes) (here .state)) in
+      and-known (not (eqb s 0)) (not (eqb t 0)) (eqb y z) (lt-ltb t (length (d .states)) below) ∙ rw (first, second)
+
+-- ---- the number of a shape
+pub judgement-moves : {b : Bool} (l : ℕ) → b ≡ true → 2 * l + 1 ≡ judgementOf b l
+judgement-moves l e = rw e
+
+pub judgement-stays : {b : Bool} (l : ℕ) → b ≡ false → 2 * l ≡ judgementOf b l
+judgement-stays l e = rw e
+
+-- in the code's order of calls
+module _ (n p q : ℕ) {first second parts own lowest r : ℕ} where
+  pub sequenced-rule :
+      {t u : Bool}
+      → first ≡ p / 2
+      → second ≡ q / 2
+      → parts ≡ min first second
+      → t ≡ eqb (p % 2) 1
+      → own ≡ placeUnless (not t) n
+      → u ≡ eqb (q % 2) 1
+      → lowest ≡ min own parts
+      → r ≡ judgementOf u lowest
+      → r ≡ sequencedAs n p q
+  sequenced-rule a b c d e f g h = rw (h, g, f, e, d, c, b, a)
+
+  pub branched-rule :
+      {t u : Bool}
+      → first ≡ p / 2
+      → second ≡ q / 2
+      → parts ≡ min first second
+      → t ≡ eqb (p % 2) 1
+      → u ≡ eqb (q % 2) 1
+      → own ≡ placeUnless (Bool·beq t u) n
+      → lowest ≡ min own parts
+      → r ≡ judgementOf (t && u) lowest
+      → r ≡ branchedAs n p q
+  branched-rule a b c d e f g h = rw (h, g, f, e, d, c, b, a)
+
+-- ---- what the number of a shape says
+among-judgement : (commands : ℕ) (b : Bool) (l : ℕ) → judgedAmong commands (judgementOf b l) ≡ record { transfers = b; lowest = foundAmong commands l }
+unfolding judgedAmong
+among-judgement commands true l =
+    let odd : (2 * l + 1) % 2 ≡ 1 = omega arith in
+    let half : (2 * l + 1) / 2 ≡ l = omega arith in
+    rw (odd, half)
+among-judgement commands false l =
+    let even : (2 * l) % 2 ≡ 0 = omega arith in
+    let half : (2 * l) / 2 ≡ l = omega arith in
+    rw (even, half)
+
+module _ {commands n : ℕ} (below : n < commands) (few : commands ≤ commandsMax) where
+  -- the lowest of a command's own place and those of its parts
+  found-three : (b : Bool) (p q : ℕ) → foundAmong commands (min (placeUnless b n) (min p q)) ≡ lower (lowestOf (chargedUnless b n)) (lower (foundAmong commands p) (foundAmong commands q))
+  found-three b p q = found-lower commands (placeUnless b n) (min p q) ∙ rw (found-charged b below few, found-lower commands p q)
+
+  sequenced-among : (p q : ℕ) → judgedAmong commands (sequencedAs n p q) ≡ sequencedOf n (judgedAmong commands p) (judgedAmong commands q)
+  unfolding sequencedOf judgedAmong
+  sequenced-among p q =
+      among-judgement commands (eqb (q % 2) 1) (min (placeUnless (not (eqb (p % 2) 1)) n) (min (p / 2) (q / 2)))
+      ∙ ap (λ (f : Found). record { transfers = eqb (q % 2) 1; lowest = f }) (found-three (not (eqb (p % 2) 1)) (p / 2) (q / 2))
+
+  branched-among : (p q : ℕ) → judgedAmong commands (branchedAs n p q) ≡ branchedOf n (judgedAmong commands p) (judgedAmong commands q)
+  unfolding branchedOf judgedAmong
+  branched-among p q =
+      among-judgement commands (eqb (p % 2) 1 && eqb (q % 2) 1) (min (placeUnless (Bool·beq (eqb (p % 2) 1) (eqb (q % 2) 1)) n) (min (p / 2) (q / 2)))
+      ∙ ap (λ (f : Found). record { transfers = eqb (p % 2) 1 && eqb (q % 2) 1; lowest = f }) (found-three (Bool·beq (eqb (p % 2) 1) (eqb (q % 2) 1)) (p / 2) (q / 2))
+
+-- no design has more commands
+commands-few : {image : List ℕ} {x : Design} → Describes image x → length (designOf image .commands) ≤ commandsMax
+commands-few d = let is = d .commands in let count = commands-count d in let most = d .directory .sections Commands .at-most in omega arith
 
 -- ---- what commands come to, as trees
 module _ (d : Table) (s n : ℕ) where
@@ -125,136 +169,191 @@ plain-kind d n (suc (suc (suc (suc zero)))) x a b c e h = absurd (c refl)
 plain-kind d n (suc (suc (suc (suc (suc zero))))) x a b c e h = absurd (e refl)
 plain-kind d n (suc (suc (suc (suc (suc (suc k)))))) x a b c e h = absurd h
 
-module _ {image : List ℕ} {x : Design} {s n : ℕ} {falling : Bool} (j : Judging image x s n falling) where
-  pub node-inside : x .«commands_at» + 8 * n + 8 ≤ length image
-  node-inside = command-inside (j .describes) (j .node)
+module _ {image : List ℕ} {states place s n : ℕ} {falling : Bool} (j : Judging image states place s n falling) where
+  pub node-inside : place + 8 * n + 8 ≤ length image
+  node-inside = rw (j .commands-begin) (command-inside (j .describes) (j .node))
+
+  node-below : n < length (designOf image .commands)
+  node-below = let count = commands-count (j .describes) in let node = j .node in omega arith
+
+  few : length (designOf image .commands) ≤ commandsMax
+  few = commands-few (j .describes)
 
   -- the fields that the accessors read are the command's
-  same-node : nodeIn image (x .«commands_at») n ≡ commandAt (designOf image) n
-  same-node = command-in (j .describes) (j .node)
+  same-node : nodeIn image place n ≡ commandAt (designOf image) n
+  same-node = rw (j .commands-begin) (command-in (j .describes) (j .node))
 
-  kind-is : {k : ℕ} → k ≡ nodeIn image (x .«commands_at») n .kind → k ≡ commandAt (designOf image) n .kind
+  kind-is : {k : ℕ} → k ≡ nodeIn image place n .kind → k ≡ commandAt (designOf image) n .kind
   kind-is p = p ∙ ap (λ (y : Node). y .kind) same-node
 
   holds : CommandHolds (designOf image) n (commandKind (commandAt (designOf image) n .kind)) (commandAt (designOf image) n)
-  holds = let count = commands-count (j .describes) in let node = j .node in command-iff (designOf image) n .0 (j .commands .kept n (omega arith))
+  holds = command-iff (designOf image) n .0 (j .commands .kept n node-below)
 
-  holds-at : {k m : ℕ} → k ≡ nodeIn image (x .«commands_at») n .kind → k ≡ m → CommandHolds (designOf image) n (commandKind m) (commandAt (designOf image) n)
+  holds-at : {k m : ℕ} → k ≡ nodeIn image place n .kind → k ≡ m → CommandHolds (designOf image) n (commandKind m) (commandAt (designOf image) n)
   holds-at p q = rw (sym (kind-is p) ∙ q) at holds
 
   -- a lower command of the same state
-  lower-node : (m : ℕ) → m < n → Judging image x s m falling
-  lower-node m l = let node = j .node in record { describes = j .describes; commands = j .commands; state = j .state; node = omega arith; children = j .children }
+  lower-node : (m : ℕ) → m < n → Judging image states place s m falling
+  lower-node m l =
+      let node = j .node in
+      record {
+        design = j .design;
+        describes = j .describes;
+        commands = j .commands;
+        state = j .state;
+        node = omega arith;
+        children = j .children;
+        states-begin = j .states-begin;
+        commands-begin = j .commands-begin;
+      }
 
   -- ---- the parts of a sequence and of an if
-  sequence-a-below : {k a : ℕ} → k ≡ nodeIn image (x .«commands_at») n .kind → k ≡ 2 → a ≡ nodeIn image (x .«commands_at») n .a → a < n
+  sequence-a-below : {k a : ℕ} → k ≡ nodeIn image place n .kind → k ≡ 2 → a ≡ nodeIn image place n .a → a < n
   unfolding commandKind
   sequence-a-below p q e = rw (e ∙ ap (λ (y : Node). y .a) same-node) (holds-at p q .1)
 
-  pub sequence-a-falls : {k a t : ℕ} → k ≡ nodeIn image (x .«commands_at») n .kind → k ≡ 2 → a ≡ nodeIn image (x .«commands_at») n .a → n ≡ t → a < t
+  pub sequence-a-falls : {k a t : ℕ} → k ≡ nodeIn image place n .kind → k ≡ 2 → a ≡ nodeIn image place n .a → n ≡ t → a < t
   sequence-a-falls p q e m = rw m at (sequence-a-below p q e)
 
-  pub sequence-a : {k a : ℕ} → k ≡ nodeIn image (x .«commands_at») n .kind → k ≡ 2 → a ≡ nodeIn image (x .«commands_at») n .a → Judging image x s a falling
+  pub sequence-a : {k a : ℕ} → k ≡ nodeIn image place n .kind → k ≡ 2 → a ≡ nodeIn image place n .a → Judging image states place s a falling
   sequence-a {a = m} p q e = lower-node m (sequence-a-below p q e)
 
-  sequence-b-below : {k b : ℕ} → k ≡ nodeIn image (x .«commands_at») n .kind → k ≡ 2 → b ≡ nodeIn image (x .«commands_at») n .b → b < n
+  sequence-b-below : {k b : ℕ} → k ≡ nodeIn image place n .kind → k ≡ 2 → b ≡ nodeIn image place n .b → b < n
   unfolding commandKind
   sequence-b-below p q e = rw (e ∙ ap (λ (y : Node). y .b) same-node) (holds-at p q .2)
 
-  pub sequence-b-falls : {k b t : ℕ} → k ≡ nodeIn image (x .«commands_at») n .kind → k ≡ 2 → b ≡ nodeIn image (x .«commands_at») n .b → n ≡ t → b < t
+  pub sequence-b-falls : {k b t : ℕ} → k ≡ nodeIn image place n .kind → k ≡ 2 → b ≡ nodeIn image place n .b → n ≡ t → b < t
   sequence-b-falls p q e m = rw m at (sequence-b-below p q e)
 
-  pub sequence-b : {k b : ℕ} → k ≡ nodeIn image (x .«commands_at») n .kind → k ≡ 2 → b ≡ nodeIn image (x .«commands_at») n .b → Judging image x s b falling
+  pub sequence-b : {k b : ℕ} → k ≡ nodeIn image place n .kind → k ≡ 2 → b ≡ nodeIn image place n .b → Judging image states place s b falling
   sequence-b {b = m} p q e = lower-node m (sequence-b-below p q e)
 
-  branch-b-below : {k b : ℕ} → k ≡ nodeIn image (x .«commands_at») n .kind → k ≡ 5 → b ≡ nodeIn image (x .«commands_at») n .b → b < n
+  branch-b-below : {k b : ℕ} → k ≡ nodeIn image place n .kind → k ≡ 5 → b ≡ nodeIn image place n .b → b < n
   unfolding commandKind
   branch-b-below p q e = rw (e ∙ ap (λ (y : Node). y .b) same-node) (holds-at p q .2)
 
-  pub branch-b-falls : {k b t : ℕ} → k ≡ nodeIn image (x .«commands_at») n .kind → k ≡ 5 → b ≡ nodeIn image (x .«commands_at») n .b → n ≡ t → b < t
+  pub branch-b-falls : {k b t : ℕ} → k ≡ nodeIn image place n .kind → k ≡ 5 → b ≡ nodeIn image place n .b → n ≡ t → b < t
   branch-b-falls p q e m = rw m at (branch-b-below p q e)
 
-  pub branch-b : {k b : ℕ} → k ≡ nodeIn image (x .«commands_at») n .kind → k ≡ 5 → b ≡ nodeIn image (x .«commands_at») n .b → Judging image x s b falling
+  pub branch-b : {k b : ℕ} → k ≡ nodeIn image place n .kind → k ≡ 5 → b ≡ nodeIn image place n .b → Judging image states place s b falling
   branch-b {b = m} p q e = lower-node m (branch-b-below p q e)
 
-  branch-c-below : {k c : ℕ} → k ≡ nodeIn image (x .«commands_at») n .kind → k ≡ 5 → c ≡ nodeIn image (x .«commands_at») n .c → c < n
+  branch-c-below : {k c : ℕ} → k ≡ nodeIn image place n .kind → k ≡ 5 → c ≡ nodeIn image place n .c → c < n
   unfolding commandKind
   branch-c-below p q e = rw (e ∙ ap (λ (y : Node). y .c) same-node) (holds-at p q .3)
 
-  pub branch-c-falls : {k c t : ℕ} → k ≡ nodeIn image (x .«commands_at») n .kind → k ≡ 5 → c ≡ nodeIn image (x .«commands_at») n .c → n ≡ t → c < t
+  pub branch-c-falls : {k c t : ℕ} → k ≡ nodeIn image place n .kind → k ≡ 5 → c ≡ nodeIn image place n .c → n ≡ t → c < t
   branch-c-falls p q e m = rw m at (branch-c-below p q e)
 
-  pub branch-c : {k c : ℕ} → k ≡ nodeIn image (x .«commands_at») n .kind → k ≡ 5 → c ≡ nodeIn image (x .«commands_at») n .c → Judging image x s c falling
+  pub branch-c : {k c : ℕ} → k ≡ nodeIn image place n .kind → k ≡ 5 → c ≡ nodeIn image place n .c → Judging image states place s c falling
   branch-c {c = m} p q e = lower-node m (branch-c-below p q e)
 
   -- the state that a goto names
-  pub goto-state : {k t : ℕ} → k ≡ nodeIn image (x .«commands_at») n .kind → k ≡ 4 → t ≡ nodeIn image (x .«commands_at») n .item → t < x .states
+  pub goto-going : {k t : ℕ} → k ≡ nodeIn image place n .kind → k ≡ 4 → t ≡ nodeIn image place n .item → Going image states s t
   unfolding commandKind
-  goto-state {k} {t} p q e =
+  goto-going {k} {t} p q e =
       let count = states-count (j .describes) in
       let named : t < length (designOf image .states) = rw (e ∙ ap (λ (y : Node). y .item) same-node) (holds-at p q .0) in
-      omega arith
+      record { design = j .design; describes = j .describes; state = j .state; target = omega arith; states-begin = j .states-begin }
 
   -- ---- what the command comes to
-  is-kind : {k m : ℕ} (c : CommandKind) → k ≡ nodeIn image (x .«commands_at») n .kind → k ≡ m → commandKind m ≡ c → commandKind (commandAt (designOf image) n .kind) ≡ c
+  pub charged-small : {f : ℕ} (b : Bool) → f ≡ placeUnless b n → f ≤ commandsMax
+  charged-small {f} true e = omega arith
+  charged-small {f} false e = let below = node-below in let most = few in omega arith
+
+  is-kind : {k m : ℕ} (c : CommandKind) → k ≡ nodeIn image place n .kind → k ≡ m → commandKind m ≡ c → commandKind (commandAt (designOf image) n .kind) ≡ c
   is-kind c p q e = ap commandKind (sym (kind-is p) ∙ q) ∙ e
 
   pub judged-sequence :
-      {k a b : ℕ} {p q r : Judged}
-      → k ≡ nodeIn image (x .«commands_at») n .kind
+      {k a b r : ℕ} (p q : ℕ)
       → k ≡ 2
-      → a ≡ nodeIn image (x .«commands_at») n .a
-      → b ≡ nodeIn image (x .«commands_at») n .b
-      → p ≡ judgedOf (designOf image) s (cmdOf (designOf image) a)
-      → q ≡ judgedOf (designOf image) s (cmdOf (designOf image) b)
-      → r ≡ sequencedOf n p q
-      → r ≡ judgedOf (designOf image) s (cmdOf (designOf image) n)
+      → k ≡ nodeIn image place n .kind
+      → a ≡ nodeIn image place n .a
+      → b ≡ nodeIn image place n .b
+      → r ≡ sequencedAs n p q
+      → judgedAmong (length (designOf image .commands)) p ≡ judgedOf (designOf image) s (cmdOf (designOf image) a)
+      → judgedAmong (length (designOf image .commands)) q ≡ judgedOf (designOf image) s (cmdOf (designOf image) b)
+      → judgedAmong (length (designOf image .commands)) r ≡ judgedOf (designOf image) s (cmdOf (designOf image) n)
   unfolding commandKind
-  judged-sequence {a = a} {b = b} e f ea eb ep eq er =
+  judged-sequence {a = a} {b = b} p q f e ea eb er ep eq =
       let d = designOf image in
       let tree = cmd-sequence d n (is-kind sequences e f refl) (holds-at e f .1) (holds-at e f .2) in
       let first : a ≡ commandAt d n .a = ea ∙ ap (λ (y : Node). y .a) same-node in
       let second : b ≡ commandAt d n .b = eb ∙ ap (λ (y : Node). y .b) same-node in
-      er ∙ rw (ep, eq, first, second, tree) (sequence-tree d s n (cmdOf d (commandAt d n .a)) (cmdOf d (commandAt d n .b)))
+      ap (judgedAmong (length (d .commands))) er
+      ∙ (sequenced-among node-below few p q
+      ∙ rw (ep, eq, first, second, tree) (sequence-tree d s n (cmdOf d (commandAt d n .a)) (cmdOf d (commandAt d n .b))))
 
   pub judged-branch :
-      {k b c : ℕ} {p q r : Judged}
-      → k ≡ nodeIn image (x .«commands_at») n .kind
+      {k b c r : ℕ} (p q : ℕ)
       → k ≡ 5
-      → b ≡ nodeIn image (x .«commands_at») n .b
-      → c ≡ nodeIn image (x .«commands_at») n .c
-      → p ≡ judgedOf (designOf image) s (cmdOf (designOf image) b)
-      → q ≡ judgedOf (designOf image) s (cmdOf (designOf image) c)
-      → r ≡ branchedOf n p q
-      → r ≡ judgedOf (designOf image) s (cmdOf (designOf image) n)
+      → k ≡ nodeIn image place n .kind
+      → b ≡ nodeIn image place n .b
+      → c ≡ nodeIn image place n .c
+      → r ≡ branchedAs n p q
+      → judgedAmong (length (designOf image .commands)) p ≡ judgedOf (designOf image) s (cmdOf (designOf image) b)
+      → judgedAmong (length (designOf image .commands)) q ≡ judgedOf (designOf image) s (cmdOf (designOf image) c)
+      → judgedAmong (length (designOf image .commands)) r ≡ judgedOf (designOf image) s (cmdOf (designOf image) n)
   unfolding commandKind
-  judged-branch {b = b} {c = c} e f eb ec ep eq er =
+  judged-branch {b = b} {c = c} p q f e eb ec er ep eq =
       let d = designOf image in
       let tree = cmd-branch d n (is-kind branches e f refl) (holds-at e f .2) (holds-at e f .3) in
       let first : b ≡ commandAt d n .b = eb ∙ ap (λ (y : Node). y .b) same-node in
       let second : c ≡ commandAt d n .c = ec ∙ ap (λ (y : Node). y .c) same-node in
-      er ∙ rw (ep, eq, first, second, tree) (branch-tree d s n (exprOf d (commandAt d n .a)) (cmdOf d (commandAt d n .b)) (cmdOf d (commandAt d n .c)))
+      ap (judgedAmong (length (d .commands))) er
+      ∙ (branched-among node-below few p q
+      ∙ rw (ep, eq, first, second, tree) (branch-tree d s n (exprOf d (commandAt d n .a)) (cmdOf d (commandAt d n .b)) (cmdOf d (commandAt d n .c))))
 
-  pub judged-fall : {k : ℕ} {f : Found} → k ≡ nodeIn image (x .«commands_at») n .kind → k ≡ 3 → f ≡ lowestOf (chargedUnless falling n)
-      → record { transfers = true; lowest = f } ≡ judgedOf (designOf image) s (cmdOf (designOf image) n)
-  unfolding commandKind
-  judged-fall e f g = rw (g, j .children, cmd-fall (designOf image) n (is-kind falls e f refl)) (fall-tree (designOf image) s n)
+  -- a command that transfers by itself
+  transfer-among : {f r : ℕ} (b : Bool) → f ≡ placeUnless b n → r ≡ judgementOf true f → judgedAmong (length (designOf image .commands)) r ≡ record { transfers = true; lowest = lowestOf (chargedUnless b n) }
+  transfer-among {f} b g h =
+      let commands = length (designOf image .commands) in
+      ap (judgedAmong commands) h
+      ∙ (among-judgement commands true f
+      ∙ ap (λ (y : Found). record { transfers = true; lowest = y }) (ap (foundAmong commands) g ∙ found-charged b node-below few))
 
-  pub judged-goto : {k t : ℕ} {b : Bool} {f : Found} → k ≡ nodeIn image (x .«commands_at») n .kind → k ≡ 4 → t ≡ nodeIn image (x .«commands_at») n .item → b ≡ siblingOrSelf (designOf image) s t → f ≡ lowestOf (chargedUnless b n)
-      → record { transfers = true; lowest = f } ≡ judgedOf (designOf image) s (cmdOf (designOf image) n)
+  pub judged-fall : {k f r : ℕ} → k ≡ 3 → k ≡ nodeIn image place n .kind → f ≡ placeUnless falling n → r ≡ judgementOf true f
+      → judgedAmong (length (designOf image .commands)) r ≡ judgedOf (designOf image) s (cmdOf (designOf image) n)
   unfolding commandKind
-  judged-goto {t = t} e f et eb g =
+  judged-fall f e g h = transfer-among falling g h ∙ rw (j .children, cmd-fall (designOf image) n (is-kind falls e f refl)) (fall-tree (designOf image) s n)
+
+  pub judged-goto : {k t f r : ℕ} {b : Bool} → k ≡ 4 → k ≡ nodeIn image place n .kind → t ≡ nodeIn image place n .item → b ≡ siblingOrSelf (designOf image) s t → f ≡ placeUnless b n → r ≡ judgementOf true f
+      → judgedAmong (length (designOf image .commands)) r ≡ judgedOf (designOf image) s (cmdOf (designOf image) n)
+  unfolding commandKind
+  judged-goto {t = t} {b = b} f e et eb g h =
       let named : t ≡ commandAt (designOf image) n .item = et ∙ ap (λ (y : Node). y .item) same-node in
-      rw (g, eb, named, cmd-goto (designOf image) n (is-kind goes e f refl)) (goto-tree (designOf image) s n (commandAt (designOf image) n .item))
+      transfer-among b g h ∙ rw (eb, named, cmd-goto (designOf image) n (is-kind goes e f refl)) (goto-tree (designOf image) s n (commandAt (designOf image) n .item))
 
-  pub judged-plain : {k : ℕ} → k ≡ nodeIn image (x .«commands_at») n .kind → (k ≡ 2 → ⊥) → (k ≡ 3 → ⊥) → (k ≡ 4 → ⊥) → (k ≡ 5 → ⊥)
-      → record { transfers = false; lowest = Nowhere } ≡ judgedOf (designOf image) s (cmdOf (designOf image) n)
-  judged-plain {k} e a b c f =
+  nowhere-among : {r : ℕ} → r ≡ judgementOf false commandsMax → judgedAmong (length (designOf image .commands)) r ≡ record { transfers = false; lowest = Nowhere }
+  nowhere-among h =
+      let commands = length (designOf image .commands) in
+      ap (judgedAmong commands) h
+      ∙ (among-judgement commands false commandsMax ∙ ap (λ (y : Found). record { transfers = false; lowest = y }) (found-nowhere few))
+
+  pub judged-plain : {k r : ℕ} → k ≡ nodeIn image place n .kind → (k ≡ 2 → ⊥) → (k ≡ 3 → ⊥) → (k ≡ 4 → ⊥) → (k ≡ 5 → ⊥) → r ≡ judgementOf false commandsMax
+      → judgedAmong (length (designOf image .commands)) r ≡ judgedOf (designOf image) s (cmdOf (designOf image) n)
+  judged-plain {k} e a b c f g =
       let d = designOf image in
-      ⊎-elim
+      nowhere-among g
+      ∙ ⊎-elim
       (λ (h : commandKind k ≡ skips). rw (cmd-skip d n (is-kind skips e refl h)) (skip-tree d s n))
       (λ (h : commandKind k ≡ assigns). rw (cmd-assign d n (is-kind assigns e refl h)) (assign-tree d s n (commandAt d n .item) (exprOf d (commandAt d n .a))))
       (plain-kind d n k (commandAt d n) a b c f (holds-at e refl))
+
+-- ---- the numbers stay small: at most twice no place, and one more
+pub judgement-small : {f r : ℕ} (b : Bool) → r ≡ judgementOf b f → f ≤ commandsMax → r ≤ 2049
+judgement-small true e l = omega arith
+judgement-small false e l = omega arith
+
+-- the lowest place is no higher than that of a part
+parts-small : (own p q : ℕ) → p ≤ 2049 → min own (min (p / 2) (q / 2)) ≤ commandsMax
+parts-small own p q l = omega arith
+
+pub sequenced-small : {r : ℕ} (n p q : ℕ) → r ≡ sequencedAs n p q → p ≤ 2049 → r ≤ 2049
+sequenced-small n p q e l = judgement-small (eqb (q % 2) 1) e (parts-small (placeUnless (not (eqb (p % 2) 1)) n) p q l)
+
+pub branched-small : {r : ℕ} (n p q : ℕ) → r ≡ branchedAs n p q → p ≤ 2049 → r ≤ 2049
+branched-small n p q e l = judgement-small (eqb (p % 2) 1 && eqb (q % 2) 1) e (parts-small (placeUnless (Bool·beq (eqb (p % 2) 1) (eqb (q % 2) 1)) n) p q l)
 
 -- ---- children
 pub child-rule : {image : List ℕ} {x : Design} {q p : ℕ} (s : ℕ) → Describes image x → q < x .states → p ≡ stateIn image (x .«states_at») q .parent
@@ -272,48 +371,78 @@ no-child s d m l = none-pass m l (states-count d)
 
 -- ---- states
 module _ {image : List ℕ} {x : Design} (known : ShapeKnown image x) where
-  pub body-judging : {s n : ℕ} {b : Bool} → s < x .states → n ≡ stateIn image (x .«states_at») s .command → b ≡ hasChild (designOf image) s → Judging image x s n b
-  body-judging {s} {n} l e h =
+  body-below : {s n : ℕ} → s < x .states → n ≡ stateIn image (x .«states_at») s .command → n < x .commands
+  body-below {s} {n} l e =
       let states = states-count (known .describes) in
       let commands = commands-count (known .describes) in
       let kept = state-iff (designOf image) s .0 (known .states .kept s (omega arith)) .command in
       let same : n ≡ stateAt (designOf image) s .command = e ∙ ap (λ (y : State). y .command) (state-in (known .describes) l) in
-      record { describes = known .describes; commands = known .commands; state = l; node = omega arith; children = h }
+      omega arith
+
+  pub body-judging : {s n : ℕ} {b : Bool} → s < x .states → n ≡ stateIn image (x .«states_at») s .command → b ≡ hasChild (designOf image) s → Judging image (x .«states_at») (x .«commands_at») s n b
+  body-judging l e h =
+      record {
+        design = x;
+        describes = known .describes;
+        commands = known .commands;
+        state = l;
+        node = body-below l e;
+        children = h;
+        states-begin = refl;
+        commands-begin = refl;
+      }
 
   pub state-shape-rule :
-      {s n : ℕ} {body : Judged} {own r : Found}
+      {s n own place r : ℕ} {b : Bool} (body : ℕ)
       → s < x .states
       → n ≡ stateIn image (x .«states_at») s .command
-      → body ≡ judgedOf (designOf image) s (cmdOf (designOf image) n)
-      → own ≡ lowestOf (chargedUnless (body .transfers) n)
-      → r ≡ lower own (body .lowest)
-      → r ≡ lowestOf (stateShapeFaults (designOf image) s)
-  unfolding stateShapeFaults bodyOf judgedOf
-  state-shape-rule {s} {n} l e b o r =
+      → judgedAmong (length (designOf image .commands)) body ≡ judgedOf (designOf image) s (cmdOf (designOf image) n)
+      → b ≡ eqb (body % 2) 1
+      → own ≡ placeUnless b n
+      → place ≡ body / 2
+      → r ≡ min own place
+      → foundAmong (length (designOf image .commands)) r ≡ lowestOf (stateShapeFaults (designOf image) s)
+  unfolding stateShapeFaults bodyOf judgedOf judgedAmong
+  state-shape-rule {s} {n} {own} {place} {b = b} body l e j t o p r =
       let d = designOf image in
+      let commands = length (d .commands) in
+      let count = commands-count (known .describes) in
+      let node = body-below l e in
+      let below : n < commands = omega arith in
       let same : n ≡ stateAt d s .command = e ∙ ap (λ (y : State). y .command) (state-in (known .describes) l) in
-      r ∙ rw (o, b, same) (sym (lowest-append (chargedUnless (transfers (cmdOf d (stateAt d s .command))) (stateAt d s .command)) (shapeFaults d s (cmdOf d (stateAt d s .command)))))
+      let transferring : b ≡ transfers (cmdOf d n) = t ∙ ap (λ (y : Judged). y .transfers) j in
+      let first : foundAmong commands own ≡ lowestOf (chargedUnless (transfers (cmdOf d n)) n) = ap (foundAmong commands) o ∙ (found-charged b below (commands-few (known .describes)) ∙ ap (λ (y : Bool). lowestOf (chargedUnless y n)) transferring) in
+      let second : foundAmong commands place ≡ lowestOf (shapeFaults d s (cmdOf d n)) = ap (foundAmong commands) p ∙ ap (λ (y : Judged). y .lowest) j in
+      ap (foundAmong commands) r
+      ∙ (found-lower commands own place
+      ∙ rw (first, second, same) (sym (lowest-append (chargedUnless (transfers (cmdOf d (stateAt d s .command))) (stateAt d s .command)) (shapeFaults d s (cmdOf d (stateAt d s .command))))))
 
--- the lowest fault of the states before s
-pub record LowestSo (d : Table) (s : ℕ) (lowest : Found) : Type 0 where
-  pub is : lowest ≡ lowestOf (joinBelow (stateShapeFaults d) s)
+-- the lowest fault of the states before s, as a place
+pub record LowestSo (d : Table) (s lowest : ℕ) : Type 0 where
+  pub is : foundAmong (length (d .commands)) lowest ≡ lowestOf (joinBelow (stateShapeFaults d) s)
 
-module _ {d : Table} where
-  pub lowest-none-yet : LowestSo d 0 Nowhere
-  unfolding joinBelow lowestOf
-  lowest-none-yet = record { is = refl }
+pub lowest-none-yet : {image : List ℕ} {x : Design} → ShapeKnown image x → LowestSo (designOf image) 0 commandsMax
+unfolding joinBelow lowestOf
+lowest-none-yet known = record { is = found-nowhere (commands-few (known .describes)) }
 
-  pub lowest-one-more : {s : ℕ} {so here r : Found} → LowestSo d s so → here ≡ lowestOf (stateShapeFaults d s) → r ≡ lower so here → LowestSo d (s + 1) r
-  unfolding joinBelow
-  lowest-one-more {s} so here r =
-      record { is = r ∙ rw (so .is, here, add-one s) (sym (lowest-append (joinBelow (stateShapeFaults d) s) (stateShapeFaults d s))) }
+pub lowest-one-more : {d : Table} {s so r : ℕ} (here : ℕ) → LowestSo d s so → foundAmong (length (d .commands)) here ≡ lowestOf (stateShapeFaults d s) → r ≡ min so here → LowestSo d (s + 1) r
+unfolding joinBelow
+lowest-one-more {d} {s} {so} here before e r =
+    let commands = length (d .commands) in
+    record {
+      is =
+          ap (foundAmong commands) r
+          ∙ (found-lower commands so here ∙ rw (before .is, e, add-one s) (sym (lowest-append (joinBelow (stateShapeFaults d) s) (stateShapeFaults d s))));
+    }
 
-pub lowest-of-all : {image : List ℕ} {x : Design} {s : ℕ} {r : Found} → Describes image x → LowestSo (designOf image) s r → s ≤ x .states → x .states ≤ s → r ≡ shapeFault (designOf image)
+pub lowest-of-all : {image : List ℕ} {x : Design} {s place : ℕ} {r : Found} → ShapeKnown image x → LowestSo (designOf image) s place → s ≤ x .states → x .states ≤ s → r ≡ foundAmong (x .commands) place → r ≡ shapeFault (designOf image)
 unfolding shapeFault
-lowest-of-all {image} {x} {s} d so l m =
-    let count = states-count d in
+lowest-of-all {image} {x} {s} {place} known so l m e =
+    let count = states-count (known .describes) in
     let end : s ≡ length (designOf image .states) = omega arith in
-    so .is ∙ ap (λ (n : ℕ). lowestOf (joinBelow (stateShapeFaults (designOf image)) n)) end
+    e
+    ∙ (ap (λ (n : ℕ). foundAmong n place) (commands-count (known .describes))
+    ∙ (so .is ∙ ap (λ (n : ℕ). lowestOf (joinBelow (stateShapeFaults (designOf image)) n)) end))
 
 -- what the recursion cites
-pub ruleset judge-laws = (node-inside, sequence-a-falls, sequence-a, sequence-b-falls, sequence-b, branch-b-falls, branch-b, branch-c-falls, branch-c, goto-state, judged-sequence, judged-branch, judged-fall, judged-goto, judged-plain)
+pub ruleset judge-laws = (node-inside, sequence-a-falls, sequence-a, sequence-b-falls, sequence-b, branch-b-falls, branch-b, branch-c-falls, branch-c, goto-going, charged-small, judged-sequence, judged-branch, judged-fall, judged-goto, judged-plain, judgement-small, sequenced-small, branched-small)

@@ -1,9 +1,10 @@
 -- What the pass for refusal 8 knows and finds at a command.
-use Prim.Native.Nat.{ℕ, _<_}
+use Prim.Native.Nat.{ℕ, min, _+_, _*_, _/_, _%_, _<_}
 use mathlib.Core.Path.{_≡_}
-use mathlib.Core.Bool.{Bool, _&&_, not, Bool·beq}
+use mathlib.Core.Bool.{Bool, cond, _&&_, not, Bool·beq}
 use mathlib.Core.List.{List}
-use Rattle.bodies.specs.declared.shape.Judged.{Judged}
+use lib.Dec.{eqb}
+use Rattle.model.specs.declared.Found.{Found}
 use Rattle.model.specs.Indices.{lower, lowestOf}
 use Rattle.model.specs.Image.{designOf, Design as Table}
 use Rattle.model.specs.States.{hasChild}
@@ -12,8 +13,13 @@ use Rattle.model.specs.Shape.{transfers, chargedUnless, shapeFaults}
 use Rattle.design.specs.declared.Design.{Design}
 use Rattle.design.specs.Describes.{Describes}
 use Rattle.design.specs.Kept.{StatesKept, CommandsKept}
+use Rattle.bodies.specs.Places.{placeUnless, foundAmong}
 
--- whether a command transfers, and the lowest node at which a shape rule of it fails
+-- what a command's shape comes to: whether it transfers, and the lowest node that breaks a rule
+pub record Judged : Type 0 where
+  pub transfers : Bool
+  pub lowest : Found
+
 unfoldable pub judgedOf : Table → ℕ → Cmd → Judged
 judgedOf d s c = record { transfers = transfers c; lowest = lowestOf (shapeFaults d s c) }
 
@@ -28,13 +34,39 @@ branchedOf n p q =
       lowest = lower (lowestOf (chargedUnless (Bool·beq (p .transfers) (q .transfers)) n)) (lower (p .lowest) (q .lowest));
     }
 
--- what is known where command n of state s is judged
-pub record Judging (image : List ℕ) (x : Design) (s n : ℕ) (falls : Bool) : Type 0 where
-  pub describes : Describes image x
+-- the same as one number, as the code carries it: twice the lowest place, and one more where the command transfers
+abbrev pub judgementOf : Bool → ℕ → ℕ
+judgementOf transfers place = cond transfers (2 * place + 1) (2 * place)
+
+-- what a number says, among so many commands
+unfoldable pub judgedAmong : ℕ → ℕ → Judged
+judgedAmong commands r = record { transfers = eqb (r % 2) 1; lowest = foundAmong commands (r / 2) }
+
+-- the numbers of a sequence and of an if, from those of their parts
+abbrev pub sequencedAs : ℕ → ℕ → ℕ → ℕ
+sequencedAs n p q = judgementOf (eqb (q % 2) 1) (min (placeUnless (not (eqb (p % 2) 1)) n) (min (p / 2) (q / 2)))
+
+abbrev pub branchedAs : ℕ → ℕ → ℕ → ℕ
+branchedAs n p q = judgementOf (eqb (p % 2) 1 && eqb (q % 2) 1) (min (placeUnless (Bool·beq (eqb (p % 2) 1) (eqb (q % 2) 1)) n) (min (p / 2) (q / 2)))
+
+-- what is known where command n of state s is judged; the recursion has the places of a design instead of the design
+pub record Judging (image : List ℕ) (statesAt commandsAt s n : ℕ) (falls : Bool) : Type 0 where
+  pub design : Design
+  pub describes : Describes image design
   pub commands : CommandsKept (designOf image)
-  pub state : s < x .states
-  pub node : n < x .commands
+  pub state : s < design .states
+  pub node : n < design .commands
   pub children : falls ≡ hasChild (designOf image) s
+  pub states-begin : statesAt ≡ design .«states_at»
+  pub commands-begin : commandsAt ≡ design .«commands_at»
+
+-- and where a command of state s goes to state t
+pub record Going (image : List ℕ) (statesAt s t : ℕ) : Type 0 where
+  pub design : Design
+  pub describes : Describes image design
+  pub state : s < design .states
+  pub target : t < design .states
+  pub states-begin : statesAt ≡ design .«states_at»
 
 -- what the passes up to refusal 5 have established, and the shape pass needs
 pub record ShapeKnown (image : List ℕ) (x : Design) : Type 0 where

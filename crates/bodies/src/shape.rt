@@ -1,125 +1,117 @@
-// Refusal 8: the shape of commands, by recursion over their parts.
+// Refusal 8: the shape of commands, by recursion over their parts. What a command's shape comes to
+// is one number, which the recursion hands back in a register of the processor: twice the lowest
+// place that breaks a rule, and one more where the command transfers. It is at most 2049.
+use crate::places::NOWHERE;
+use crate::places::charged_unless;
+use crate::places::found;
+use crate::places::lower;
 use design::Design;
 use model::Found;
-ghost use Prim.Native.Nat.{_<_};
+ghost use Prim.Native.Nat.{_/_, _%_, _≤_, _<_};
 ghost use mathlib.Core.Path.{_≡_};
-ghost use mathlib.Core.Bool.{not, Bool·beq};
-ghost use Rattle.model.specs.Indices.{lower as lowerOf, lowestOf};
+ghost use lib.Dec.{eqb};
+ghost use lib.ListN.{length};
+ghost use Rattle.model.specs.Indices.{lowestOf};
+ghost use Rattle.model.specs.Limits.{commandsMax};
 ghost use Rattle.model.specs.Image.{designOf};
 ghost use Rattle.model.specs.Trees.{cmdOf};
 ghost use Rattle.model.specs.States.{isChild, hasChild, siblingOrSelf};
-ghost use Rattle.model.specs.Shape.{chargedUnless, stateShapeFaults, shapeFault};
+ghost use Rattle.model.specs.Shape.{stateShapeFaults, shapeFault};
 ghost use Rattle.design.specs.Describes.{Describes};
-ghost use Rattle.bodies.specs.Shapes.{sequencedOf, branchedOf, judgedOf, Judging, ShapeKnown};
+ghost use Rattle.bodies.specs.Places.{foundAmong};
+ghost use Rattle.bodies.specs.Shapes.{judgementOf, judgedAmong, sequencedAs, branchedAs, judgedOf, Going, Judging, ShapeKnown};
 
-// What a command's shape comes to: whether it transfers, and the lowest node that breaks a rule.
-pub struct Judged {
-    pub transfers: bool,
-    pub lowest: Found,
-}
-
-// The lower of two finds.
-fn lower(a: Found, b: Found) -> Found
-    ensures { λ r. ⌜ r ≡ lowerOf a b ⌝ }
+// What a shape comes to, as a number.
+fn judgement(transfers: bool, lowest: usize) -> usize
+    requires { ⌜ lowest ≤ commandsMax ⌝ }
+    ensures { λ r. ⌜ r ≡ judgementOf transfers lowest ⌝ }
 {
-    let Found::At(i) = a else {
-        return b;
-    };
-    let Found::At(j) = b else {
-        return a;
-    };
-    if j < i { Found::At(j) } else { Found::At(i) }
-}
-
-// The node, unless its rule is kept.
-fn charged_unless(kept: bool, n: usize) -> Found
-    ensures { λ r. ⌜ r ≡ lowestOf (chargedUnless kept n) ⌝ }
-{
-    if kept {
-        return Found::Nowhere;
+    if transfers {
+        return 2 * lowest + 1;
     }
-    Found::At(n)
+    2 * lowest
 }
 
-// State t is s or a sibling of s.
-fn sibling_or_self(image: &[u8], design: Design, s: usize, t: usize) -> bool
-    requires { ⌜ Describes (now image) design × (s < design .states) × (t < design .states) ⌝ }
+// Whether the command transfers.
+fn transfers(judged: usize) -> bool
+    ensures { λ r. ⌜ r ≡ eqb (judged % 2) 1 ⌝ }
+{
+    judged % 2 == 1
+}
+
+// The lowest place that breaks a rule.
+fn lowest(judged: usize) -> usize
+    ensures { λ r. ⌜ r ≡ judged / 2 ⌝ }
+{
+    judged / 2
+}
+
+// State t is s or a sibling of s; the states begin at a place.
+fn sibling_or_self(image: &[u8], at: usize, s: usize, t: usize) -> bool
+    requires { ⌜ Going (now image) at s t ⌝ }
     ensures { λ r. ⌜ r ≡ siblingOrSelf (designOf (now (image .entry))) s t ⌝ }
 {
-    let at = design.states_at;
-    (s != 0)
-        & (t != 0)
-        & (t < design.states)
-        & (Design::parent(image, at, t) == Design::parent(image, at, s))
+    (s != 0) & (t != 0) & (Design::parent(image, at, t) == Design::parent(image, at, s))
 }
 
 // What a sequence comes to, from its parts.
-fn sequenced(n: usize, p: Judged, q: Judged) -> Judged
-    ensures { λ r. ⌜ r ≡ sequencedOf n p q ⌝ }
+fn sequenced(n: usize, p: usize, q: usize) -> usize
+    requires { ⌜ (p ≤ 2049) × (q ≤ 2049) ⌝ }
+    ensures { λ r. ⌜ r ≡ sequencedAs n p q ⌝ }
 {
-    let first = p.lowest;
-    let second = q.lowest;
-    let parts = lower(first, second);
-    let own = charged_unless(!p.transfers, n);
-    let lowest = lower(own, parts);
-    Judged {
-        transfers: q.transfers,
-        lowest,
-    }
+    let parts = lower(lowest(p), lowest(q));
+    let own = charged_unless(!transfers(p), n);
+    judgement(transfers(q), lower(own, parts))
 }
 
 // What an if comes to, from its branches.
-fn branched(n: usize, p: Judged, q: Judged) -> Judged
-    ensures { λ r. ⌜ r ≡ branchedOf n p q ⌝ }
+fn branched(n: usize, p: usize, q: usize) -> usize
+    requires { ⌜ (p ≤ 2049) × (q ≤ 2049) ⌝ }
+    ensures { λ r. ⌜ r ≡ branchedAs n p q ⌝ }
 {
-    let first = p.lowest;
-    let second = q.lowest;
-    let parts = lower(first, second);
-    let own = charged_unless(p.transfers == q.transfers, n);
-    let lowest = lower(own, parts);
-    Judged {
-        transfers: p.transfers & q.transfers,
-        lowest,
-    }
+    let parts = lower(lowest(p), lowest(q));
+    let first = transfers(p);
+    let second = transfers(q);
+    let own = charged_unless(first == second, n);
+    judgement(first & second, lower(own, parts))
 }
 
-// What command n of state s comes to; falls tells whether s has a child.
-fn judge(image: &[u8], design: Design, s: usize, falls: bool, n: usize) -> Judged
-    requires { ⌜ Judging (now image) design s n falls ⌝ }
-    ensures { λ r. ⌜ r ≡ judgedOf (designOf (now (image .entry))) s (cmdOf (designOf (now (image .entry))) n) ⌝ }
+// What command n of state s comes to; falls tells whether s has a child. The places are where the
+// states and the commands begin: the whole design would be copied at every call.
+fn judge(
+    image: &[u8],
+    states_at: usize,
+    commands_at: usize,
+    s: usize,
+    falls: bool,
+    n: usize,
+) -> usize
+    requires { ⌜ Judging (now image) «states_at» «commands_at» s n falls ⌝ }
+    ensures { λ r. ⌜ (judgedAmong (length (designOf (now (image .entry)) .commands)) r ≡ judgedOf (designOf (now (image .entry))) s (cmdOf (designOf (now (image .entry))) n)) × (r ≤ 2049) ⌝ }
 {
-    let at = design.commands_at;
-    let kind = Design::kind(image, at, n);
+    let kind = Design::kind(image, commands_at, n);
     match kind {
         2 => {
-            let a = Design::part_a(image, at, n);
-            let b = Design::part_b(image, at, n);
-            let p = judge(&*image, design, s, falls, a);
-            let q = judge(&*image, design, s, falls, b);
+            let a = Design::part_a(image, commands_at, n);
+            let b = Design::part_b(image, commands_at, n);
+            let p = judge(&*image, states_at, commands_at, s, falls, a);
+            let q = judge(&*image, states_at, commands_at, s, falls, b);
             sequenced(n, p, q)
         }
-        3 => Judged {
-            transfers: true,
-            lowest: charged_unless(falls, n),
-        },
+        3 => judgement(true, charged_unless(falls, n)),
         4 => {
-            let t = Design::item(image, at, n);
-            Judged {
-                transfers: true,
-                lowest: charged_unless(sibling_or_self(image, design, s, t), n),
-            }
+            let t = Design::item(image, commands_at, n);
+            let kept = sibling_or_self(image, states_at, s, t);
+            judgement(true, charged_unless(kept, n))
         }
         5 => {
-            let b = Design::part_b(image, at, n);
-            let c = Design::part_c(image, at, n);
-            let p = judge(&*image, design, s, falls, b);
-            let q = judge(&*image, design, s, falls, c);
+            let b = Design::part_b(image, commands_at, n);
+            let c = Design::part_c(image, commands_at, n);
+            let p = judge(&*image, states_at, commands_at, s, falls, b);
+            let q = judge(&*image, states_at, commands_at, s, falls, c);
             branched(n, p, q)
         }
-        _ => Judged {
-            transfers: false,
-            lowest: Found::Nowhere,
-        },
+        _ => judgement(false, NOWHERE),
     }
 }
 
@@ -146,19 +138,18 @@ pub fn has_child(image: &[u8], design: Design, s: usize) -> bool
     false
 }
 
-// The lowest node of state s that breaks a shape rule; a state that does not transfer is charged to
+// The lowest place in state s that breaks a shape rule; a state that does not transfer is charged to
 // its command.
-fn state_shape(image: &[u8], design: Design, s: usize) -> Found
+fn state_shape(image: &[u8], design: Design, s: usize) -> usize
     requires { ⌜ ShapeKnown (now image) design × (s < design .states) ⌝ }
-    ensures { λ r. ⌜ r ≡ lowestOf (stateShapeFaults (designOf (now (image .entry))) s) ⌝ }
+    ensures { λ r. ⌜ foundAmong (length (designOf (now (image .entry)) .commands)) r ≡ lowestOf (stateShapeFaults (designOf (now (image .entry))) s) ⌝ }
 {
     let at = design.states_at;
     let n = Design::state_command(image, at, s);
     let falls = has_child(image, design, s);
-    let body = judge(image, design, s, falls, n);
-    let own = charged_unless(body.transfers, n);
-    let lowest = body.lowest;
-    lower(own, lowest)
+    let body = judge(image, at, design.commands_at, s, falls, n);
+    let own = charged_unless(transfers(body), n);
+    lower(own, lowest(body))
 }
 
 // Refusal 8, at the lowest node.
@@ -166,12 +157,12 @@ pub fn shapes(image: &[u8], design: Design) -> Found
     requires { ⌜ ShapeKnown (now image) design ⌝ }
     ensures { λ r. ⌜ r ≡ shapeFault (designOf (now (image .entry))) ⌝ }
 {
-    let mut lowest = Found::Nowhere;
+    let mut lowest = NOWHERE;
     let mut s = 0;
     while s < design.states {
         let here = state_shape(image, design, s);
         lowest = lower(lowest, here);
         s += 1;
     }
-    lowest
+    found(lowest, design.commands)
 }

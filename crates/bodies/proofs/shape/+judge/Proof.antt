@@ -11,15 +11,16 @@ use Rattle.design.proofs.Design.kind.Reads as kind-reads
 use Rattle.design.proofs.Design.part_a.Reads as part-a-reads
 use Rattle.design.proofs.Design.part_b.Reads as part-b-reads
 use Rattle.design.proofs.Design.part_c.Reads as part-c-reads
+use Rattle.bodies.proofs.places.charged_unless.Reads as charged-unless-reads
 use Rattle.bodies.proofs.shape.branched.Reads as branched-reads
-use Rattle.bodies.proofs.shape.charged_unless.Reads as charged-unless-reads
+use Rattle.bodies.proofs.shape.judgement.Reads as judgement-reads
 use Rattle.bodies.proofs.shape.sequenced.Reads as sequenced-reads
 use Rattle.bodies.proofs.shape.sibling_or_self.Reads as sibling-or-self-reads
 use Rattle.bodies.proofs.shape.+judge.{statement}
 use Rattle.bodies.proofs.shape.+judge.Tie.{close}
 
 abbrev μ-judge : Measures 1 judge-kinds.ps ℕ
-μ-judge κs a = a .1 .1 .1 .1 .0
+μ-judge κs a = a .1 .1 .1 .1 .1 .0
 
 abbrev judge-at : ℕ → In 1 judge-kinds.ps
 judge-at t = and 1 judge-kinds.ps (is 1 judge-kinds.ps μ-judge t) judge.Pre
@@ -29,7 +30,7 @@ judge-below t = and 1 judge-kinds.ps (falls 1 judge-kinds.ps _<_ μ-judge t) jud
 
 -- what the callees ask and tell
 abbrev judge-calls : ℕ → judge-lts.Claims
-judge-calls t = (kind-reads.Asked, kind-reads.Learnt, part-a-reads.Asked, part-a-reads.Learnt, part-b-reads.Asked, part-b-reads.Learnt, judge-below t, judge.Post, sequenced-reads.Asked, sequenced-reads.Learnt, charged-unless-reads.Asked, charged-unless-reads.Learnt, item-reads.Asked, item-reads.Learnt, sibling-or-self-reads.Asked, sibling-or-self-reads.Learnt, part-c-reads.Asked, part-c-reads.Learnt, branched-reads.Asked, branched-reads.Learnt)
+judge-calls t = (kind-reads.Asked, kind-reads.Learnt, part-a-reads.Asked, part-a-reads.Learnt, part-b-reads.Asked, part-b-reads.Learnt, judge-below t, judge.Post, sequenced-reads.Asked, sequenced-reads.Learnt, charged-unless-reads.Asked, charged-unless-reads.Learnt, judgement-reads.Asked, judgement-reads.Learnt, item-reads.Asked, item-reads.Learnt, sibling-or-self-reads.Asked, sibling-or-self-reads.Learnt, part-c-reads.Asked, part-c-reads.Learnt, branched-reads.Asked, branched-reads.Learnt)
 
 judge-kind-requires : (t : ℕ) → judge-lts.Need-kind-requires (judge-calls t) (judge-at t) judge.Post
 judge-kind-requires t c κs = search (judge-laws, needs)
@@ -52,6 +53,9 @@ judge-sequenced-requires t c κs = search (judge-laws, needs)
 judge-charged-unless-requires : (t : ℕ) → judge-lts.Need-charged-unless-requires (judge-calls t) (judge-at t) judge.Post
 judge-charged-unless-requires t c κs = search (judge-laws, needs)
 
+judge-judgement-requires : (t : ℕ) → judge-lts.Need-judgement-requires (judge-calls t) (judge-at t) judge.Post
+judge-judgement-requires t c κs = search (judge-laws, needs)
+
 judge-item-requires : (t : ℕ) → judge-lts.Need-item-requires (judge-calls t) (judge-at t) judge.Post
 judge-item-requires t c κs = search (judge-laws, needs)
 
@@ -60,6 +64,9 @@ judge-sibling-or-self-requires t c κs = search (judge-laws, needs)
 
 judge-charged-unless-requires-2 : (t : ℕ) → judge-lts.Need-charged-unless-requires-2 (judge-calls t) (judge-at t) judge.Post
 judge-charged-unless-requires-2 t c κs = search (judge-laws, needs)
+
+judge-judgement-requires-2 : (t : ℕ) → judge-lts.Need-judgement-requires-2 (judge-calls t) (judge-at t) judge.Post
+judge-judgement-requires-2 t c κs = search (judge-laws, needs)
 
 judge-part-b-requires-2 : (t : ℕ) → judge-lts.Need-part-b-requires-2 (judge-calls t) (judge-at t) judge.Post
 judge-part-b-requires-2 t c κs = search (judge-laws, needs)
@@ -75,6 +82,9 @@ judge-judge-requires-4 t c κs = (search branch-c-falls, search branch-c)
 
 judge-branched-requires : (t : ℕ) → judge-lts.Need-branched-requires (judge-calls t) (judge-at t) judge.Post
 judge-branched-requires t c κs = search (judge-laws, needs)
+
+judge-judgement-requires-3 : (t : ℕ) → judge-lts.Need-judgement-requires-3 (judge-calls t) (judge-at t) judge.Post
+judge-judgement-requires-3 t c κs = search (judge-laws, needs)
 
 judge-returns : (t : ℕ) → judge-lts.Need-returns (judge-calls t) (judge-at t) judge.Post
 judge-returns t c = search (judge-laws, needs)
@@ -102,14 +112,17 @@ pub +judge-spec : {M : Type 1} → statement M
     (judge-judge-requires-2 t)
     (judge-sequenced-requires t)
     (judge-charged-unless-requires t)
+    (judge-judgement-requires t)
     (judge-item-requires t)
     (judge-sibling-or-self-requires t)
     (judge-charged-unless-requires-2 t)
+    (judge-judgement-requires-2 t)
     (judge-part-b-requires-2 t)
     (judge-part-c-requires t)
     (judge-judge-requires-3 t)
     (judge-judge-requires-4 t)
     (judge-branched-requires t)
+    (judge-judgement-requires-3 t)
     (judge-returns t)
     (judge-returns-2 t)
     (judge-returns-3 t)

@@ -6,7 +6,8 @@ use Rattle.bodies.proofs.shape.shapes.Statement.{statement}
 use Rattle.bodies.proofs.shape.shapes.Tie as tie
 use Rattle.bodies.proofs.shape.shapes.Reads as reads
 use Rattle.bodies.proofs.shape.shapes.Lts as lts
-use Rattle.bodies.proofs.shape.lower.Reads as lower-reads
+use Rattle.bodies.proofs.places.found.Reads as found-reads
+use Rattle.bodies.proofs.places.lower.Reads as lower-reads
 use Rattle.bodies.proofs.shape.state_shape.Reads as state-shape-reads
 
 abbrev Inv-loop : tie.InvT-loop
@@ -33,6 +34,9 @@ loop-less c = search (lowest-none-yet, lowest-one-more, lowest-of-all, needs)
 loop-again : tie.Need-loop-again Inv-loop μ-loop
 loop-again c = search (lowest-none-yet, lowest-one-more, lowest-of-all, needs)
 
+found-requires : tie.Need-found-requires Inv-loop μ-loop
+found-requires c κs = search needs
+
 returns : tie.Need-returns Inv-loop μ-loop
 returns c = search (lowest-none-yet, lowest-one-more, lowest-of-all, needs)
 
@@ -48,4 +52,5 @@ shapes-spec =
     add-s
     loop-less
     loop-again
+    found-requires
     returns)

@@ -1,5 +1,4 @@
-use Rattle.bodies.proofs.ShapeRules.{sibling-rule}
-use Rattle.design.proofs.Laws.{state-inside}
+use Rattle.bodies.proofs.ShapeRules.{state-place-inside, target-place-inside, sibling-rule}
 use borrow.Author.Needs.{needs}
 use Rattle.bodies.proofs.shape.sibling_or_self.Statement.{statement}
 use Rattle.bodies.proofs.shape.sibling_or_self.Tie as tie
@@ -8,10 +7,10 @@ use Rattle.bodies.proofs.shape.sibling_or_self.Lts as lts
 use Rattle.design.proofs.Design.parent.Reads as parent-reads
 
 parent-requires : tie.Need-parent-requires
-parent-requires c κs = search (state-inside, needs)
+parent-requires c κs = search (target-place-inside, needs)
 
 parent-requires-2 : tie.Need-parent-requires-2
-parent-requires-2 c κs = search (state-inside, needs)
+parent-requires-2 c κs = search (state-place-inside, needs)
 
 returns : tie.Need-returns
 returns c = search (sibling-rule, needs)
