@@ -21,7 +21,8 @@ use Rattle.model.proofs.Laws.Trees.{cmd-flat-depth, cmd-sequence-depth, cmd-bra
 use Rattle.design.specs.declared.Design.{Design}
 use Rattle.design.specs.Records.{nodeIn}
 use Rattle.design.specs.Describes.{Describes}
-use Rattle.nodes.specs.Tables.{CommandsKept, ExpressionsKept, Depths}
+use Rattle.design.specs.Kept.{CommandsKept, ExpressionsKept}
+use Rattle.nodes.specs.Tables.{Depths}
 use Rattle.nodes.proofs.PartRules.{command-byte, expression-byte, is-sequence, is-branch, is-operation, command-a, command-b, command-c, expression-a, expression-b, sequence-a, sequence-b, branch-b, branch-c, operation-a, operation-b}
 
 -- ---- the table

@@ -11,8 +11,8 @@ use Rattle.model.proofs.Exact.Records.{command-iff, expression-iff}
 use Rattle.design.specs.declared.Design.{Design}
 use Rattle.design.specs.Records.{nodeIn}
 use Rattle.design.specs.Describes.{Describes}
+use Rattle.design.specs.Kept.{CommandsKept, ExpressionsKept}
 use Rattle.design.proofs.Laws.{states-count, commands-count, expressions-count, command-in, expression-in}
-use Rattle.nodes.specs.Tables.{CommandsKept, ExpressionsKept}
 
 module _ {image : List ℕ} {x : Design} (d : Describes image x) where
   -- a node has an entry in its family's table
@@ -69,7 +69,7 @@ module _ {image : List ℕ} {x : Design} (d : Describes image x) where
   -- ---- the parts of a command
   module _ (kept : CommandsKept (designOf image)) {n k : ℕ} (l : n < x .commands) (same : k ≡ nodeIn image (x .«commands_at») n .kind) where
     holds : {kind : CommandKind} → commandKind (commandAt (designOf image) n .kind) ≡ kind → CommandHolds (designOf image) n kind (commandAt (designOf image) n)
-    holds e = rw e at (command-iff (designOf image) n .0 (kept n (omega (arith, commands-count d))))
+    holds e = rw e at (command-iff (designOf image) n .0 (kept .kept n (omega (arith, commands-count d))))
 
     pub assign-a : {m : ℕ} → k ≡ 1 → m ≡ nodeIn image (x .«commands_at») n .a → m < x .expressions
     assign-a e p = rw (command-a l p, expressions-count d) (holds (is-assign l same e) .1)
@@ -92,7 +92,7 @@ module _ {image : List ℕ} {x : Design} (d : Describes image x) where
   -- ---- the parts of an expression
   module _ (kept : ExpressionsKept (designOf image)) {n k : ℕ} (l : n < x .expressions) (same : k ≡ nodeIn image (x .«expressions_at») n .kind) where
     operation-holds : (o : Operation) → expressionKind (expressionAt (designOf image) n .kind) ≡ operates o → ExpressionHolds (designOf image) n (operates o) (expressionAt (designOf image) n)
-    operation-holds o e = rw e at (expression-iff (designOf image) n .0 (kept n (omega (arith, expressions-count d))))
+    operation-holds o e = rw e at (expression-iff (designOf image) n .0 (kept .kept n (omega (arith, expressions-count d))))
 
     pub operation-a : {m : ℕ} → 2 ≤ k → k < 9 → m ≡ nodeIn image (x .«expressions_at») n .a → m < n
     operation-a low high p = let o = is-operation l same low high in rw (expression-a l p) (operation-holds (o .0) (o .1) .1)

@@ -17,8 +17,9 @@ use Rattle.model.proofs.Exact.Records.{state-iff}
 use Rattle.design.specs.declared.Design.{Design}
 use Rattle.design.specs.Records.{stateIn, nodeIn}
 use Rattle.design.specs.Describes.{Describes}
+use Rattle.design.specs.Kept.{StatesKept, CommandsKept}
 use Rattle.design.proofs.Laws.{states-count, commands-count, expressions-count, state-in}
-use Rattle.nodes.specs.Tables.{StatesKept, CommandsKept, commandOf, partsOf, expressionOf, operandsOf, countUse, countUses}
+use Rattle.nodes.specs.Tables.{commandOf, partsOf, expressionOf, operandsOf, countUse, countUses}
 use Rattle.nodes.proofs.PartRules.{commands-most, expressions-most, command-byte, expression-byte, is-assign, is-sequence, is-branch, is-operation, command-a, command-b, command-c, expression-a, expression-b, assign-a, branch-a}
 use Rattle.nodes.proofs.CountRules.{counted-find, counted-length}
 
@@ -169,7 +170,7 @@ module _ {image : List ℕ} {x : Design} (d : Describes image x) {s m : ℕ} (l 
 
   pub body-inside : StatesKept (designOf image) → m < 1024
   body-inside kept =
-      let command = state-iff (designOf image) s .0 (kept s (omega (arith, states-count d))) .command in
+      let command = state-iff (designOf image) s .0 (kept .kept s (omega (arith, states-count d))) .command in
       let is : m ≡ stateAt (designOf image) s .command = same ∙ ap (λ (y : State). y .command) (state-in d l) in
       commands-most d (omega (arith, commands-count d))
 

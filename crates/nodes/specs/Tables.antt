@@ -1,28 +1,12 @@
--- What an earlier pass established, and the tables that the passes over nodes fill.
+-- The nodes that a record uses, and the tables that the passes over nodes fill.
 use Prim.Native.Nat.{ℕ, min, _+_, _≤_, _<_}
 use mathlib.Core.Path.{_≡_}
-use mathlib.Core.Bool.{Bool, true}
 use mathlib.Core.List.{List, [], _∷_}
-use lib.ListN.{length, getD, set}
+use lib.ListN.{getD, set}
 use Rattle.model.specs.Limits.{depthMax}
 use Rattle.model.specs.Image.{Design, stateAt, commandAt, expressionAt}
-use Rattle.model.specs.States.{stateKept}
-use Rattle.model.specs.Kinds.{commandKind, expressionKind, commandKept, expressionKept}
+use Rattle.model.specs.Kinds.{commandKind, expressionKind}
 use Rattle.model.specs.Nodes.{commandParts, expressionsOf, expressionParts}
-
--- every index below n keeps a rule
-abbrev pub Kept : (ℕ → Bool) → ℕ → Type 0
-Kept rule n = (k : ℕ) → k < n → rule k ≡ true
-
--- refusals 4 and 5 found nothing
-abbrev pub StatesKept : Design → Type 0
-StatesKept d = Kept (stateKept d) (length (d .states))
-
-abbrev pub CommandsKept : Design → Type 0
-CommandsKept d = Kept (commandKept d) (length (d .commands))
-
-abbrev pub ExpressionsKept : Design → Type 0
-ExpressionsKept d = Kept (expressionKept d) (length (d .expressions))
 
 -- the command that a state uses, the commands and the expressions that a command uses, and the expressions that an expression uses
 abbrev pub commandOf : Design → ℕ → List ℕ

@@ -11,7 +11,8 @@ ghost use Rattle.model.specs.Image.{designOf};
 ghost use Rattle.model.specs.Trees.{exprOf, cmdOf, exprDepth, cmdDepth};
 ghost use Rattle.model.specs.Nodes.{commandDepthKept, expressionDepthKept};
 ghost use Rattle.design.specs.Describes.{Describes};
-ghost use Rattle.nodes.specs.Tables.{CommandsKept, ExpressionsKept, Depths};
+ghost use Rattle.design.specs.Kept.{CommandsKept, ExpressionsKept};
+ghost use Rattle.nodes.specs.Tables.{Depths};
 
 // The greatest depth, as an entry of a table.
 const DEEPEST: u8 = Design::DEPTH as u8;

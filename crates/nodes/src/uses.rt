@@ -11,7 +11,8 @@ ghost use Rattle.model.specs.Limits.{commandsMax, expressionsMax};
 ghost use Rattle.model.specs.Image.{designOf};
 ghost use Rattle.model.specs.Nodes.{commandUsedOnce, expressionUsedOnce};
 ghost use Rattle.design.specs.Describes.{Describes};
-ghost use Rattle.nodes.specs.Tables.{StatesKept, CommandsKept, ExpressionsKept, commandOf, partsOf, expressionOf, operandsOf, countUse, countUses};
+ghost use Rattle.design.specs.Kept.{StatesKept, CommandsKept, ExpressionsKept};
+ghost use Rattle.nodes.specs.Tables.{commandOf, partsOf, expressionOf, operandsOf, countUse, countUses};
 
 // One use more than a count.
 fn one_more(uses: u8) -> u8

@@ -95,19 +95,9 @@ known-nodes {image} describes registers states p h =
       expressions = record { kept = failing-none (expressionKept d) (length (d .expressions)) (both .1) };
     }
 
--- ---- what each pass asks, of what is known
-module _ {image : List ℕ} {x : Design} (known : FlowKnown image x) where
-  pub shape-known : ShapeKnown image x
-  shape-known = record { describes = known .describes; states = known .states; commands = known .commands }
-
-  pub states-known : (s : ℕ) → s < length (designOf image .states) → stateKept (designOf image) s ≡ true
-  states-known = known .states .kept
-
-  pub commands-known : (n : ℕ) → n < length (designOf image .commands) → commandKept (designOf image) n ≡ true
-  commands-known = known .commands .kept
-
-  pub expressions-known : (n : ℕ) → n < length (designOf image .expressions) → expressionKept (designOf image) n ≡ true
-  expressions-known = known .expressions .kept
+-- what the pass of refusal 8 asks, of what is known
+pub shape-known : {image : List ℕ} {x : Design} → FlowKnown image x → ShapeKnown image x
+shape-known known = record { describes = known .describes; states = known .states; commands = known .commands }
 
 -- ---- the whole
 pub directory-refuses : (image : List ℕ) {b : Bool} → b ≡ directoryKept image → not b ≡ true → Refused Directory 0 ≡ verdict image

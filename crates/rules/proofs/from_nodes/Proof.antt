@@ -1,5 +1,5 @@
 use Rattle.rules.specs.Stages.{fromNodes}
-use Rattle.rules.proofs.StageRules.{stage-refuses, stage-passes, known-registers, known-states, known-nodes, shape-known, states-known, commands-known, expressions-known}
+use Rattle.rules.proofs.StageRules.{stage-refuses, stage-passes, known-registers, known-states, known-nodes, shape-known}
 use borrow.Author.Needs.{needs}
 use Rattle.rules.proofs.from_nodes.Statement.{statement}
 use Rattle.rules.proofs.from_nodes.Tie as tie
@@ -18,7 +18,7 @@ enum-told : tie.Need-enum-told
 enum-told c = search needs
 
 from-uses-requires : tie.Need-from-uses-requires
-from-uses-requires c κs = search (known-registers, known-states, known-nodes, shape-known, states-known, commands-known, expressions-known, needs)
+from-uses-requires c κs = search (known-registers, known-states, known-nodes, shape-known, needs)
 
 returns : tie.Need-returns
 unfolding fromNodes

@@ -1,5 +1,5 @@
 use Rattle.rules.specs.Stages.{fromRegisters}
-use Rattle.rules.proofs.StageRules.{stage-refuses, stage-passes, known-registers, known-states, known-nodes, shape-known, states-known, commands-known, expressions-known}
+use Rattle.rules.proofs.StageRules.{stage-refuses, stage-passes, known-registers, known-states, known-nodes, shape-known}
 use borrow.Author.Needs.{needs}
 use Rattle.rules.proofs.from_registers.Statement.{statement}
 use Rattle.rules.proofs.from_registers.Tie as tie
@@ -18,7 +18,7 @@ enum-told : tie.Need-enum-told
 enum-told c = search needs
 
 from-states-requires : tie.Need-from-states-requires
-from-states-requires c κs = search (known-registers, known-states, known-nodes, shape-known, states-known, commands-known, expressions-known, needs)
+from-states-requires c κs = search (known-registers, known-states, known-nodes, shape-known, needs)
 
 returns : tie.Need-returns
 unfolding fromRegisters

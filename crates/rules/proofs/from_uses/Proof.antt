@@ -1,5 +1,5 @@
 use Rattle.rules.specs.Stages.{fromUses}
-use Rattle.rules.proofs.StageRules.{stage-refuses, stage-passes, known-registers, known-states, known-nodes, shape-known, states-known, commands-known, expressions-known}
+use Rattle.rules.proofs.StageRules.{stage-refuses, stage-passes, known-registers, known-states, known-nodes, shape-known}
 use borrow.Author.Needs.{needs}
 use Rattle.rules.proofs.from_uses.Statement.{statement}
 use Rattle.rules.proofs.from_uses.Tie as tie

@@ -1,4 +1,4 @@
-use Rattle.rules.proofs.StageRules.{both-families, expression-small, states-known, commands-known, expressions-known}
+use Rattle.rules.proofs.StageRules.{both-families, expression-small}
 use borrow.Author.Needs.{needs}
 use Rattle.rules.proofs.node_depths.Statement.{statement}
 use Rattle.rules.proofs.node_depths.Tie as tie
