@@ -134,12 +134,9 @@ pub record DefaultsSo (d : Table) (old : List ℕ) (s : ℕ) (now : List ℕ) : 
   pub rest : (k : ℕ) → length (d .states) ≤ k → getD now k 0 ≡ getD old k 0
 
 module _ (d : Table) where
-  -- neither the root nor a number behind the states is a child
+  -- the root is no child
   root-no-child : (k : ℕ) → isChild d k 0 ≡ false
   root-no-child k = false-unless-true (isChild d k 0) (λ e. child-of d k 0 e .no-root refl)
-
-  behind-no-child : (k q : ℕ) → length (d .states) ≤ q → isChild d k q ≡ false
-  behind-no-child k q l = false-unless-true (isChild d k q) (λ e. let state = child-of d k q e .state in omega arith)
 
   other-no-child : (k s : ℕ) → (k ≡ parent d s → ⊥) → isChild d k s ≡ false
   other-no-child k s h = false-unless-true (isChild d k s) (λ e. h (sym (child-of d k s e .parent-is)))
@@ -173,6 +170,12 @@ module _ (d : Table) where
   lowest-default k s v l (inr c) = c .0 ∙ sym (ap (foundOr k) (lowest-nowhere (isChild d k) (length (d .states)) (down-to-one k s {Q = λ q. q < length (d .states)} l (λ q a b. c .1 q a))))
 
 module _ {image : List ℕ} {x : Design} where
+  -- a number behind the states is no child
+  pub behind-no-child : {q : ℕ} (k : ℕ) → Describes image x → x .states ≤ q → false ≡ isChild (designOf image) k q
+  behind-no-child {q} k d l =
+      let count = states-count d in
+      sym (false-unless-true (isChild (designOf image) k q) (λ e. let state = child-of (designOf image) k q e .state in omega arith))
+
   pub defaults-begin : {old now : List ℕ} → Describes image x → x .states ≤ length old → Filled (λ k. k) old (x .states) now → DefaultsSo (designOf image) now (x .states) now
   defaults-begin {old} {now} d l so =
       let count = states-count d in
@@ -180,7 +183,7 @@ module _ {image : List ℕ} {x : Design} where
       record {
         long = refl;
         holds = omega arith;
-        entry = λ k b. inr (so .done k (omega arith), λ q h. behind-no-child (designOf image) k q (omega arith));
+        entry = λ k b. inr (so .done k (omega arith), λ q h. sym (behind-no-child k d h));
         rest = λ k b. refl;
       }
 

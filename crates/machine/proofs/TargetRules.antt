@@ -91,11 +91,6 @@ module _ (d : Table) where
             within-parent t q higher lower ∙ earlier (parent d q) (omega arith) (omega arith) e
 
 -- ---- sound targets
-pub no-state-no-child : {image : List ℕ} {x : Design} {q : ℕ} (s : ℕ) → Describes image x → x .states ≤ q → false ≡ isChild (designOf image) s q
-no-state-no-child {image} {q = q} s d l =
-    let count = states-count d in
-    sym (false-unless-true (isChild (designOf image) s q) (λ e. let state = child-of (designOf image) s q e .state in omega arith))
-
 or-false : (b : Bool) → (b || false) ≡ b
 or-false true = refl
 or-false false = refl

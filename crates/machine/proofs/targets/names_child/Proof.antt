@@ -1,4 +1,4 @@
-use Rattle.machine.proofs.TargetRules.{no-state-no-child}
+use Rattle.design.proofs.ResetRules.{behind-no-child}
 use borrow.Author.Needs.{needs}
 use Rattle.machine.proofs.targets.names_child.Statement.{statement}
 use Rattle.machine.proofs.targets.names_child.Tie as tie
@@ -13,7 +13,7 @@ returns : tie.Need-returns
 returns c = search needs
 
 returns-2 : tie.Need-returns-2
-returns-2 c = search (no-state-no-child, needs)
+returns-2 c = search (behind-no-child, needs)
 
 pub names-child-spec : {M : Type 1} → statement M
 names-child-spec = tie.close (tie.spec is-child-requires returns returns-2)
