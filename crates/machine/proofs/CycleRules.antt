@@ -3,7 +3,7 @@ use Prim.Native.Nat.{ℕ, zero, suc, _+_, _-_, _*_, _≤_, _<_}
 use mathlib.Core.Path.{_≡_, refl, sym, _∙_, ap}
 use mathlib.Core.Logic.{_⊎_, inl, inr}
 use mathlib.Core.Bool.{Bool, true, false, cond}
-use mathlib.Core.List.{List, [], _∷_, _++_}
+use mathlib.Core.List.{List, [], _∷_, _++_, append-nil}
 use native.Mathlib.Omega.{arith}
 use native.Mathlib.Numerals.{add-one}
 use native.Mathlib.Decide.{ℕ-discrete}
@@ -66,10 +66,6 @@ length-one-more (a ∷ shown) v = let more = length-one-more shown v in omega ar
 one-more : (shown : List ℕ) (v : ℕ) (rest : List ℕ) → shown ++ v ∷ rest ≡ (shown ++ v ∷ []) ++ rest
 one-more [] v rest = refl
 one-more (a ∷ shown) v rest = ap (λ (more : List ℕ). a ∷ more) (one-more shown v rest)
-
-append-nothing : (shown : List ℕ) → shown ++ [] ≡ shown
-append-nothing [] = refl
-append-nothing (a ∷ shown) = ap (λ (more : List ℕ). a ∷ more) (append-nothing shown)
 
 -- ---- one body
 ran-step : (d : Table) (f s : ℕ) (areas : Areas) {values : List ℕ} {o : Outcome} → executedAs values o ≡ exec (areas .registers) (bodyOf d s)
@@ -166,7 +162,7 @@ unfolding runFrom
 cycle-full {d} {start} {now} {before} {walk} {n} {s} so l =
     let bodies = so .bodies in
     let none : so .left ≡ 0 = omega arith in
-    let whole : cycle d start .walk ≡ so .shown = so .walked ∙ rw none (append-nothing (so .shown)) in
+    let whole : cycle d start .walk ≡ so .shown = so .walked ∙ rw none (append-nil (so .shown)) in
     record {
       after = sym (so .after ∙ rw none);
       walk = so .written ∙ sym (ap (λ (w : List ℕ). overwritten w before) whole);
