@@ -11,6 +11,7 @@ use Rattle.model.specs.Image.{Design as Table, designOf, word16At}
 use Rattle.model.specs.Verdict.{verdict}
 use Rattle.model.specs.Machine.{Areas, Cycle, resetAreas, cycle, cycles, afterLast, afterCycles}
 use Rattle.model.specs.Listing.{header, line, lines, listed, listing}
+use Rattle.model.proofs.Laws.Cycles.{after-first}
 use Rattle.listing.specs.Lines.{cycleLine}
 
 module _ (d : Table) where
@@ -19,10 +20,6 @@ module _ (d : Table) where
   unfolding afterCycles cycles afterLast
   after-more zero areas = refl
   after-more (suc n) areas = after-more n (cycle d areas .after)
-
-  after-first : (n : ℕ) (areas : Areas) → afterCycles d (suc n) areas ≡ afterCycles d n (cycle d areas .after)
-  unfolding afterCycles cycles afterLast
-  after-first n areas = refl
 
   lines-first : (number n : ℕ) (areas : Areas) → lines number (cycles d (suc n) areas) ≡ line number (cycle d areas) ++ lines (suc number) (cycles d n (cycle d areas .after))
   unfolding cycles lines
@@ -52,7 +49,7 @@ module _ (d : Table) where
       ∙ sym (append-assoc (line number first) (lines (suc number) (cycles d n (first .after))) (line (suc number + n) (cycle d (afterCycles d n (first .after)))))
       ∙ ap (λ (before : List ℕ). before ++ line (suc number + n) (cycle d (afterCycles d n (first .after)))) (sym (lines-first number n areas))
       ∙ ap (λ (k : ℕ). lines number (cycles d (suc n) areas) ++ line k (cycle d (afterCycles d n (first .after)))) same
-      ∙ ap (λ (after : Areas). lines number (cycles d (suc n) areas) ++ line (number + suc n) (cycle d after)) (sym (after-first n areas))
+      ∙ ap (λ (after : Areas). lines number (cycles d (suc n) areas) ++ line (number + suc n) (cycle d after)) (sym (after-first d n areas))
 
   pub lines-joined : (n : ℕ) → lines 1 (cycles d n (resetAreas d)) ≡ joinBelow (cycleLine d) n
   unfolding joinBelow cycleLine

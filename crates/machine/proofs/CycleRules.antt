@@ -23,6 +23,7 @@ use Rattle.model.specs.Values.{wordsOf}
 use Rattle.model.specs.Machine.{Executed, Areas, Cycle, exec, goneTo, afterBody, runFrom, cycle, afterCycles, cycles, afterLast}
 use Rattle.model.proofs.Laws.States.{sibling-child}
 use Rattle.model.proofs.Laws.Gotos.{length-gone, gone-other, gone-parent}
+use Rattle.model.proofs.Laws.Cycles.{after-first}
 use Rattle.model.proofs.Exact.Records.{state-iff}
 use Rattle.model.proofs.Independence.Endings.{Ended, exec-ends}
 use Rattle.design.specs.declared.Design.{Design}
@@ -294,10 +295,6 @@ module _ {image : List ℕ} {x : Design} {table registers₀ targets₀ walk₀ 
   cycling-full l = cycle-full (c .so) (let count = states-are in omega arith)
 
 -- ---- so many cycles
-after-one-more : (d : Table) (n : ℕ) (areas : Areas) → afterCycles d (suc n) areas ≡ afterCycles d n (cycle d areas .after)
-unfolding afterCycles cycles afterLast
-after-one-more d n areas = refl
-
 -- i cycles ran, and the others go on from here
 pub record RunSo (image : List ℕ) (x : Design) (table : List ℕ) (count : ℕ) (registers₀ targets₀ : List ℕ) (i : ℕ) (registers targets walk : List ℕ) : Type 0 where
   pub left : ℕ
@@ -336,7 +333,7 @@ module _ {image : List ℕ} {x : Design} {count i : ℕ} {table registers₀ tar
         left = so .left - 1;
         rest = omega arith;
         same = ap (afterCycles d (so .left - 1)) (cycled .after)
-            ∙ sym (after-one-more d (so .left - 1) (areasIn d registers targets))
+            ∙ sym (after-first d (so .left - 1) (areasIn d registers targets))
             ∙ ap (λ (n : ℕ). afterCycles d n (areasIn d registers targets)) (sym one)
             ∙ so .same;
         running = running;
