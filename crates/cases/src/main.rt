@@ -17,6 +17,7 @@
 // empty. A record that is cut off, too long or of another kind is printed as `bad record` and is
 // the last. So is record 65,536.
 use calls::numbers::number;
+use design::Design;
 use model::Answer;
 ghost use Prim.Native.Nat.{_+_, _*_, _≤_};
 ghost use mathlib.Core.Path.{_≡_};
@@ -28,7 +29,7 @@ const RECORDS: u32 = 65536;
 // The longest text of a note.
 const NOTE: usize = 200;
 // The buffers that images and areas are read to.
-const IMAGE: usize = 25269;
+const IMAGE: usize = Design::LARGEST + 1;
 
 const REGISTERS: usize = 264;
 

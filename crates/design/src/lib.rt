@@ -124,6 +124,13 @@ impl Design {
     pub const STATE_LENGTH: usize = 4;
 
     pub const NODE_LENGTH: usize = 8;
+    // The length of the largest image: each section has as many records as it may have.
+    pub const LARGEST: usize = Self::DIRECTORY_LENGTH
+        + Self::LABEL_LENGTH * Self::LABELS
+        + Self::REGISTER_LENGTH * Self::REGISTERS
+        + Self::STATE_LENGTH * Self::STATES
+        + Self::NODE_LENGTH * Self::COMMANDS
+        + Self::NODE_LENGTH * Self::EXPRESSIONS;
     // The bytes that a register takes in its area.
     pub const WORD_LENGTH: usize = 4;
     // How deep commands and expressions nest.
@@ -143,6 +150,7 @@ impl Design {
         ensures { λ _. do ⌜ (← ⟦Design::REGISTER_LENGTH⟧ .entry) ≡ registerLength ⌝ }
         ensures { λ _. do ⌜ (← ⟦Design::STATE_LENGTH⟧ .entry) ≡ stateLength ⌝ }
         ensures { λ _. do ⌜ (← ⟦Design::NODE_LENGTH⟧ .entry) ≡ nodeLength ⌝ }
+        ensures { λ _. do ⌜ (← ⟦Design::LARGEST⟧ .entry) ≡ directoryLength + labelLength * labelsMax + registerLength * registersMax + stateLength * statesMax + nodeLength * commandsMax + nodeLength * expressionsMax ⌝ }
         ensures { λ _. do ⌜ (← ⟦Design::WORD_LENGTH⟧ .entry) ≡ wordLength ⌝ }
         ensures { λ _. do ⌜ (← ⟦Design::DEPTH⟧ .entry) ≡ depthMax ⌝ }
         ensures { λ _. do ⌜ (← ⟦Design::EXPRESSION_PLACE⟧ .entry) ≡ expressionPlace ⌝ }

@@ -19,7 +19,7 @@ ghost use Rattle.listing.specs.Lines.{RunningAt};
 
 // A cycle count, the longest image and one byte more: whatever stands behind them, an image so long
 // is refused.
-const INPUT: usize = 25271;
+const INPUT: usize = Design::LARGEST + 3;
 // The bytes of all registers.
 const REGISTERS: usize = 256;
 // The longest header, refusal and line of a cycle.
