@@ -35,6 +35,7 @@ fn apply(kind: u8, x: u32, y: u32) -> u32
 
 // The value of expression e over the registers. The place is where the expressions begin: the whole
 // design would be copied at every call.
+// A reborrow keeps the slice in registers of the processor; image itself would go through memory.
 pub fn evaluate(image: &[u8], at: usize, registers: &[u8], e: usize) -> u32
     requires { ⌜ Evaluating (now image) at (now registers) e ⌝ }
     ensures { λ v. ⌜ v ≡ eval (valuesIn (designOf (now (image .entry))) (now (registers .entry))) (exprOf (designOf (now (image .entry))) e) ⌝ }
@@ -48,7 +49,6 @@ pub fn evaluate(image: &[u8], at: usize, registers: &[u8], e: usize) -> u32
         2..=8 => {
             let a = Design::part_a(image, at, e);
             let b = Design::part_b(image, at, e);
-            // A reborrow keeps the slice in registers of the processor; image itself would go through memory.
             let x = evaluate(&*image, at, &*registers, a);
             let y = evaluate(&*image, at, &*registers, b);
             apply(kind, x, y)
