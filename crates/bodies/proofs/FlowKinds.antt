@@ -11,22 +11,24 @@ use Rattle.model.specs.declared.Refusal.{Refusal}
 use Rattle.model.specs.declared.Answer.{Answer}
 use Rattle.model.specs.Image.{Design as Table, Node, State, designOf, stateAt, commandAt}
 use Rattle.model.specs.Lattice.{allFlowTo, stateLabel}
-use Rattle.model.specs.Kinds.{CommandKind, skips, sequences, falls, goes, branches, commandKind}
+use Rattle.model.specs.Kinds.{skips, sequences, falls, goes, branches, commandKind}
 use Rattle.model.specs.Trees.{exprOf, cmdOf, bodyOf}
 use Rattle.model.specs.Flow.{refusedUnless, labelsRead, flowFaults, stateFlowFaults, nearest, flowAnswer}
 use Rattle.model.specs.Rules.{CommandHolds}
 use Rattle.model.proofs.Laws.Faults.{nearest-append}
 use Rattle.model.proofs.Laws.Trees.{cmd-skip, cmd-sequence, cmd-fall, cmd-goto, cmd-branch}
-use Rattle.model.proofs.Exact.Records.{state-iff, command-iff}
+use Rattle.model.proofs.Exact.Records.{state-iff}
 use Rattle.model.specs.Indices.{joinBelow}
 use native.Mathlib.Numerals.{add-one}
 use Rattle.design.specs.declared.Design.{Design}
 use Rattle.design.specs.Records.{nodeIn, stateIn, rowIn}
-use Rattle.design.proofs.Laws.{labels-count, states-count, commands-count, expressions-count, row-inside, command-inside, row-in, state-in, command-in}
+use Rattle.design.proofs.Laws.{labels-count, states-count, commands-count, expressions-count, row-inside, row-in, state-in}
+use Rattle.design.proofs.NodeRules.{command-at, command-place-inside, command-below, command-kind-is, command-kind-of, item-is, a-is, b-is, c-is, command-holds, named-state, condition, sequence-a-below, sequence-b-below, branch-b-below, branch-c-below, lower-command, expression-at}
 use Rattle.bodies.specs.Places.{placeUnless}
 use Rattle.bodies.specs.Flows.{MaskOf, FlowKnown, Naming, Gathering, Assigning, Flowing, flowRefusal, answerAmong}
+use Rattle.bodies.proofs.PlaceRules.{commands-few}
 use Rattle.bodies.proofs.Masks.{mask-both, mask-row}
-use Rattle.bodies.proofs.FlowRules.{answer-none, answer-lower, answer-charged, commands-few, state-label-is, state-label-below}
+use Rattle.bodies.proofs.FlowRules.{answer-none, answer-lower, answer-charged, state-label-is, state-label-below}
 
 -- a kind that is no assignment, sequence, fall, goto or if is a skip
 skip-kind : (d : Table) (n k : ℕ) (x : Node) → (k ≡ 1 → ⊥) → (k ≡ 2 → ⊥) → (k ≡ 3 → ⊥) → (k ≡ 4 → ⊥) → (k ≡ 5 → ⊥) → CommandHolds d n (commandKind k) x → commandKind k ≡ skips
@@ -44,123 +46,69 @@ pub mask-small : {a : ℕ} (b : ℕ) → a < 65536 → bitAnd a b < 65536
 mask-small {a} b l = lt-of-le-of-lt (and-le-l a b) l
 
 module _ {image : List ℕ} {registersAt statesAt place expressionsAt s n : ℕ} (flowing : Flowing image registersAt statesAt place expressionsAt s n) where
-  pub command-node-inside : place + 8 * n + 8 ≤ length image
-  command-node-inside = rw (flowing .commands-begin) (command-inside (flowing .known .describes) (flowing .node))
-
-  same-command : nodeIn image place n ≡ commandAt (designOf image) n
-  same-command = rw (flowing .commands-begin) (command-in (flowing .known .describes) (flowing .node))
-
-  command-kind-is : {k m : ℕ} → k ≡ nodeIn image place n .kind → k ≡ m → commandAt (designOf image) n .kind ≡ m
-  command-kind-is p q = sym (p ∙ ap (λ (y : Node). y .kind) same-command) ∙ q
-
-  command-holds : {k m : ℕ} → k ≡ nodeIn image place n .kind → k ≡ m → CommandHolds (designOf image) n (commandKind m) (commandAt (designOf image) n)
-  command-holds p q =
-      let count = commands-count (flowing .known .describes) in
-      let node = flowing .node in
-      rw (command-kind-is p q) at (command-iff (designOf image) n .0 (flowing .known .commands .kept n (omega arith)))
-
   lower-flowing : (m : ℕ) → m < n → Flowing image registersAt statesAt place expressionsAt s m
   lower-flowing m l =
-      let node = flowing .node in
       record {
         design = flowing .design;
         known = flowing .known;
         state = flowing .state;
-        node = omega arith;
+        command = lower-command (flowing .command) (flowing .known .commands) l;
         registers-begin = flowing .registers-begin;
         states-begin = flowing .states-begin;
-        commands-begin = flowing .commands-begin;
         expressions-begin = flowing .expressions-begin;
       }
 
-  pub assigning : {k : ℕ} → k ≡ nodeIn image place n .kind → k ≡ 1 → Assigning image registersAt place expressionsAt n
-  assigning p q =
+  pub sequence-a-flowing : {k a : ℕ} → k ≡ 2 → k ≡ nodeIn image place n .kind → a ≡ nodeIn image place n .a → Flowing image registersAt statesAt place expressionsAt s a
+  sequence-a-flowing {a = m} q p f = lower-flowing m (sequence-a-below (flowing .command) q p f)
+
+  pub sequence-b-flowing : {k b : ℕ} → k ≡ 2 → k ≡ nodeIn image place n .kind → b ≡ nodeIn image place n .b → Flowing image registersAt statesAt place expressionsAt s b
+  sequence-b-flowing {b = m} q p f = lower-flowing m (sequence-b-below (flowing .command) q p f)
+
+  pub branch-b-flowing : {k b : ℕ} → k ≡ 5 → k ≡ nodeIn image place n .kind → b ≡ nodeIn image place n .b → Flowing image registersAt statesAt place expressionsAt s b
+  branch-b-flowing {b = m} q p f = lower-flowing m (branch-b-below (flowing .command) q p f)
+
+  pub branch-c-flowing : {k c : ℕ} → k ≡ 5 → k ≡ nodeIn image place n .kind → c ≡ nodeIn image place n .c → Flowing image registersAt statesAt place expressionsAt s c
+  branch-c-flowing {c = m} q p f = lower-flowing m (branch-c-below (flowing .command) q p f)
+
+  pub assigning : {k : ℕ} → k ≡ 1 → k ≡ nodeIn image place n .kind → Assigning image registersAt place expressionsAt n
+  assigning q p =
       record {
         design = flowing .design;
         known = flowing .known;
-        node = flowing .node;
-        kind = command-kind-is p q;
+        command = flowing .command;
+        kind = command-kind-is (flowing .command) q p;
         registers-begin = flowing .registers-begin;
-        commands-begin = flowing .commands-begin;
         expressions-begin = flowing .expressions-begin;
       }
 
-  sequence-a-below : {k a : ℕ} → k ≡ nodeIn image place n .kind → k ≡ 2 → a ≡ nodeIn image place n .a → a < n
-  unfolding commandKind
-  sequence-a-below p q e = rw (e ∙ ap (λ (y : Node). y .a) same-command) (command-holds p q .1)
-
-  pub sequence-a-falls : {k a t : ℕ} → k ≡ nodeIn image place n .kind → k ≡ 2 → a ≡ nodeIn image place n .a → n ≡ t → a < t
-  sequence-a-falls p q e m = rw m at (sequence-a-below p q e)
-
-  pub sequence-a-flowing : {k a : ℕ} → k ≡ nodeIn image place n .kind → k ≡ 2 → a ≡ nodeIn image place n .a → Flowing image registersAt statesAt place expressionsAt s a
-  sequence-a-flowing {a = m} p q e = lower-flowing m (sequence-a-below p q e)
-
-  sequence-b-below : {k b : ℕ} → k ≡ nodeIn image place n .kind → k ≡ 2 → b ≡ nodeIn image place n .b → b < n
-  unfolding commandKind
-  sequence-b-below p q e = rw (e ∙ ap (λ (y : Node). y .b) same-command) (command-holds p q .2)
-
-  pub sequence-b-falls : {k b t : ℕ} → k ≡ nodeIn image place n .kind → k ≡ 2 → b ≡ nodeIn image place n .b → n ≡ t → b < t
-  sequence-b-falls p q e m = rw m at (sequence-b-below p q e)
-
-  pub sequence-b-flowing : {k b : ℕ} → k ≡ nodeIn image place n .kind → k ≡ 2 → b ≡ nodeIn image place n .b → Flowing image registersAt statesAt place expressionsAt s b
-  sequence-b-flowing {b = m} p q e = lower-flowing m (sequence-b-below p q e)
-
-  branch-b-below : {k b : ℕ} → k ≡ nodeIn image place n .kind → k ≡ 5 → b ≡ nodeIn image place n .b → b < n
-  unfolding commandKind
-  branch-b-below p q e = rw (e ∙ ap (λ (y : Node). y .b) same-command) (command-holds p q .2)
-
-  pub branch-b-falls : {k b t : ℕ} → k ≡ nodeIn image place n .kind → k ≡ 5 → b ≡ nodeIn image place n .b → n ≡ t → b < t
-  branch-b-falls p q e m = rw m at (branch-b-below p q e)
-
-  pub branch-b-flowing : {k b : ℕ} → k ≡ nodeIn image place n .kind → k ≡ 5 → b ≡ nodeIn image place n .b → Flowing image registersAt statesAt place expressionsAt s b
-  branch-b-flowing {b = m} p q e = lower-flowing m (branch-b-below p q e)
-
-  branch-c-below : {k c : ℕ} → k ≡ nodeIn image place n .kind → k ≡ 5 → c ≡ nodeIn image place n .c → c < n
-  unfolding commandKind
-  branch-c-below p q e = rw (e ∙ ap (λ (y : Node). y .c) same-command) (command-holds p q .3)
-
-  pub branch-c-falls : {k c t : ℕ} → k ≡ nodeIn image place n .kind → k ≡ 5 → c ≡ nodeIn image place n .c → n ≡ t → c < t
-  branch-c-falls p q e m = rw m at (branch-c-below p q e)
-
-  pub branch-c-flowing : {k c : ℕ} → k ≡ nodeIn image place n .kind → k ≡ 5 → c ≡ nodeIn image place n .c → Flowing image registersAt statesAt place expressionsAt s c
-  branch-c-flowing {c = m} p q e = lower-flowing m (branch-c-below p q e)
-
-  pub condition-reading : {k e : ℕ} → k ≡ nodeIn image place n .kind → k ≡ 5 → e ≡ nodeIn image place n .a → Gathering image registersAt expressionsAt e
-  unfolding commandKind
-  condition-reading {e = e} p q f =
+  pub condition-gathering : {k e : ℕ} → k ≡ 5 → k ≡ nodeIn image place n .kind → e ≡ nodeIn image place n .a → Gathering image registersAt expressionsAt e
+  condition-gathering q p f =
       let count = expressions-count (flowing .known .describes) in
-      let named : e < length (designOf image .expressions) = rw (f ∙ ap (λ (y : Node). y .a) same-command) (command-holds p q .1) in
+      let below = condition (flowing .command) q p f in
       record {
         design = flowing .design;
-        reading = record { known = flowing .known; node = omega arith };
+        known = flowing .known;
+        expression = expression-at (flowing .known .describes) (flowing .known .expressions) (omega arith) (flowing .expressions-begin);
         registers-begin = flowing .registers-begin;
-        expressions-begin = flowing .expressions-begin;
       }
 
-  pub named-state : {k t : ℕ} → k ≡ nodeIn image place n .kind → k ≡ 4 → t ≡ nodeIn image place n .item → Naming image statesAt t
-  unfolding commandKind
-  named-state {t = t} p q f =
+  pub goto-naming : {k t : ℕ} → k ≡ 4 → k ≡ nodeIn image place n .kind → t ≡ nodeIn image place n .item → Naming image statesAt t
+  goto-naming q p f =
       let count = states-count (flowing .known .describes) in
-      let named : t < length (designOf image .states) = rw (f ∙ ap (λ (y : Node). y .item) same-command) (command-holds p q .0) in
+      let below = named-state (flowing .command) q p f in
       record { design = flowing .design; known = flowing .known; state = omega arith; begins = flowing .states-begin }
 
-  pub own-state : Naming image statesAt s
-  own-state = record { design = flowing .design; known = flowing .known; state = flowing .state; begins = flowing .states-begin }
+  pub fall-naming : Naming image statesAt s
+  fall-naming = record { design = flowing .design; known = flowing .known; state = flowing .state; begins = flowing .states-begin }
 
   -- ---- what the pass finds
-  kind-of : {k m : ℕ} (c : CommandKind) → k ≡ nodeIn image place n .kind → k ≡ m → commandKind m ≡ c → commandKind (commandAt (designOf image) n .kind) ≡ c
-  kind-of c p q e = ap commandKind (command-kind-is p q) ∙ e
-
   charged : {r : Refusal} (b : Bool) → flowRefusal (commandKind (commandAt (designOf image) n .kind)) ≡ r → answerAmong (designOf image) (placeUnless b n) ≡ nearest (refusedUnless b r n)
-  charged b e =
-      let count = commands-count (flowing .known .describes) in
-      let node = flowing .node in
-      answer-charged (designOf image) b (omega arith) (commands-few (flowing .known .describes)) e
+  charged b e = answer-charged (designOf image) b (command-below (flowing .command)) (commands-few (flowing .known .describes)) e
 
   pub flow-sequence :
       {k a b r context : ℕ} {labels : List ℕ} (p q : ℕ)
-      → k ≡ nodeIn image place n .kind
       → k ≡ 2
+      → k ≡ nodeIn image place n .kind
       → a ≡ nodeIn image place n .a
       → b ≡ nodeIn image place n .b
       → ((labels : List ℕ) → MaskOf (designOf image .rows) labels context → answerAmong (designOf image) p ≡ nearest (flowFaults (designOf image) s labels (cmdOf (designOf image) a)))
@@ -169,17 +117,18 @@ module _ {image : List ℕ} {registersAt statesAt place expressionsAt s n : ℕ}
       → MaskOf (designOf image .rows) labels context
       → answerAmong (designOf image) r ≡ nearest (flowFaults (designOf image) s labels (cmdOf (designOf image) n))
   unfolding commandKind flowFaults
-  flow-sequence {a = a} {b = b} {labels = labels} p q e f fa fb fp fq fr mask =
+  flow-sequence {a = a} {b = b} {labels = labels} p q f e fa fb fp fq fr mask =
       let d = designOf image in
-      let tree = cmd-sequence d n (kind-of sequences e f refl) (command-holds e f .1) (command-holds e f .2) in
-      let first : a ≡ commandAt d n .a = fa ∙ ap (λ (y : Node). y .a) same-command in
-      let second : b ≡ commandAt d n .b = fb ∙ ap (λ (y : Node). y .b) same-command in
+      let here = flowing .command in
+      let tree = cmd-sequence d n (command-kind-of here sequences f e refl) (command-holds here f e .1) (command-holds here f e .2) in
+      let first = a-is here fa in
+      let second = b-is here fb in
       rw fr (answer-lower d p q ∙ rw (fp labels mask, fq labels mask, first, second, tree) (sym (nearest-append (flowFaults d s labels (cmdOf d (commandAt d n .a))) (flowFaults d s labels (cmdOf d (commandAt d n .b))))))
 
   pub flow-branch :
       {k e b c m r context : ℕ} {labels : List ℕ} (p q : ℕ)
-      → k ≡ nodeIn image place n .kind
       → k ≡ 5
+      → k ≡ nodeIn image place n .kind
       → e ≡ nodeIn image place n .a
       → b ≡ nodeIn image place n .b
       → c ≡ nodeIn image place n .c
@@ -190,42 +139,43 @@ module _ {image : List ℕ} {registersAt statesAt place expressionsAt s n : ℕ}
       → MaskOf (designOf image .rows) labels context
       → answerAmong (designOf image) r ≡ nearest (flowFaults (designOf image) s labels (cmdOf (designOf image) n))
   unfolding commandKind flowFaults
-  flow-branch {e = e} {b = b} {c = c} {labels = labels} p q g f fe fb fc read fp fq fr mask =
+  flow-branch {e = e} {b = b} {c = c} {labels = labels} p q f g fe fb fc read fp fq fr mask =
       let d = designOf image in
-      let tree = cmd-branch d n (kind-of branches g f refl) (command-holds g f .2) (command-holds g f .3) in
-      let condition : e ≡ commandAt d n .a = fe ∙ ap (λ (y : Node). y .a) same-command in
-      let first : b ≡ commandAt d n .b = fb ∙ ap (λ (y : Node). y .b) same-command in
-      let second : c ≡ commandAt d n .c = fc ∙ ap (λ (y : Node). y .c) same-command in
+      let here = flowing .command in
+      let tree = cmd-branch d n (command-kind-of here branches f g refl) (command-holds here f g .2) (command-holds here f g .3) in
+      let test = a-is here fe in
+      let first = b-is here fb in
+      let second = c-is here fc in
       let inner = labels ++ labelsRead d (exprOf d (commandAt d n .a)) in
-      let both : MaskOf (d .rows) inner _ = mask-both mask (rw condition at read) in
+      let both : MaskOf (d .rows) inner _ = mask-both mask (rw test at read) in
       rw fr (answer-lower d p q ∙ rw (fp inner both, fq inner both, first, second, tree) (sym (nearest-append (flowFaults d s inner (cmdOf d (commandAt d n .b))) (flowFaults d s inner (cmdOf d (commandAt d n .c))))))
 
   pub flow-fall :
       {k r context : ℕ} {b : Bool} {labels : List ℕ}
-      → k ≡ nodeIn image place n .kind
       → k ≡ 3
+      → k ≡ nodeIn image place n .kind
       → ((labels : List ℕ) → MaskOf (designOf image .rows) labels context → b ≡ allFlowTo (designOf image .rows) labels (stateLabel (designOf image) s))
       → r ≡ placeUnless b n
       → MaskOf (designOf image .rows) labels context
       → answerAmong (designOf image) r ≡ nearest (flowFaults (designOf image) s labels (cmdOf (designOf image) n))
   unfolding commandKind flowFaults flowRefusal
-  flow-fall {b = b} {labels = labels} e f fb fr mask =
-      let kind = kind-of falls e f refl in
+  flow-fall {b = b} {labels = labels} f e fb fr mask =
+      let kind = command-kind-of (flowing .command) falls f e refl in
       rw fr (charged b (ap flowRefusal kind) ∙ rw (fb labels mask, cmd-fall (designOf image) n kind) refl)
 
   pub flow-goto :
       {k t r context : ℕ} {b : Bool} {labels : List ℕ}
-      → k ≡ nodeIn image place n .kind
       → k ≡ 4
+      → k ≡ nodeIn image place n .kind
       → t ≡ nodeIn image place n .item
       → ((labels : List ℕ) → MaskOf (designOf image .rows) labels context → b ≡ allFlowTo (designOf image .rows) labels (stateLabel (designOf image) t))
       → r ≡ placeUnless b n
       → MaskOf (designOf image .rows) labels context
       → answerAmong (designOf image) r ≡ nearest (flowFaults (designOf image) s labels (cmdOf (designOf image) n))
   unfolding commandKind flowFaults flowRefusal
-  flow-goto {t = t} {b = b} {labels = labels} e f ft fb fr mask =
-      let named : t ≡ commandAt (designOf image) n .item = ft ∙ ap (λ (y : Node). y .item) same-command in
-      let kind = kind-of goes e f refl in
+  flow-goto {t = t} {b = b} {labels = labels} f e ft fb fr mask =
+      let named = item-is (flowing .command) ft in
+      let kind = command-kind-of (flowing .command) goes f e refl in
       rw fr (charged b (ap flowRefusal kind) ∙ rw (fb labels mask, named, cmd-goto (designOf image) n kind) refl)
 
   pub flow-skip :
@@ -241,9 +191,9 @@ module _ {image : List ℕ} {registersAt statesAt place expressionsAt s n : ℕ}
   unfolding flowFaults nearest
   flow-skip {k} e a b c f g mask =
       let d = designOf image in
-      rw (cmd-skip d n (kind-of skips e refl (skip-kind d n k (commandAt d n) a b c f g (command-holds e refl)))) (answer-none d (commands-few (flowing .known .describes)))
+      rw (cmd-skip d n (command-kind-of (flowing .command) skips refl e (skip-kind d n k (commandAt d n) a b c f g (command-holds (flowing .command) refl e)))) (answer-none d (commands-few (flowing .known .describes)))
 
-pub ruleset flow-laws = (command-node-inside, assigning, mask-small, condition-reading, named-state, own-state, flow-sequence, flow-branch, flow-fall, flow-goto, flow-skip)
+pub ruleset flow-laws = (command-place-inside, assigning, mask-small, condition-gathering, goto-naming, fall-naming, flow-sequence, flow-branch, flow-fall, flow-goto, flow-skip)
 
 -- ---- states
 module _ {image : List ℕ} {x : Design} (known : FlowKnown image x) where
@@ -263,10 +213,9 @@ module _ {image : List ℕ} {x : Design} (known : FlowKnown image x) where
         design = x;
         known = known;
         state = l;
-        node = omega arith;
+        command = command-at (known .describes) (known .commands) (omega arith) refl;
         registers-begin = refl;
         states-begin = refl;
-        commands-begin = refl;
         expressions-begin = refl;
       }
 

@@ -12,22 +12,23 @@ use borrow.Author.Tests.{lt-ltb, le-ltb, ltb-true, ltb-false}
 use Rattle.model.specs.declared.Refusal.{Refusal}
 use Rattle.model.specs.declared.Refusal.the-variants.{AssignFlow, GotoFlow, FallFlow}
 use Rattle.model.specs.declared.Answer.the-variants.{Accepted, Refused}
-use Rattle.model.specs.Image.{Labels, Commands, Design as Table, Node, State, designOf, commandAt, expressionAt}
+use Rattle.model.specs.Image.{Labels, Design as Table, Node, State, designOf, commandAt, expressionAt}
 use Rattle.model.specs.Limits.{commandsMax}
 use Rattle.model.specs.Lattice.{allFlowTo, registerLabel, stateLabel}
-use Rattle.model.specs.Kinds.{Operation, add, subtract, bitwiseAnd, bitwiseOr, bitwiseXor, equal, less, constants, operates, assigns, commandKind, expressionKind}
+use Rattle.model.specs.Kinds.{Operation, less, constants, commandKind, expressionKind}
 use Rattle.model.specs.Trees.{Expr, constant, register, binary, exprOf, cmdOf, registersRead}
 use Rattle.model.specs.Flow.{refusedUnless, labelsRead, flowFaults, nearer, nearest}
-use Rattle.model.specs.Rules.{CommandHolds, ExpressionHolds}
+use Rattle.model.specs.Rules.{ExpressionHolds}
 use Rattle.model.proofs.Laws.Trees.{expr-constant, expr-register, expr-binary, cmd-assign}
-use Rattle.model.proofs.Exact.Records.{command-iff, expression-iff, state-iff}
+use Rattle.model.proofs.Exact.Records.{state-iff}
 use Rattle.design.specs.declared.Design.{Design}
 use Rattle.design.specs.Records.{nodeIn, registerIn, stateIn}
 use Rattle.design.specs.Describes.{Describes}
-use Rattle.design.proofs.Laws.{labels-count, registers-count, states-count, commands-count, expressions-count, register-inside, state-inside, command-inside, expression-inside, state-in, command-in, expression-in}
+use Rattle.design.proofs.Laws.{labels-count, registers-count, states-count, commands-count, expressions-count, register-inside, state-inside, state-in, command-in}
+use Rattle.design.proofs.NodeRules.{command-below, same-command, item-is, a-is, assigned-register, assigned-expression, expression-at, expression-place-inside, expression-kind-is, read-is, first-is, second-is, expression-holds, read-register, operation, operand-a-below, operand-b-below, lower-expression}
 use Rattle.bodies.specs.Places.{placeUnless}
-use Rattle.bodies.specs.Flows.{MaskOf, FlowKnown, Reading, Labelled, Naming, Gathering, Assigning, flowRefusal, answerAmong}
-use Rattle.bodies.proofs.PlaceRules.{below-or-not}
+use Rattle.bodies.specs.Flows.{MaskOf, FlowKnown, Labelled, Naming, Gathering, Assigning, flowRefusal, answerAmong}
+use Rattle.bodies.proofs.PlaceRules.{below-or-not, commands-few}
 use Rattle.bodies.proofs.Masks.{mask-both, mask-none, label-is, register-label}
 
 -- ---- what a place says
@@ -81,14 +82,6 @@ module _ (d : Table) where
   answer-charged true l m e = answer-none m
   answer-charged {n} false l m e = answer-at l ∙ ap (λ (r : Refusal). Refused r n) e
 
--- a design has no more commands than a table can have
-pub commands-few : {image : List ℕ} {x : Design} → Describes image x → length (designOf image .commands) ≤ commandsMax
-commands-few d =
-    let is = d .commands in
-    let count = commands-count d in
-    let most = d .directory .sections Commands .at-most in
-    omega arith
-
 -- the refusal of a kind, by its number
 fall-otherwise : (k : ℕ) → (k ≡ 1 → ⊥) → (k ≡ 4 → ⊥) → FallFlow ≡ flowRefusal (commandKind k)
 unfolding commandKind flowRefusal
@@ -140,20 +133,6 @@ labels-constant : (d : Table) (v : ℕ) → labelsRead d (constant v) ≡ []
 unfolding labelsRead registersRead
 labels-constant d v = refl
 
--- a kind from 2 to 8 is an operation
-operation-kind : (k : ℕ) → 2 ≤ k → k ≤ 8 → (o : Operation) × (expressionKind k ≡ operates o)
-unfolding expressionKind
-operation-kind zero l h = absurd (omega arith)
-operation-kind (suc zero) l h = absurd (omega arith)
-operation-kind (suc (suc zero)) l h = (add, refl)
-operation-kind (suc (suc (suc zero))) l h = (subtract, refl)
-operation-kind (suc (suc (suc (suc zero)))) l h = (bitwiseAnd, refl)
-operation-kind (suc (suc (suc (suc (suc zero))))) l h = (bitwiseOr, refl)
-operation-kind (suc (suc (suc (suc (suc (suc zero)))))) l h = (bitwiseXor, refl)
-operation-kind (suc (suc (suc (suc (suc (suc (suc zero))))))) l h = (equal, refl)
-operation-kind (suc (suc (suc (suc (suc (suc (suc (suc zero)))))))) l h = (less, refl)
-operation-kind (suc (suc (suc (suc (suc (suc (suc (suc (suc k))))))))) l h = absurd (omega arith)
-
 -- a kind that is no register and no operation is a constant
 constant-kind : (d : Table) (n k : ℕ) (x : Node) → (k ≡ 1 → ⊥) → (2 ≤ k → k ≤ 8 → ⊥) → ExpressionHolds d n (expressionKind k) x → expressionKind k ≡ constants
 unfolding expressionKind
@@ -168,161 +147,67 @@ constant-kind d n (suc (suc (suc (suc (suc (suc (suc zero))))))) x a b h = absur
 constant-kind d n (suc (suc (suc (suc (suc (suc (suc (suc zero)))))))) x a b h = absurd (b (omega arith) (omega arith))
 constant-kind d n (suc (suc (suc (suc (suc (suc (suc (suc (suc k))))))))) x a b h = absurd h
 
-module _ {image : List ℕ} {x : Design} {e : ℕ} (reading : Reading image x e) where
-  expression-node-inside : x .«expressions_at» + 8 * e + 8 ≤ length image
-  expression-node-inside = expression-inside (reading .known .describes) (reading .node)
+module _ {image : List ℕ} {registersAt place e : ℕ} (here : Gathering image registersAt place e) where
+  pub gathered-register : {k r : ℕ} → k ≡ 1 → k ≡ nodeIn image place e .kind → r ≡ nodeIn image place e .item → Labelled image registersAt r
+  gathered-register q p f =
+      let below = read-register (here .expression) q p f in
+      let count = registers-count (here .known .describes) in
+      record { design = here .design; known = here .known; register = omega arith; begins = here .registers-begin }
 
-  same-expression : nodeIn image (x .«expressions_at») e ≡ expressionAt (designOf image) e
-  same-expression = expression-in (reading .known .describes) (reading .node)
+  lower-gathering : (m : ℕ) → m < e → Gathering image registersAt place m
+  lower-gathering m l =
+      record { design = here .design; known = here .known; expression = lower-expression (here .expression) (here .known .expressions) l; registers-begin = here .registers-begin }
 
-  expression-kind-is : {k : ℕ} → k ≡ nodeIn image (x .«expressions_at») e .kind → expressionAt (designOf image) e .kind ≡ k
-  expression-kind-is p = sym (p ∙ ap (λ (y : Node). y .kind) same-expression)
+  pub operand-a-gathering : {k a : ℕ} → k < 9 → 1 ≤ k → (k ≡ 1 → ⊥) → k ≡ nodeIn image place e .kind → a ≡ nodeIn image place e .a → Gathering image registersAt place a
+  operand-a-gathering {a = a} u l other p f = lower-gathering a (operand-a-below (here .expression) u l other p f)
 
-  expression-holds : {k : ℕ} → k ≡ nodeIn image (x .«expressions_at») e .kind → ExpressionHolds (designOf image) e (expressionKind k) (expressionAt (designOf image) e)
-  expression-holds p =
-      let count = expressions-count (reading .known .describes) in
-      let node = reading .node in
-      rw (expression-kind-is p) at (expression-iff (designOf image) e .0 (reading .known .expressions .kept e (omega arith)))
-
-  -- the register that is read
-  pub read-register : {k r : ℕ} → k ≡ nodeIn image (x .«expressions_at») e .kind → k ≡ 1 → r ≡ nodeIn image (x .«expressions_at») e .item → r < x .registers
-  unfolding expressionKind
-  read-register {r = r} p q f =
-      let count = registers-count (reading .known .describes) in
-      let named : r < length (designOf image .registers) = rw (f ∙ ap (λ (y : Node). y .item) same-expression) ((rw q at (expression-holds p)) .0) in
-      omega arith
-
-  -- ---- the parts of an operation
-  operation-holds : {k : ℕ} → k ≡ nodeIn image (x .«expressions_at») e .kind → (k ≡ 1 → ⊥) → 1 ≤ k → k < 9 → (o : Operation) × ((expressionKind k ≡ operates o) × (expressionAt (designOf image) e .a < e) × (expressionAt (designOf image) e .b < e))
-  operation-holds {k} p other l h =
-      let found = operation-kind k (omega arith) (omega arith) in
-      let holds = rw (found .1) at (expression-holds p) in
-      (found .0, (found .1, holds .1, holds .2))
-
-  part-a-below : {k a : ℕ} → k ≡ nodeIn image (x .«expressions_at») e .kind → (k ≡ 1 → ⊥) → 1 ≤ k → k < 9 → a ≡ nodeIn image (x .«expressions_at») e .a → a < e
-  part-a-below p other l h f = rw (f ∙ ap (λ (y : Node). y .a) same-expression) (operation-holds p other l h .1 .1)
-
-  part-b-below : {k b : ℕ} → k ≡ nodeIn image (x .«expressions_at») e .kind → (k ≡ 1 → ⊥) → 1 ≤ k → k < 9 → b ≡ nodeIn image (x .«expressions_at») e .b → b < e
-  part-b-below p other l h f = rw (f ∙ ap (λ (y : Node). y .b) same-expression) (operation-holds p other l h .1 .2)
-
-  lower-reading : (m : ℕ) → m < e → Reading image x m
-  lower-reading m l = let node = reading .node in record { known = reading .known; node = omega arith }
-
-  pub part-a-falls : {k a t : ℕ} → k ≡ nodeIn image (x .«expressions_at») e .kind → (k ≡ 1 → ⊥) → 1 ≤ k → k < 9 → a ≡ nodeIn image (x .«expressions_at») e .a → e ≡ t → a < t
-  part-a-falls p other l h f m = rw m at (part-a-below p other l h f)
-
-  pub part-a-reading : {k a : ℕ} → k ≡ nodeIn image (x .«expressions_at») e .kind → (k ≡ 1 → ⊥) → 1 ≤ k → k < 9 → a ≡ nodeIn image (x .«expressions_at») e .a → Reading image x a
-  part-a-reading {a = a} p other l h f = lower-reading a (part-a-below p other l h f)
-
-  pub part-b-falls : {k b t : ℕ} → k ≡ nodeIn image (x .«expressions_at») e .kind → (k ≡ 1 → ⊥) → 1 ≤ k → k < 9 → b ≡ nodeIn image (x .«expressions_at») e .b → e ≡ t → b < t
-  part-b-falls p other l h f m = rw m at (part-b-below p other l h f)
-
-  pub part-b-reading : {k b : ℕ} → k ≡ nodeIn image (x .«expressions_at») e .kind → (k ≡ 1 → ⊥) → 1 ≤ k → k < 9 → b ≡ nodeIn image (x .«expressions_at») e .b → Reading image x b
-  part-b-reading {b = b} p other l h f = lower-reading b (part-b-below p other l h f)
+  pub operand-b-gathering : {k b : ℕ} → k < 9 → 1 ≤ k → (k ≡ 1 → ⊥) → k ≡ nodeIn image place e .kind → b ≡ nodeIn image place e .b → Gathering image registersAt place b
+  operand-b-gathering {b = b} u l other p f = lower-gathering b (operand-b-below (here .expression) u l other p f)
 
   -- ---- what is read
-  reads-register : {k r m : ℕ} → k ≡ nodeIn image (x .«expressions_at») e .kind → k ≡ 1 → r ≡ nodeIn image (x .«expressions_at») e .item → MaskOf (designOf image .rows) (registerLabel (designOf image) r ∷ []) m
+  pub gathers-register : {k r m : ℕ} → k ≡ 1 → k ≡ nodeIn image place e .kind → r ≡ nodeIn image place e .item → MaskOf (designOf image .rows) (registerLabel (designOf image) r ∷ []) m
       → MaskOf (designOf image .rows) (labelsRead (designOf image) (exprOf (designOf image) e)) m
   unfolding expressionKind
-  reads-register {r = r} p q f mask =
+  gathers-register q p f mask =
       let d = designOf image in
-      let named : r ≡ expressionAt d e .item = f ∙ ap (λ (y : Node). y .item) same-expression in
-      rw (expr-register d e (ap expressionKind (expression-kind-is p ∙ q)), labels-register d (expressionAt d e .item)) (rw named at mask)
-
-  reads-operation :
-      {k a b m n : ℕ}
-      → k ≡ nodeIn image (x .«expressions_at») e .kind
-      → (k ≡ 1 → ⊥)
-      → 1 ≤ k
-      → k < 9
-      → a ≡ nodeIn image (x .«expressions_at») e .a
-      → b ≡ nodeIn image (x .«expressions_at») e .b
-      → MaskOf (designOf image .rows) (labelsRead (designOf image) (exprOf (designOf image) a)) m
-      → MaskOf (designOf image .rows) (labelsRead (designOf image) (exprOf (designOf image) b)) n
-      → MaskOf (designOf image .rows) (labelsRead (designOf image) (exprOf (designOf image) e)) (bitAnd m n)
-  reads-operation {a = a} {b = b} p other l h f g mask mask′ =
-      let d = designOf image in
-      let holds = operation-holds p other l h in
-      let first : a ≡ expressionAt d e .a = f ∙ ap (λ (y : Node). y .a) same-expression in
-      let second : b ≡ expressionAt d e .b = g ∙ ap (λ (y : Node). y .b) same-expression in
-      let tree = expr-binary d e (ap expressionKind (expression-kind-is p) ∙ holds .1 .0) (holds .1 .1) (holds .1 .2) in
-      rw (tree, labels-binary d (holds .0) (exprOf d (expressionAt d e .a)) (exprOf d (expressionAt d e .b))) (mask-both (rw first at mask) (rw second at mask′))
-
-  reads-nothing : {k : ℕ} → k ≡ nodeIn image (x .«expressions_at») e .kind → (k ≡ 1 → ⊥) → (2 ≤ k → k ≤ 8 → ⊥) → MaskOf (designOf image .rows) (labelsRead (designOf image) (exprOf (designOf image) e)) 65535
-  reads-nothing {k} p a b =
-      let d = designOf image in
-      let kind = constant-kind d e k (expressionAt d e) a b (expression-holds p) in
-      rw (expr-constant d e (ap expressionKind (expression-kind-is p) ∙ kind), labels-constant d _) (mask-none (reading .known .describes))
-
-  reads-low : {k : ℕ} → k ≡ nodeIn image (x .«expressions_at») e .kind → k < 1 → MaskOf (designOf image .rows) (labelsRead (designOf image) (exprOf (designOf image) e)) 65535
-  reads-low p l = reads-nothing p (λ h. omega arith) (λ h k. omega arith)
-
-  reads-high : {k : ℕ} → k ≡ nodeIn image (x .«expressions_at») e .kind → 9 ≤ k → MaskOf (designOf image .rows) (labelsRead (designOf image) (exprOf (designOf image) e)) 65535
-  reads-high p l = reads-nothing p (λ h. omega arith) (λ h k. omega arith)
-
--- ---- the same over places
-module _ {image : List ℕ} {registersAt place e : ℕ} (here : Gathering image registersAt place e) where
-  pub gathering-inside : place + 8 * e + 8 ≤ length image
-  gathering-inside = rw (here .expressions-begin) (expression-node-inside (here .reading))
-
-  pub gathered-register : {k r : ℕ} → k ≡ nodeIn image place e .kind → k ≡ 1 → r ≡ nodeIn image place e .item → Labelled image registersAt r
-  gathered-register p q f =
-      record {
-        design = here .design;
-        known = here .reading .known;
-        register = read-register (here .reading) (rw (here .expressions-begin) at p) q (rw (here .expressions-begin) at f);
-        begins = here .registers-begin;
-      }
-
-  pub operand-a-falls : {k a t : ℕ} → k ≡ nodeIn image place e .kind → (k ≡ 1 → ⊥) → 1 ≤ k → k < 9 → a ≡ nodeIn image place e .a → e ≡ t → a < t
-  operand-a-falls p other l h f m = part-a-falls (here .reading) (rw (here .expressions-begin) at p) other l h (rw (here .expressions-begin) at f) m
-
-  pub operand-a-gathering : {k a : ℕ} → k ≡ nodeIn image place e .kind → (k ≡ 1 → ⊥) → 1 ≤ k → k < 9 → a ≡ nodeIn image place e .a → Gathering image registersAt place a
-  operand-a-gathering p other l h f =
-      record {
-        design = here .design;
-        reading = part-a-reading (here .reading) (rw (here .expressions-begin) at p) other l h (rw (here .expressions-begin) at f);
-        registers-begin = here .registers-begin;
-        expressions-begin = here .expressions-begin;
-      }
-
-  pub operand-b-falls : {k b t : ℕ} → k ≡ nodeIn image place e .kind → (k ≡ 1 → ⊥) → 1 ≤ k → k < 9 → b ≡ nodeIn image place e .b → e ≡ t → b < t
-  operand-b-falls p other l h f m = part-b-falls (here .reading) (rw (here .expressions-begin) at p) other l h (rw (here .expressions-begin) at f) m
-
-  pub operand-b-gathering : {k b : ℕ} → k ≡ nodeIn image place e .kind → (k ≡ 1 → ⊥) → 1 ≤ k → k < 9 → b ≡ nodeIn image place e .b → Gathering image registersAt place b
-  operand-b-gathering p other l h f =
-      record {
-        design = here .design;
-        reading = part-b-reading (here .reading) (rw (here .expressions-begin) at p) other l h (rw (here .expressions-begin) at f);
-        registers-begin = here .registers-begin;
-        expressions-begin = here .expressions-begin;
-      }
-
-  pub gathers-register : {k r m : ℕ} → k ≡ nodeIn image place e .kind → k ≡ 1 → r ≡ nodeIn image place e .item → MaskOf (designOf image .rows) (registerLabel (designOf image) r ∷ []) m
-      → MaskOf (designOf image .rows) (labelsRead (designOf image) (exprOf (designOf image) e)) m
-  gathers-register p q f mask = reads-register (here .reading) (rw (here .expressions-begin) at p) q (rw (here .expressions-begin) at f) mask
+      rw
+      (expr-register d e (ap expressionKind (expression-kind-is (here .expression) p ∙ q)), labels-register d (expressionAt d e .item))
+      (rw (read-is (here .expression) f) at mask)
 
   pub gathers-operation :
       {k a b m n : ℕ}
-      → k ≡ nodeIn image place e .kind
-      → (k ≡ 1 → ⊥)
-      → 1 ≤ k
       → k < 9
+      → 1 ≤ k
+      → (k ≡ 1 → ⊥)
+      → k ≡ nodeIn image place e .kind
       → a ≡ nodeIn image place e .a
       → b ≡ nodeIn image place e .b
       → MaskOf (designOf image .rows) (labelsRead (designOf image) (exprOf (designOf image) a)) m
       → MaskOf (designOf image .rows) (labelsRead (designOf image) (exprOf (designOf image) b)) n
       → MaskOf (designOf image .rows) (labelsRead (designOf image) (exprOf (designOf image) e)) (bitAnd m n)
-  gathers-operation p other l h f g mask mask′ =
-      reads-operation (here .reading) (rw (here .expressions-begin) at p) other l h (rw (here .expressions-begin) at f) (rw (here .expressions-begin) at g) mask mask′
+  gathers-operation {a = a} {b = b} u l other p f g mask mask′ =
+      let d = designOf image in
+      let o = operation (here .expression) u l other p in
+      let first : a ≡ expressionAt d e .a = first-is (here .expression) f in
+      let second : b ≡ expressionAt d e .b = second-is (here .expression) g in
+      let lower = rw first at (operand-a-below (here .expression) u l other p f) in
+      let lower′ = rw second at (operand-b-below (here .expression) u l other p g) in
+      let tree = expr-binary d e (o .1) lower lower′ in
+      rw (tree, labels-binary d (o .0) (exprOf d (expressionAt d e .a)) (exprOf d (expressionAt d e .b))) (mask-both (rw first at mask) (rw second at mask′))
 
-  pub gathers-low : {k : ℕ} → k ≡ nodeIn image place e .kind → k < 1 → MaskOf (designOf image .rows) (labelsRead (designOf image) (exprOf (designOf image) e)) 65535
-  gathers-low p l = reads-low (here .reading) (rw (here .expressions-begin) at p) l
+  gathers-nothing : {k : ℕ} → k ≡ nodeIn image place e .kind → (k ≡ 1 → ⊥) → (2 ≤ k → k ≤ 8 → ⊥) → MaskOf (designOf image .rows) (labelsRead (designOf image) (exprOf (designOf image) e)) 65535
+  gathers-nothing {k} p a b =
+      let d = designOf image in
+      let kind = constant-kind d e k (expressionAt d e) a b (expression-holds (here .expression) p) in
+      rw (expr-constant d e (ap expressionKind (expression-kind-is (here .expression) p) ∙ kind), labels-constant d _) (mask-none (here .known .describes))
 
-  pub gathers-high : {k : ℕ} → k ≡ nodeIn image place e .kind → 9 ≤ k → MaskOf (designOf image .rows) (labelsRead (designOf image) (exprOf (designOf image) e)) 65535
-  gathers-high p l = reads-high (here .reading) (rw (here .expressions-begin) at p) l
+  pub gathers-low : {k : ℕ} → k < 1 → k ≡ nodeIn image place e .kind → MaskOf (designOf image .rows) (labelsRead (designOf image) (exprOf (designOf image) e)) 65535
+  gathers-low l p = gathers-nothing p (λ h. omega arith) (λ h k. omega arith)
 
-pub ruleset reads-laws = (gathering-inside, gathered-register, gathers-register, gathers-operation, gathers-low, gathers-high)
+  pub gathers-high : {k : ℕ} → 9 ≤ k → k ≡ nodeIn image place e .kind → MaskOf (designOf image .rows) (labelsRead (designOf image) (exprOf (designOf image) e)) 65535
+  gathers-high l p = gathers-nothing p (λ h. omega arith) (λ h k. omega arith)
+
+pub ruleset reads-laws = (expression-place-inside, gathered-register, gathers-register, gathers-operation, gathers-low, gathers-high)
 
 -- ---- states and their labels
 module _ {image : List ℕ} {x : Design} (known : FlowKnown image x) where
@@ -362,47 +247,38 @@ module _ {image : List ℕ} {place s : ℕ} (here : Naming image place s) where
 
 -- ---- an assignment
 module _ {image : List ℕ} {registersAt place expressionsAt n : ℕ} (a : Assigning image registersAt place expressionsAt n) where
-  same-assignment : nodeIn image place n ≡ commandAt (designOf image) n
-  same-assignment = rw (a .commands-begin) (command-in (a .known .describes) (a .node))
-
-  pub assignment-inside : place + 8 * n + 8 ≤ length image
-  assignment-inside = rw (a .commands-begin) (command-inside (a .known .describes) (a .node))
-
-  assignment-holds : CommandHolds (designOf image) n assigns (commandAt (designOf image) n)
-  unfolding commandKind
-  assignment-holds =
-      let count = commands-count (a .known .describes) in
-      let node = a .node in
-      rw (a .kind) at (command-iff (designOf image) n .0 (a .known .commands .kept n (omega arith)))
+  -- the kind byte
+  assigns-byte : nodeIn image place n .kind ≡ 1
+  assigns-byte = ap (λ (y : Node). y .kind) (same-command (a .command)) ∙ a .kind
 
   assigned : {r : ℕ} → r ≡ nodeIn image place n .item → r < a .design .registers
-  assigned {r} e =
+  assigned f =
       let count = registers-count (a .known .describes) in
-      let named : r < length (designOf image .registers) = rw (e ∙ ap (λ (y : Node). y .item) same-assignment) (assignment-holds .0) in
+      let below = assigned-register (a .command) assigns-byte refl f in
       omega arith
 
   pub assigned-inside : {r : ℕ} → r ≡ nodeIn image place n .item → registersAt + 6 * r + 6 ≤ length image
-  assigned-inside e = rw (a .registers-begin) (register-inside (a .known .describes) (assigned e))
+  assigned-inside f = rw (a .registers-begin) (register-inside (a .known .describes) (assigned f))
 
-  pub assigned-reading : {e : ℕ} → e ≡ nodeIn image place n .a → Gathering image registersAt expressionsAt e
-  assigned-reading {e} f =
+  pub assigned-gathering : {e : ℕ} → e ≡ nodeIn image place n .a → Gathering image registersAt expressionsAt e
+  assigned-gathering f =
       let count = expressions-count (a .known .describes) in
-      let named : e < length (designOf image .expressions) = rw (f ∙ ap (λ (y : Node). y .a) same-assignment) (assignment-holds .1) in
+      let below = assigned-expression (a .command) assigns-byte refl f in
       record {
         design = a .design;
-        reading = record { known = a .known; node = omega arith };
+        known = a .known;
+        expression = expression-at (a .known .describes) (a .known .expressions) (omega arith) (a .expressions-begin);
         registers-begin = a .registers-begin;
-        expressions-begin = a .expressions-begin;
       }
 
   assigned-label : {r l : ℕ} → r ≡ nodeIn image place n .item → l ≡ registerIn image registersAt r .label → l ≡ registerLabel (designOf image) (commandAt (designOf image) n .item)
-  assigned-label e f = label-is (a .known) (assigned e) (rw (a .registers-begin) at f) ∙ ap (registerLabel (designOf image)) (e ∙ ap (λ (y : Node). y .item) same-assignment)
+  assigned-label f g = label-is (a .known) (assigned f) (rw (a .registers-begin) at g) ∙ ap (registerLabel (designOf image)) (item-is (a .command) f)
 
   assigned-below : registerLabel (designOf image) (commandAt (designOf image) n .item) < a .design .labels
-  assigned-below = register-label (a .known) (assigned (sym (ap (λ (y : Node). y .item) same-assignment)))
+  assigned-below = register-label (a .known) (assigned (sym (ap (λ (y : Node). y .item) (same-command (a .command)))))
 
   pub assigned-label-small : {r l : ℕ} → r ≡ nodeIn image place n .item → l ≡ registerIn image registersAt r .label → l < 64
-  assigned-label-small e f = let few = labels-few (a .known) in let below = assigned-below in let is = assigned-label e f in omega arith
+  assigned-label-small f g = let few = labels-few (a .known) in let below = assigned-below in let is = assigned-label f g in omega arith
 
   pub assign-rule :
       {r e l m context : ℕ} {b : Bool} {answer : ℕ} {labels : List ℕ} (s : ℕ)
@@ -418,11 +294,8 @@ module _ {image : List ℕ} {registersAt place expressionsAt n : ℕ} (a : Assig
   assign-rule {e = e} {b = b} s fr fe read-mask fl fb fa mask =
       let d = designOf image in
       let tree = cmd-assign d n (ap commandKind (a .kind)) in
-      let read : e ≡ commandAt d n .a = fe ∙ ap (λ (y : Node). y .a) same-assignment in
-      let both = mask-both mask (rw read at read-mask) in
+      let both = mask-both mask (rw (a-is (a .command) fe) at read-mask) in
       let labels = labels-count (a .known .describes) in
       let below = assigned-below in
-      let node = a .node in
-      let count = commands-count (a .known .describes) in
-      let charged = answer-charged d b (omega arith) (commands-few (a .known .describes)) (ap (λ (k : ℕ). flowRefusal (commandKind k)) (a .kind)) in
+      let charged = answer-charged d b (command-below (a .command)) (commands-few (a .known .describes)) (ap (λ (k : ℕ). flowRefusal (commandKind k)) (a .kind)) in
       rw fa (charged ∙ rw (tree, fb, assigned-label fr fl, both .bits (registerLabel d (commandAt d n .item)) (omega arith)) refl)

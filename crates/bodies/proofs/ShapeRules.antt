@@ -12,24 +12,25 @@ use Rattle.model.specs.declared.Found.{Found}
 use Rattle.model.specs.declared.Found.the-variants.{Nowhere}
 use Rattle.model.specs.Indices.{lower, lowestOf, joinBelow}
 use Rattle.model.specs.Limits.{commandsMax}
-use Rattle.model.specs.Image.{Commands, Design as Table, Node, State, designOf, stateAt, commandAt}
+use Rattle.model.specs.Image.{Design as Table, Node, State, designOf, stateAt, commandAt}
 use Rattle.model.specs.States.{isChild, hasChild, siblingOrSelf, parent}
-use Rattle.model.specs.Kinds.{CommandKind, skips, assigns, sequences, falls, goes, branches, commandKind}
+use Rattle.model.specs.Kinds.{skips, assigns, sequences, falls, goes, branches, commandKind}
 use Rattle.model.specs.Trees.{Expr, Cmd, skip, assign, sequence, fall, goto, branch, exprOf, cmdOf, bodyOf}
 use Rattle.model.specs.Shape.{transfers, chargedUnless, shapeFaults, stateShapeFaults, shapeFault}
 use Rattle.model.specs.Rules.{CommandHolds}
 use Rattle.model.proofs.Laws.Faults.{lowest-append}
 use Rattle.model.proofs.Laws.Trees.{cmd-skip, cmd-assign, cmd-sequence, cmd-fall, cmd-goto, cmd-branch}
-use Rattle.model.proofs.Exact.Records.{state-iff, command-iff}
+use Rattle.model.proofs.Exact.Records.{state-iff}
 use Rattle.model.proofs.Laws.Passes.{Missed, one-passes, none-pass}
 use native.Mathlib.Numerals.{add-one}
 use Rattle.design.specs.declared.Design.{Design}
 use Rattle.design.specs.Records.{nodeIn, stateIn}
 use Rattle.design.specs.Describes.{Describes}
-use Rattle.design.proofs.Laws.{states-count, commands-count, state-inside, command-inside, state-in, command-in}
+use Rattle.design.proofs.Laws.{states-count, commands-count, state-inside, state-in}
+use Rattle.design.proofs.NodeRules.{command-at, command-place-inside, command-below, command-kind-of, item-is, a-is, b-is, c-is, command-holds, named-state, sequence-a-below, sequence-b-below, branch-b-below, branch-c-below, lower-command}
 use Rattle.bodies.specs.Places.{placeUnless, foundAmong}
 use Rattle.bodies.specs.Shapes.{Judged, judgedOf, sequencedOf, branchedOf, judgementOf, judgedAmong, sequencedAs, branchedAs, Judging, Going, ShapeKnown}
-use Rattle.bodies.proofs.PlaceRules.{found-nowhere, found-lower, found-charged}
+use Rattle.bodies.proofs.PlaceRules.{found-nowhere, found-lower, found-charged, commands-few}
 
 -- ---- siblings
 and-known : {w : Bool} (a b c : Bool) → w ≡ true → (a && b && c) ≡ (a && (b && w && c))
@@ -123,10 +124,6 @@ module _ {commands n : ℕ} (below : n < commands) (few : commands ≤ commandsM
       among-judgement commands (eqb (p % 2) 1 && eqb (q % 2) 1) (min (placeUnless (Bool·beq (eqb (p % 2) 1) (eqb (q % 2) 1)) n) (min (p / 2) (q / 2)))
       ∙ ap (λ (f : Found). record { transfers = eqb (p % 2) 1 && eqb (q % 2) 1; lowest = f }) (found-three (Bool·beq (eqb (p % 2) 1) (eqb (q % 2) 1)) (p / 2) (q / 2))
 
--- no design has more commands
-commands-few : {image : List ℕ} {x : Design} → Describes image x → length (designOf image .commands) ≤ commandsMax
-commands-few d = let is = d .commands in let count = commands-count d in let most = d .directory .sections Commands .at-most in omega arith
-
 -- ---- what commands come to, as trees
 module _ (d : Table) (s n : ℕ) where
   three : (xs ys zs : List ℕ) → lowestOf (xs ++ (ys ++ zs)) ≡ lower (lowestOf xs) (lower (lowestOf ys) (lowestOf zs))
@@ -170,99 +167,46 @@ plain-kind d n (suc (suc (suc (suc (suc zero))))) x a b c e h = absurd (e refl)
 plain-kind d n (suc (suc (suc (suc (suc (suc k)))))) x a b c e h = absurd h
 
 module _ {image : List ℕ} {states place s n : ℕ} {falling : Bool} (j : Judging image states place s n falling) where
-  pub node-inside : place + 8 * n + 8 ≤ length image
-  node-inside = rw (j .commands-begin) (command-inside (j .describes) (j .node))
-
-  node-below : n < length (designOf image .commands)
-  node-below = let count = commands-count (j .describes) in let node = j .node in omega arith
-
   few : length (designOf image .commands) ≤ commandsMax
   few = commands-few (j .describes)
-
-  -- the fields that the accessors read are the command's
-  same-node : nodeIn image place n ≡ commandAt (designOf image) n
-  same-node = rw (j .commands-begin) (command-in (j .describes) (j .node))
-
-  kind-is : {k : ℕ} → k ≡ nodeIn image place n .kind → k ≡ commandAt (designOf image) n .kind
-  kind-is p = p ∙ ap (λ (y : Node). y .kind) same-node
-
-  holds : CommandHolds (designOf image) n (commandKind (commandAt (designOf image) n .kind)) (commandAt (designOf image) n)
-  holds = command-iff (designOf image) n .0 (j .commands .kept n node-below)
-
-  holds-at : {k m : ℕ} → k ≡ nodeIn image place n .kind → k ≡ m → CommandHolds (designOf image) n (commandKind m) (commandAt (designOf image) n)
-  holds-at p q = rw (sym (kind-is p) ∙ q) at holds
 
   -- a lower command of the same state
   lower-node : (m : ℕ) → m < n → Judging image states place s m falling
   lower-node m l =
-      let node = j .node in
       record {
         design = j .design;
         describes = j .describes;
         commands = j .commands;
         state = j .state;
-        node = omega arith;
+        command = lower-command (j .command) (j .commands) l;
         children = j .children;
         states-begin = j .states-begin;
-        commands-begin = j .commands-begin;
       }
 
   -- ---- the parts of a sequence and of an if
-  sequence-a-below : {k a : ℕ} → k ≡ nodeIn image place n .kind → k ≡ 2 → a ≡ nodeIn image place n .a → a < n
-  unfolding commandKind
-  sequence-a-below p q e = rw (e ∙ ap (λ (y : Node). y .a) same-node) (holds-at p q .1)
+  pub sequence-a : {k a : ℕ} → k ≡ 2 → k ≡ nodeIn image place n .kind → a ≡ nodeIn image place n .a → Judging image states place s a falling
+  sequence-a {a = m} q p f = lower-node m (sequence-a-below (j .command) q p f)
 
-  pub sequence-a-falls : {k a t : ℕ} → k ≡ nodeIn image place n .kind → k ≡ 2 → a ≡ nodeIn image place n .a → n ≡ t → a < t
-  sequence-a-falls p q e m = rw m at (sequence-a-below p q e)
+  pub sequence-b : {k b : ℕ} → k ≡ 2 → k ≡ nodeIn image place n .kind → b ≡ nodeIn image place n .b → Judging image states place s b falling
+  sequence-b {b = m} q p f = lower-node m (sequence-b-below (j .command) q p f)
 
-  pub sequence-a : {k a : ℕ} → k ≡ nodeIn image place n .kind → k ≡ 2 → a ≡ nodeIn image place n .a → Judging image states place s a falling
-  sequence-a {a = m} p q e = lower-node m (sequence-a-below p q e)
+  pub branch-b : {k b : ℕ} → k ≡ 5 → k ≡ nodeIn image place n .kind → b ≡ nodeIn image place n .b → Judging image states place s b falling
+  branch-b {b = m} q p f = lower-node m (branch-b-below (j .command) q p f)
 
-  sequence-b-below : {k b : ℕ} → k ≡ nodeIn image place n .kind → k ≡ 2 → b ≡ nodeIn image place n .b → b < n
-  unfolding commandKind
-  sequence-b-below p q e = rw (e ∙ ap (λ (y : Node). y .b) same-node) (holds-at p q .2)
-
-  pub sequence-b-falls : {k b t : ℕ} → k ≡ nodeIn image place n .kind → k ≡ 2 → b ≡ nodeIn image place n .b → n ≡ t → b < t
-  sequence-b-falls p q e m = rw m at (sequence-b-below p q e)
-
-  pub sequence-b : {k b : ℕ} → k ≡ nodeIn image place n .kind → k ≡ 2 → b ≡ nodeIn image place n .b → Judging image states place s b falling
-  sequence-b {b = m} p q e = lower-node m (sequence-b-below p q e)
-
-  branch-b-below : {k b : ℕ} → k ≡ nodeIn image place n .kind → k ≡ 5 → b ≡ nodeIn image place n .b → b < n
-  unfolding commandKind
-  branch-b-below p q e = rw (e ∙ ap (λ (y : Node). y .b) same-node) (holds-at p q .2)
-
-  pub branch-b-falls : {k b t : ℕ} → k ≡ nodeIn image place n .kind → k ≡ 5 → b ≡ nodeIn image place n .b → n ≡ t → b < t
-  branch-b-falls p q e m = rw m at (branch-b-below p q e)
-
-  pub branch-b : {k b : ℕ} → k ≡ nodeIn image place n .kind → k ≡ 5 → b ≡ nodeIn image place n .b → Judging image states place s b falling
-  branch-b {b = m} p q e = lower-node m (branch-b-below p q e)
-
-  branch-c-below : {k c : ℕ} → k ≡ nodeIn image place n .kind → k ≡ 5 → c ≡ nodeIn image place n .c → c < n
-  unfolding commandKind
-  branch-c-below p q e = rw (e ∙ ap (λ (y : Node). y .c) same-node) (holds-at p q .3)
-
-  pub branch-c-falls : {k c t : ℕ} → k ≡ nodeIn image place n .kind → k ≡ 5 → c ≡ nodeIn image place n .c → n ≡ t → c < t
-  branch-c-falls p q e m = rw m at (branch-c-below p q e)
-
-  pub branch-c : {k c : ℕ} → k ≡ nodeIn image place n .kind → k ≡ 5 → c ≡ nodeIn image place n .c → Judging image states place s c falling
-  branch-c {c = m} p q e = lower-node m (branch-c-below p q e)
+  pub branch-c : {k c : ℕ} → k ≡ 5 → k ≡ nodeIn image place n .kind → c ≡ nodeIn image place n .c → Judging image states place s c falling
+  branch-c {c = m} q p f = lower-node m (branch-c-below (j .command) q p f)
 
   -- the state that a goto names
-  pub goto-going : {k t : ℕ} → k ≡ nodeIn image place n .kind → k ≡ 4 → t ≡ nodeIn image place n .item → Going image states s t
-  unfolding commandKind
-  goto-going {k} {t} p q e =
+  pub goto-going : {k t : ℕ} → k ≡ 4 → k ≡ nodeIn image place n .kind → t ≡ nodeIn image place n .item → Going image states s t
+  goto-going q p f =
       let count = states-count (j .describes) in
-      let named : t < length (designOf image .states) = rw (e ∙ ap (λ (y : Node). y .item) same-node) (holds-at p q .0) in
+      let below = named-state (j .command) q p f in
       record { design = j .design; describes = j .describes; state = j .state; target = omega arith; states-begin = j .states-begin }
 
   -- ---- what the command comes to
   pub charged-small : {f : ℕ} (b : Bool) → f ≡ placeUnless b n → f ≤ commandsMax
   charged-small {f} true e = omega arith
-  charged-small {f} false e = let below = node-below in let most = few in omega arith
-
-  is-kind : {k m : ℕ} (c : CommandKind) → k ≡ nodeIn image place n .kind → k ≡ m → commandKind m ≡ c → commandKind (commandAt (designOf image) n .kind) ≡ c
-  is-kind c p q e = ap commandKind (sym (kind-is p) ∙ q) ∙ e
+  charged-small {f} false e = let below = command-below (j .command) in let most = few in omega arith
 
   pub judged-sequence :
       {k a b r : ℕ} (p q : ℕ)
@@ -277,11 +221,11 @@ module _ {image : List ℕ} {states place s n : ℕ} {falling : Bool} (j : Judgi
   unfolding commandKind
   judged-sequence {a = a} {b = b} p q f e ea eb er ep eq =
       let d = designOf image in
-      let tree = cmd-sequence d n (is-kind sequences e f refl) (holds-at e f .1) (holds-at e f .2) in
-      let first : a ≡ commandAt d n .a = ea ∙ ap (λ (y : Node). y .a) same-node in
-      let second : b ≡ commandAt d n .b = eb ∙ ap (λ (y : Node). y .b) same-node in
+      let tree = cmd-sequence d n (command-kind-of (j .command) sequences f e refl) (command-holds (j .command) f e .1) (command-holds (j .command) f e .2) in
+      let first = a-is (j .command) ea in
+      let second = b-is (j .command) eb in
       ap (judgedAmong (length (d .commands))) er
-      ∙ (sequenced-among node-below few p q
+      ∙ (sequenced-among (command-below (j .command)) few p q
       ∙ rw (ep, eq, first, second, tree) (sequence-tree d s n (cmdOf d (commandAt d n .a)) (cmdOf d (commandAt d n .b))))
 
   pub judged-branch :
@@ -297,11 +241,11 @@ module _ {image : List ℕ} {states place s n : ℕ} {falling : Bool} (j : Judgi
   unfolding commandKind
   judged-branch {b = b} {c = c} p q f e eb ec er ep eq =
       let d = designOf image in
-      let tree = cmd-branch d n (is-kind branches e f refl) (holds-at e f .2) (holds-at e f .3) in
-      let first : b ≡ commandAt d n .b = eb ∙ ap (λ (y : Node). y .b) same-node in
-      let second : c ≡ commandAt d n .c = ec ∙ ap (λ (y : Node). y .c) same-node in
+      let tree = cmd-branch d n (command-kind-of (j .command) branches f e refl) (command-holds (j .command) f e .2) (command-holds (j .command) f e .3) in
+      let first = b-is (j .command) eb in
+      let second = c-is (j .command) ec in
       ap (judgedAmong (length (d .commands))) er
-      ∙ (branched-among node-below few p q
+      ∙ (branched-among (command-below (j .command)) few p q
       ∙ rw (ep, eq, first, second, tree) (branch-tree d s n (exprOf d (commandAt d n .a)) (cmdOf d (commandAt d n .b)) (cmdOf d (commandAt d n .c))))
 
   -- a command that transfers by itself
@@ -310,19 +254,19 @@ module _ {image : List ℕ} {states place s n : ℕ} {falling : Bool} (j : Judgi
       let commands = length (designOf image .commands) in
       ap (judgedAmong commands) h
       ∙ (among-judgement commands true f
-      ∙ ap (λ (y : Found). record { transfers = true; lowest = y }) (ap (foundAmong commands) g ∙ found-charged b node-below few))
+      ∙ ap (λ (y : Found). record { transfers = true; lowest = y }) (ap (foundAmong commands) g ∙ found-charged b (command-below (j .command)) few))
 
   pub judged-fall : {k f r : ℕ} → k ≡ 3 → k ≡ nodeIn image place n .kind → f ≡ placeUnless falling n → r ≡ judgementOf true f
       → judgedAmong (length (designOf image .commands)) r ≡ judgedOf (designOf image) s (cmdOf (designOf image) n)
   unfolding commandKind
-  judged-fall f e g h = transfer-among falling g h ∙ rw (j .children, cmd-fall (designOf image) n (is-kind falls e f refl)) (fall-tree (designOf image) s n)
+  judged-fall f e g h = transfer-among falling g h ∙ rw (j .children, cmd-fall (designOf image) n (command-kind-of (j .command) falls f e refl)) (fall-tree (designOf image) s n)
 
   pub judged-goto : {k t f r : ℕ} {b : Bool} → k ≡ 4 → k ≡ nodeIn image place n .kind → t ≡ nodeIn image place n .item → b ≡ siblingOrSelf (designOf image) s t → f ≡ placeUnless b n → r ≡ judgementOf true f
       → judgedAmong (length (designOf image .commands)) r ≡ judgedOf (designOf image) s (cmdOf (designOf image) n)
   unfolding commandKind
   judged-goto {t = t} {b = b} f e et eb g h =
-      let named : t ≡ commandAt (designOf image) n .item = et ∙ ap (λ (y : Node). y .item) same-node in
-      transfer-among b g h ∙ rw (eb, named, cmd-goto (designOf image) n (is-kind goes e f refl)) (goto-tree (designOf image) s n (commandAt (designOf image) n .item))
+      let named = item-is (j .command) et in
+      transfer-among b g h ∙ rw (eb, named, cmd-goto (designOf image) n (command-kind-of (j .command) goes f e refl)) (goto-tree (designOf image) s n (commandAt (designOf image) n .item))
 
   nowhere-among : {r : ℕ} → r ≡ judgementOf false commandsMax → judgedAmong (length (designOf image .commands)) r ≡ record { transfers = false; lowest = Nowhere }
   nowhere-among h =
@@ -336,9 +280,9 @@ module _ {image : List ℕ} {states place s n : ℕ} {falling : Bool} (j : Judgi
       let d = designOf image in
       nowhere-among g
       ∙ ⊎-elim
-      (λ (h : commandKind k ≡ skips). rw (cmd-skip d n (is-kind skips e refl h)) (skip-tree d s n))
-      (λ (h : commandKind k ≡ assigns). rw (cmd-assign d n (is-kind assigns e refl h)) (assign-tree d s n (commandAt d n .item) (exprOf d (commandAt d n .a))))
-      (plain-kind d n k (commandAt d n) a b c f (holds-at e refl))
+      (λ (h : commandKind k ≡ skips). rw (cmd-skip d n (command-kind-of (j .command) skips refl e h)) (skip-tree d s n))
+      (λ (h : commandKind k ≡ assigns). rw (cmd-assign d n (command-kind-of (j .command) assigns refl e h)) (assign-tree d s n (commandAt d n .item) (exprOf d (commandAt d n .a))))
+      (plain-kind d n k (commandAt d n) a b c f (command-holds (j .command) refl e))
 
 -- ---- the numbers stay small: at most twice no place, and one more
 pub judgement-small : {f r : ℕ} (b : Bool) → r ≡ judgementOf b f → f ≤ commandsMax → r ≤ 2049
@@ -386,10 +330,9 @@ module _ {image : List ℕ} {x : Design} (known : ShapeKnown image x) where
         describes = known .describes;
         commands = known .commands;
         state = l;
-        node = body-below l e;
+        command = command-at (known .describes) (known .commands) (body-below l e) refl;
         children = h;
         states-begin = refl;
-        commands-begin = refl;
       }
 
   pub state-shape-rule :
@@ -445,4 +388,4 @@ lowest-of-all {image} {x} {s} {place} known so l m e =
     ∙ (so .is ∙ ap (λ (n : ℕ). lowestOf (joinBelow (stateShapeFaults (designOf image)) n)) end))
 
 -- what the recursion cites
-pub ruleset judge-laws = (node-inside, sequence-a-falls, sequence-a, sequence-b-falls, sequence-b, branch-b-falls, branch-b, branch-c-falls, branch-c, goto-going, charged-small, judged-sequence, judged-branch, judged-fall, judged-goto, judged-plain, judgement-small, sequenced-small, branched-small)
+pub ruleset judge-laws = (command-place-inside, goto-going, charged-small, judged-sequence, judged-branch, judged-fall, judged-goto, judged-plain, judgement-small, sequenced-small, branched-small)

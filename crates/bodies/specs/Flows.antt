@@ -15,6 +15,7 @@ use Rattle.model.specs.Kinds.{CommandKind, skips, assigns, sequences, falls, go
 use Rattle.design.specs.declared.Design.{Design}
 use Rattle.design.specs.Describes.{Describes}
 use Rattle.design.specs.Kept.{RegistersKept, StatesKept, CommandsKept, ExpressionsKept}
+use Rattle.design.specs.NodesAt.{CommandAt, ExpressionAt}
 
 pub record MaskOf (rows context : List ℕ) (mask : ℕ) : Type 0 where
   pub small : mask < 65536
@@ -42,12 +43,7 @@ pub record FlowKnown (image : List ℕ) (x : Design) : Type 0 where
   pub commands : CommandsKept (designOf image)
   pub expressions : ExpressionsKept (designOf image)
 
--- what is known where expression e is read
-pub record Reading (image : List ℕ) (x : Design) (e : ℕ) : Type 0 where
-  pub known : FlowKnown image x
-  pub node : e < x .expressions
-
--- the same, where the recursion has the places of a design instead of the design: the label of register r and of state s is asked for, the labels that expression e reads are gathered
+-- where the recursion has the places of a design instead of the design: the label of register r and of state s is asked for, and the labels that expression e reads are gathered
 pub record Labelled (image : List ℕ) (registersAt r : ℕ) : Type 0 where
   pub design : Design
   pub known : FlowKnown image design
@@ -62,26 +58,24 @@ pub record Naming (image : List ℕ) (statesAt s : ℕ) : Type 0 where
 
 pub record Gathering (image : List ℕ) (registersAt expressionsAt e : ℕ) : Type 0 where
   pub design : Design
-  pub reading : Reading image design e
+  pub known : FlowKnown image design
+  pub expression : ExpressionAt image design expressionsAt e
   pub registers-begin : registersAt ≡ design .«registers_at»
-  pub expressions-begin : expressionsAt ≡ design .«expressions_at»
 
 -- an assignment n is judged, and a command n of state s
 pub record Assigning (image : List ℕ) (registersAt commandsAt expressionsAt n : ℕ) : Type 0 where
   pub design : Design
   pub known : FlowKnown image design
-  pub node : n < design .commands
+  pub command : CommandAt image design commandsAt n
   pub kind : commandAt (designOf image) n .kind ≡ 1
   pub registers-begin : registersAt ≡ design .«registers_at»
-  pub commands-begin : commandsAt ≡ design .«commands_at»
   pub expressions-begin : expressionsAt ≡ design .«expressions_at»
 
 pub record Flowing (image : List ℕ) (registersAt statesAt commandsAt expressionsAt s n : ℕ) : Type 0 where
   pub design : Design
   pub known : FlowKnown image design
   pub state : s < design .states
-  pub node : n < design .commands
+  pub command : CommandAt image design commandsAt n
   pub registers-begin : registersAt ≡ design .«registers_at»
   pub states-begin : statesAt ≡ design .«states_at»
-  pub commands-begin : commandsAt ≡ design .«commands_at»
   pub expressions-begin : expressionsAt ≡ design .«expressions_at»

@@ -13,6 +13,7 @@ use Rattle.model.specs.Shape.{transfers, chargedUnless, shapeFaults}
 use Rattle.design.specs.declared.Design.{Design}
 use Rattle.design.specs.Describes.{Describes}
 use Rattle.design.specs.Kept.{StatesKept, CommandsKept}
+use Rattle.design.specs.NodesAt.{CommandAt}
 use Rattle.bodies.specs.Places.{placeUnless, foundAmong}
 
 -- what a command's shape comes to: whether it transfers, and the lowest node that breaks a rule
@@ -55,10 +56,9 @@ pub record Judging (image : List ℕ) (statesAt commandsAt s n : ℕ) (falls : B
   pub describes : Describes image design
   pub commands : CommandsKept (designOf image)
   pub state : s < design .states
-  pub node : n < design .commands
+  pub command : CommandAt image design commandsAt n
   pub children : falls ≡ hasChild (designOf image) s
   pub states-begin : statesAt ≡ design .«states_at»
-  pub commands-begin : commandsAt ≡ design .«commands_at»
 
 -- and where a command of state s goes to state t
 pub record Going (image : List ℕ) (statesAt s t : ℕ) : Type 0 where

@@ -1,7 +1,8 @@
--- What the contracts of this crate cite: a record by the place of its section, when a `Design` describes an image and its records keep their rules, a
+-- What the contracts of this crate and of those above it cite: a record by the place of its section, when a `Design` describes an image, its records keep their rules and a node stands at a place, a
 -- register area with one word written, and what reset writes.
 pub mod Records
 pub mod Describes
 pub mod Kept
+pub mod NodesAt
 pub mod Words
 pub mod Resets

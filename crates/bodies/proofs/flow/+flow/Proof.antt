@@ -1,5 +1,6 @@
 use borrow.Author.Needs.{needs}
-use Rattle.bodies.proofs.FlowKinds.{flow-laws, mask-small, sequence-a-falls, sequence-a-flowing, sequence-b-falls, sequence-b-flowing, branch-b-falls, branch-b-flowing, branch-c-falls, branch-c-flowing}
+use Rattle.design.proofs.NodeRules.{sequence-a-falls, sequence-b-falls, branch-b-falls, branch-c-falls}
+use Rattle.bodies.proofs.FlowKinds.{flow-laws, mask-small, sequence-a-flowing, sequence-b-flowing, branch-b-flowing, branch-c-flowing}
 use Prim.Native.Nat.{ℕ, _<_}
 use borrow.Fn.Kinds.{In}
 use borrow.Fn.PlainCycle.{Measures, is, falls, and}

@@ -1,5 +1,6 @@
 use borrow.Author.Needs.{needs}
-use Rattle.bodies.proofs.FlowRules.{reads-laws, operand-a-falls, operand-a-gathering, operand-b-falls, operand-b-gathering}
+use Rattle.design.proofs.NodeRules.{operand-a-falls, operand-b-falls}
+use Rattle.bodies.proofs.FlowRules.{reads-laws, operand-a-gathering, operand-b-gathering}
 use Prim.Native.Nat.{ℕ, _<_}
 use borrow.Fn.Kinds.{In}
 use borrow.Fn.PlainCycle.{Measures, is, falls, and}

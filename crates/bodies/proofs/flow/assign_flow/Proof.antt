@@ -1,4 +1,5 @@
-use Rattle.bodies.proofs.FlowRules.{assignment-inside, assigned-inside, assigned-reading, assigned-label-small, assign-rule}
+use Rattle.design.proofs.NodeRules.{command-place-inside}
+use Rattle.bodies.proofs.FlowRules.{assigned-inside, assigned-gathering, assigned-label-small, assign-rule}
 use borrow.Author.Needs.{needs}
 use Rattle.bodies.proofs.flow.assign_flow.Statement.{statement}
 use Rattle.bodies.proofs.flow.assign_flow.Tie as tie
@@ -12,25 +13,25 @@ use Rattle.bodies.proofs.flow.reads.Reads as reads-reads
 use Rattle.bodies.proofs.places.charged_unless.Reads as charged-unless-reads
 
 item-requires : tie.Need-item-requires
-item-requires c κs = search (assignment-inside, assigned-inside, assigned-reading, assigned-label-small, assign-rule, needs)
+item-requires c κs = search (command-place-inside, assigned-inside, assigned-gathering, assigned-label-small, assign-rule, needs)
 
 part-a-requires : tie.Need-part-a-requires
-part-a-requires c κs = search (assignment-inside, assigned-inside, assigned-reading, assigned-label-small, assign-rule, needs)
+part-a-requires c κs = search (command-place-inside, assigned-inside, assigned-gathering, assigned-label-small, assign-rule, needs)
 
 reads-requires : tie.Need-reads-requires
-reads-requires c κs = search (assignment-inside, assigned-inside, assigned-reading, assigned-label-small, assign-rule, needs)
+reads-requires c κs = search (command-place-inside, assigned-inside, assigned-gathering, assigned-label-small, assign-rule, needs)
 
 register-label-requires : tie.Need-register-label-requires
-register-label-requires c κs = search (assignment-inside, assigned-inside, assigned-reading, assigned-label-small, assign-rule, needs)
+register-label-requires c κs = search (command-place-inside, assigned-inside, assigned-gathering, assigned-label-small, assign-rule, needs)
 
 bit-requires : tie.Need-bit-requires
-bit-requires c κs = search (assignment-inside, assigned-inside, assigned-reading, assigned-label-small, assign-rule, needs)
+bit-requires c κs = search (command-place-inside, assigned-inside, assigned-gathering, assigned-label-small, assign-rule, needs)
 
 charged-unless-requires : tie.Need-charged-unless-requires
-charged-unless-requires c κs = search (assignment-inside, assigned-inside, assigned-reading, assigned-label-small, assign-rule, needs)
+charged-unless-requires c κs = search (command-place-inside, assigned-inside, assigned-gathering, assigned-label-small, assign-rule, needs)
 
 returns : tie.Need-returns
-returns c = search (assignment-inside, assigned-inside, assigned-reading, assigned-label-small, assign-rule, needs)
+returns c = search (command-place-inside, assigned-inside, assigned-gathering, assigned-label-small, assign-rule, needs)
 
 pub assign-flow-spec : {M : Type 1} → statement M
 assign-flow-spec =

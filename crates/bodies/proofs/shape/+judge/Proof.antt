@@ -1,5 +1,6 @@
 use borrow.Author.Needs.{needs}
-use Rattle.bodies.proofs.ShapeRules.{judge-laws, sequence-a-falls, sequence-a, sequence-b-falls, sequence-b, branch-b-falls, branch-b, branch-c-falls, branch-c}
+use Rattle.design.proofs.NodeRules.{sequence-a-falls, sequence-b-falls, branch-b-falls, branch-c-falls}
+use Rattle.bodies.proofs.ShapeRules.{judge-laws, sequence-a, sequence-b, branch-b, branch-c}
 use Prim.Native.Nat.{ℕ, _<_}
 use borrow.Fn.Kinds.{In}
 use borrow.Fn.PlainCycle.{Measures, is, falls, and}

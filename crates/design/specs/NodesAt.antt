@@ -1,0 +1,21 @@
+-- What is known of a node whose record was judged, where the nodes of its family begin at a place.
+use Prim.Native.Nat.{ℕ, _<_}
+use mathlib.Core.Path.{_≡_}
+use mathlib.Core.Bool.{true}
+use mathlib.Core.List.{List}
+use Rattle.model.specs.Image.{designOf}
+use Rattle.model.specs.Kinds.{commandKept, expressionKept}
+use Rattle.design.specs.declared.Design.{Design}
+use Rattle.design.specs.Describes.{Describes}
+
+pub record CommandAt (image : List ℕ) (x : Design) (place n : ℕ) : Type 0 where
+  pub describes : Describes image x
+  pub node : n < x .commands
+  pub kept : commandKept (designOf image) n ≡ true
+  pub begins : place ≡ x .«commands_at»
+
+pub record ExpressionAt (image : List ℕ) (x : Design) (place e : ℕ) : Type 0 where
+  pub describes : Describes image x
+  pub node : e < x .expressions
+  pub kept : expressionKept (designOf image) e ≡ true
+  pub begins : place ≡ x .«expressions_at»
