@@ -1,13 +1,11 @@
 -- A cycle body by body: as many bodies are left as states were not yet reached, and what they leave from here on is what the whole cycle leaves.
-use Prim.Native.Nat.{ℕ, zero, suc, _+_, _-_, _*_, _≤_, _<_}
+use Prim.Native.Nat.{ℕ, suc, _+_, _-_, _≤_, _<_}
 use mathlib.Core.Path.{_≡_, refl, sym, _∙_, ap}
-use mathlib.Core.Logic.{_⊎_, inl, inr}
 use mathlib.Core.Bool.{Bool, true, false, cond}
 use mathlib.Core.List.{List, [], _∷_, _++_, append-nil}
 use native.Mathlib.Omega.{arith}
-use native.Mathlib.Numerals.{add-one}
 use native.Mathlib.Decide.{ℕ-discrete}
-use lib.ListN.{length, getD, set, drop, length-set}
+use lib.ListN.{length, getD, set, length-set}
 use mir.Syntax.{w32}
 use mir.Val.{Fits}
 use Rattle.model.specs.declared.Ending.{Ending}
@@ -18,17 +16,15 @@ use Rattle.model.specs.Image.{Design as Table, State, States, designOf, stateAt
 use Rattle.model.specs.States.{parent, defaultTarget, within}
 use Rattle.model.specs.Lattice.{stateLabel}
 use Rattle.model.specs.Trees.{cmdOf, bodyOf}
-use Rattle.model.specs.Rules.{Keeps}
 use Rattle.model.specs.Values.{wordsOf}
 use Rattle.model.specs.Machine.{Executed, Areas, Cycle, exec, goneTo, afterBody, runFrom, cycle, afterCycles, cycles, afterLast}
 use Rattle.model.proofs.Laws.States.{sibling-child}
 use Rattle.model.proofs.Laws.Gotos.{length-gone, gone-other, gone-parent}
 use Rattle.model.proofs.Laws.Cycles.{after-first}
 use Rattle.model.proofs.Exact.Records.{state-iff}
-use Rattle.model.proofs.Independence.Endings.{Ended, exec-ends}
+use Rattle.model.proofs.Independence.Endings.{exec-ends}
 use Rattle.design.specs.declared.Design.{Design}
 use Rattle.design.specs.Records.{stateIn}
-use Rattle.design.specs.Describes.{Describes}
 use Rattle.design.proofs.Laws.{registers-count, states-count, commands-count, state-in}
 use Rattle.design.proofs.ResetRules.{default-inside, states-few, state-fits}
 use Rattle.bodies.specs.Flows.{FlowKnown}

@@ -6,18 +6,17 @@ use native.Mathlib.Omega.{arith}
 use lib.Bits.{bitAnd, bitOr, bitXor}
 use lib.Dec.{ltb, eqb}
 use lib.ListN.{length}
-use Rattle.model.specs.Image.{Node, designOf, expressionAt, word32At, constantOf}
+use Rattle.model.specs.Image.{designOf, expressionAt, word32At, constantOf}
 use Rattle.model.specs.Kinds.{Operation, add, subtract, bitwiseAnd, bitwiseOr, bitwiseXor, equal, less, ExpressionKind, constants, reads, operates, unknownExpression, expressionKind}
 use Rattle.model.specs.Trees.{exprOf}
 use Rattle.model.specs.Values.{apply, oneOrZero}
 use Rattle.model.specs.Machine.{eval}
 use Rattle.model.proofs.Laws.Kinds.{kind-constants, kind-reads, kind-operates, no-expression-kind}
 use Rattle.model.proofs.Laws.Trees.{expr-constant, expr-register, expr-binary}
-use Rattle.model.proofs.Exact.Records.{expression-iff}
 use Rattle.design.specs.Records.{nodeIn, constantIn}
-use Rattle.design.proofs.Laws.{registers-count, expressions-count, expression-inside, expression-in}
+use Rattle.design.proofs.Laws.{registers-count}
+use Rattle.design.proofs.NodeRules.{expression-place-inside, same-expression, expression-kind-is, read-is, first-is, second-is, expression-holds, read-register, operand-a-below, operand-b-below, lower-expression}
 use Rattle.design.proofs.WordRules.{words-at}
-use Rattle.bodies.proofs.FlowRules.{read-register, part-a-falls, part-a-reading, part-b-falls, part-b-reading}
 use Rattle.machine.specs.Executions.{Evaluating, valuesIn}
 
 -- ---- operations
@@ -81,57 +80,43 @@ pub ruleset apply-laws = (applies-add, applies-subtract, applies-and, applies-or
 
 -- ---- expressions
 module _ {image : List ℕ} {place : ℕ} {registers : List ℕ} {e : ℕ} (here : Evaluating image place registers e) where
-  pub expression-place-inside : place + 8 * e + 8 ≤ length image
-  expression-place-inside = rw (here .begins) (expression-inside (here .reading .known .describes) (here .reading .node))
-
-  same-expression : nodeIn image place e ≡ expressionAt (designOf image) e
-  same-expression = rw (here .begins) (expression-in (here .reading .known .describes) (here .reading .node))
-
-  kind-is : {k : ℕ} → k ≡ nodeIn image place e .kind → expressionAt (designOf image) e .kind ≡ k
-  kind-is p = sym (p ∙ ap (λ (y : Node). y .kind) same-expression)
-
   -- ---- a register
-  read-below : {k r : ℕ} → k ≡ nodeIn image place e .kind → k ≡ 1 → r ≡ nodeIn image place e .item → r < here .design .registers
-  read-below p q f = read-register (here .reading) (rw (here .begins) at p) q (rw (here .begins) at f)
+  read-below : {k r : ℕ} → k ≡ 1 → k ≡ nodeIn image place e .kind → r ≡ nodeIn image place e .item → r < here .design .registers
+  read-below q p f = let below = read-register (here .expression) q p f in let count = registers-count (here .known .describes) in omega arith
 
-  pub read-inside : {k r : ℕ} → k ≡ nodeIn image place e .kind → k ≡ 1 → r ≡ nodeIn image place e .item → 4 * r + 4 ≤ length registers
-  read-inside p q f = let area = here .area in let below = read-below p q f in omega arith
+  pub read-inside : {k r : ℕ} → k ≡ 1 → k ≡ nodeIn image place e .kind → r ≡ nodeIn image place e .item → 4 * r + 4 ≤ length registers
+  read-inside q p f = let area = here .area in let below = read-below q p f in omega arith
 
   pub evaluates-register :
       {k r v : ℕ}
-      → k ≡ nodeIn image place e .kind
       → k ≡ 1
+      → k ≡ nodeIn image place e .kind
       → r ≡ nodeIn image place e .item
       → v ≡ word32At registers (4 * r)
       → v ≡ eval (valuesIn (designOf image) registers) (exprOf (designOf image) e)
   unfolding eval
-  evaluates-register {r = r} p q f h =
+  evaluates-register q p f h =
       let d = designOf image in
-      let named : expressionAt d e .item ≡ r = sym (f ∙ ap (λ (y : Node). y .item) same-expression) in
-      let count = registers-count (here .reading .known .describes) in
-      rw (expr-register d e (kind-reads (kind-is p ∙ q)), named, ← count) (h ∙ sym (words-at registers (read-below p q f) (here .area)))
+      let named = sym (read-is (here .expression) f) in
+      let count = registers-count (here .known .describes) in
+      rw (expr-register d e (kind-reads (expression-kind-is (here .expression) p ∙ q)), named, ← count) (h ∙ sym (words-at registers (read-below q p f) (here .area)))
 
   -- ---- the parts of an operation
-  pub operand-a-falls : {k a t : ℕ} → k < 9 → 1 ≤ k → (k ≡ 1 → ⊥) → k ≡ nodeIn image place e .kind → a ≡ nodeIn image place e .a → e ≡ t → a < t
-  operand-a-falls u l other p f m = part-a-falls (here .reading) (rw (here .begins) at p) other l u (rw (here .begins) at f) m
+  lower-evaluating : (m : ℕ) → m < e → Evaluating image place registers m
+  lower-evaluating m l = record { design = here .design; known = here .known; expression = lower-expression (here .expression) (here .known .expressions) l; area = here .area }
 
   pub operand-a-evaluating : {k a : ℕ} → k < 9 → 1 ≤ k → (k ≡ 1 → ⊥) → k ≡ nodeIn image place e .kind → a ≡ nodeIn image place e .a → Evaluating image place registers a
-  operand-a-evaluating u l other p f =
-      record { design = here .design; reading = part-a-reading (here .reading) (rw (here .begins) at p) other l u (rw (here .begins) at f); begins = here .begins; area = here .area }
-
-  pub operand-b-falls : {k b t : ℕ} → k < 9 → 1 ≤ k → (k ≡ 1 → ⊥) → k ≡ nodeIn image place e .kind → b ≡ nodeIn image place e .b → e ≡ t → b < t
-  operand-b-falls u l other p f m = part-b-falls (here .reading) (rw (here .begins) at p) other l u (rw (here .begins) at f) m
+  operand-a-evaluating {a = a} u l other p f = lower-evaluating a (operand-a-below (here .expression) u l other p f)
 
   pub operand-b-evaluating : {k b : ℕ} → k < 9 → 1 ≤ k → (k ≡ 1 → ⊥) → k ≡ nodeIn image place e .kind → b ≡ nodeIn image place e .b → Evaluating image place registers b
-  operand-b-evaluating u l other p f =
-      record { design = here .design; reading = part-b-reading (here .reading) (rw (here .begins) at p) other l u (rw (here .begins) at f); begins = here .begins; area = here .area }
+  operand-b-evaluating {b = b} u l other p f = lower-evaluating b (operand-b-below (here .expression) u l other p f)
 
   pub evaluates-operation :
       {k a b m n v : ℕ}
-      → k ≡ nodeIn image place e .kind
-      → (k ≡ 1 → ⊥)
-      → 1 ≤ k
       → k < 9
+      → 1 ≤ k
+      → (k ≡ 1 → ⊥)
+      → k ≡ nodeIn image place e .kind
       → a ≡ nodeIn image place e .a
       → b ≡ nodeIn image place e .b
       → m ≡ eval (valuesIn (designOf image) registers) (exprOf (designOf image) a)
@@ -139,14 +124,14 @@ module _ {image : List ℕ} {place : ℕ} {registers : List ℕ} {e : ℕ} (here
       → ((o : Operation) → expressionKind k ≡ operates o → v ≡ apply o m n)
       → v ≡ eval (valuesIn (designOf image) registers) (exprOf (designOf image) e)
   unfolding eval
-  evaluates-operation {a = a} {b = b} p other l u f g first second applied =
+  evaluates-operation {k} {a} {b} u l other p f g first second applied =
       let d = designOf image in
       let found = kind-operates (λ z. omega arith) other u in
-      let left : a ≡ expressionAt d e .a = f ∙ ap (λ (y : Node). y .a) same-expression in
-      let right : b ≡ expressionAt d e .b = g ∙ ap (λ (y : Node). y .b) same-expression in
-      let lower : expressionAt d e .a < e = rw left at (operand-a-falls u l other p f refl) in
-      let lower′ : expressionAt d e .b < e = rw right at (operand-b-falls u l other p g refl) in
-      let tree = expr-binary d e (ap expressionKind (kind-is p) ∙ found .1) lower lower′ in
+      let left : a ≡ expressionAt d e .a = first-is (here .expression) f in
+      let right : b ≡ expressionAt d e .b = second-is (here .expression) g in
+      let lower = rw left at (operand-a-below (here .expression) u l other p f) in
+      let lower′ = rw right at (operand-b-below (here .expression) u l other p g) in
+      let tree = expr-binary d e (ap expressionKind (expression-kind-is (here .expression) p) ∙ found .1) lower lower′ in
       rw tree (applied (found .0) (found .1) ∙ rw (first, second, left, right))
 
   -- ---- a constant
@@ -157,16 +142,13 @@ module _ {image : List ℕ} {place : ℕ} {registers : List ℕ} {e : ℕ} (here
       let at = place + 8 * e in
       let behind : at + 4 + 2 ≡ at + 6 = omega arith in
       let fields : v ≡ constantOf (nodeIn image place e) = h ∙ rw behind in
-      rw (expr-constant d e kind) (fields ∙ ap constantOf same-expression)
+      rw (expr-constant d e kind) (fields ∙ ap constantOf (same-expression (here .expression)))
 
   pub evaluates-low : {k v : ℕ} → k ≡ nodeIn image place e .kind → k < 1 → v ≡ constantIn image place e → v ≡ eval (valuesIn (designOf image) registers) (exprOf (designOf image) e)
-  evaluates-low p l h = let none = kind-is p in constant-is (kind-constants (omega arith)) h
+  evaluates-low p l h = let none = expression-kind-is (here .expression) p in constant-is (kind-constants (omega arith)) h
 
   -- no number from 9 on is a kind
   pub evaluates-high : {k v : ℕ} → k ≡ nodeIn image place e .kind → 9 ≤ k → v ≡ constantIn image place e → v ≡ eval (valuesIn (designOf image) registers) (exprOf (designOf image) e)
-  evaluates-high {k} p l h =
-      let count = expressions-count (here .reading .known .describes) in
-      let node = here .reading .node in
-      absurd (rw (kind-is p, no-expression-kind l) at (expression-iff (designOf image) e .0 (here .reading .known .expressions .kept e (omega arith))))
+  evaluates-high p l h = absurd (rw (no-expression-kind l) at (expression-holds (here .expression) p))
 
 pub ruleset evaluate-laws = (expression-place-inside, read-inside, evaluates-register, evaluates-operation, evaluates-low, evaluates-high)

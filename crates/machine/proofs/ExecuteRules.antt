@@ -13,7 +13,7 @@ use Rattle.model.specs.declared.Ending.the-variants.{Goto, Fall}
 use Rattle.model.specs.declared.Outcome.{Outcome}
 use Rattle.model.specs.declared.Outcome.the-variants.{Continued, Transferred}
 use Rattle.model.specs.Image.{Design as Table, Node, designOf, commandAt}
-use Rattle.model.specs.Kinds.{CommandKind, assigns, sequences, branches, commandKind}
+use Rattle.model.specs.Kinds.{assigns, sequences, branches, commandKind}
 use Rattle.model.specs.Trees.{exprOf, cmdOf}
 use Rattle.model.specs.Values.{wordsOf}
 use Rattle.model.specs.Machine.{eval, exec}
@@ -21,11 +21,11 @@ use Rattle.model.specs.Rules.{CommandHolds}
 use Rattle.model.proofs.Laws.Booleans.{true-or-false, or-cases, or-first, or-second}
 use Rattle.model.proofs.Laws.Kinds.{kind-skips, kind-falls, kind-goes}
 use Rattle.model.proofs.Laws.Trees.{cmd-skip, cmd-assign, cmd-sequence, cmd-fall, cmd-goto, cmd-branch}
-use Rattle.model.proofs.Exact.Records.{command-iff}
 use Rattle.design.specs.declared.Design.{Design}
 use Rattle.design.specs.Records.{nodeIn}
 use Rattle.design.proofs.Laws.{registers-count, commands-count, expressions-count, command-inside, command-in}
 use Rattle.design.specs.Words.{putWord}
+use Rattle.design.proofs.NodeRules.{command-at, command-place-inside, command-below, command-kind-is, command-kind-of, item-is, a-is, b-is, c-is, command-holds, assigned-register, assigned-expression, condition, sequence-a-below, sequence-b-below, branch-b-below, branch-c-below, lower-command, expression-at}
 use Rattle.bodies.specs.Flows.{FlowKnown}
 use Rattle.design.proofs.WordRules.{words-put, length-put}
 use Rattle.machine.specs.Executions.{Executing, Evaluating, Performing, executedAs, cameTo, cameToBy, valuesIn}
@@ -99,79 +99,37 @@ module _ {image : List ℕ} {x : Design} (known : FlowKnown image x) {m : ℕ} (
 
 -- ---- what is known at a command
 module _ {image : List ℕ} {commands expressions : ℕ} {before : List ℕ} {n : ℕ} (here : Performing image commands expressions before n) where
-  pub itself-last : n < length (designOf image .commands)
-  itself-last = let count = commands-count (here .executing .known .describes) in let node = here .executing .node in omega arith
-
-  pub command-place-inside : commands + 8 * n + 8 ≤ length image
-  command-place-inside = rw (here .commands-begin) (counted-inside (here .executing .known) itself-last)
-
-  same-command : nodeIn image commands n ≡ commandAt (designOf image) n
-  same-command = rw (here .commands-begin) (counted-in (here .executing .known) itself-last)
-
-  kind-is : {k m : ℕ} → k ≡ m → k ≡ nodeIn image commands n .kind → commandAt (designOf image) n .kind ≡ m
-  kind-is q p = sym (p ∙ ap (λ (y : Node). y .kind) same-command) ∙ q
-
-  kind-of : {k m : ℕ} (c : CommandKind) → k ≡ m → k ≡ nodeIn image commands n .kind → commandKind m ≡ c → commandKind (commandAt (designOf image) n .kind) ≡ c
-  kind-of c q p e = ap commandKind (kind-is q p) ∙ e
-
-  holds : {k m : ℕ} → k ≡ m → k ≡ nodeIn image commands n .kind → CommandHolds (designOf image) n (commandKind m) (commandAt (designOf image) n)
-  holds q p = rw (kind-is q p) at (command-iff (designOf image) n .0 (here .executing .known .commands .kept n itself-last))
-
-  item-is : {r : ℕ} → r ≡ nodeIn image commands n .item → r ≡ commandAt (designOf image) n .item
-  item-is f = f ∙ ap (λ (y : Node). y .item) same-command
-
-  a-is : {a : ℕ} → a ≡ nodeIn image commands n .a → a ≡ commandAt (designOf image) n .a
-  a-is f = f ∙ ap (λ (y : Node). y .a) same-command
-
-  b-is : {b : ℕ} → b ≡ nodeIn image commands n .b → b ≡ commandAt (designOf image) n .b
-  b-is f = f ∙ ap (λ (y : Node). y .b) same-command
-
-  c-is : {c : ℕ} → c ≡ nodeIn image commands n .c → c ≡ commandAt (designOf image) n .c
-  c-is f = f ∙ ap (λ (y : Node). y .c) same-command
-
   -- ---- the command that ran last
   pub last-inside : {l : ℕ} → l < length (designOf image .commands) → commands + 8 * l + 8 ≤ length image
-  last-inside below = rw (here .commands-begin) (counted-inside (here .executing .known) below)
+  last-inside below = rw (here .command .begins) (counted-inside (here .known) below)
 
   last-kind : {l k : ℕ} → l < length (designOf image .commands) → k ≡ nodeIn image commands l .kind → commandAt (designOf image) l .kind ≡ k
-  last-kind below p = sym (rw (here .commands-begin) at p ∙ ap (λ (y : Node). y .kind) (counted-in (here .executing .known) below))
+  last-kind below p = sym (rw (here .command .begins) at p ∙ ap (λ (y : Node). y .kind) (counted-in (here .known) below))
 
   -- ---- parts
   -- a part runs over an area of the same length
   lower : {m : ℕ} (after : List ℕ) → m < n → length after ≡ length before → Performing image commands expressions after m
   lower after l same =
-      let node = here .executing .node in
-      record { design = here .design; executing = record { known = here .executing .known; node = omega arith }; commands-begin = here .commands-begin; expressions-begin = here .expressions-begin; area = same ∙ here .area }
+      record {
+        design = here .design;
+        known = here .known;
+        command = lower-command (here .command) (here .known .commands) l;
+        expressions-begin = here .expressions-begin;
+        area = same ∙ here .area;
+      }
 
   evaluating : {e : ℕ} → e < length (designOf image .expressions) → Evaluating image expressions before e
   evaluating l =
-      let count = expressions-count (here .executing .known .describes) in
-      record { design = here .design; reading = record { known = here .executing .known; node = omega arith }; begins = here .expressions-begin; area = here .area }
-
-  sequence-a-below : {k a : ℕ} → k ≡ 2 → k ≡ nodeIn image commands n .kind → a ≡ nodeIn image commands n .a → a < n
-  unfolding commandKind
-  sequence-a-below q p f = rw (a-is f) (holds q p .1)
-
-  sequence-b-below : {k b : ℕ} → k ≡ 2 → k ≡ nodeIn image commands n .kind → b ≡ nodeIn image commands n .b → b < n
-  unfolding commandKind
-  sequence-b-below q p f = rw (b-is f) (holds q p .2)
-
-  branch-b-below : {k b : ℕ} → k ≡ 5 → k ≡ nodeIn image commands n .kind → b ≡ nodeIn image commands n .b → b < n
-  unfolding commandKind
-  branch-b-below q p f = rw (b-is f) (holds q p .2)
-
-  branch-c-below : {k c : ℕ} → k ≡ 5 → k ≡ nodeIn image commands n .kind → c ≡ nodeIn image commands n .c → c < n
-  unfolding commandKind
-  branch-c-below q p f = rw (c-is f) (holds q p .3)
-
-  pub sequence-a-falls : {k a t : ℕ} → k ≡ 2 → k ≡ nodeIn image commands n .kind → a ≡ nodeIn image commands n .a → n ≡ t → a < t
-  sequence-a-falls q p f m = rw m at (sequence-a-below q p f)
+      let count = expressions-count (here .known .describes) in
+      record {
+        design = here .design;
+        known = here .known;
+        expression = expression-at (here .known .describes) (here .known .expressions) (omega arith) (here .expressions-begin);
+        area = here .area;
+      }
 
   pub sequence-a-performing : {k a : ℕ} → k ≡ 2 → k ≡ nodeIn image commands n .kind → a ≡ nodeIn image commands n .a → Performing image commands expressions before a
-  sequence-a-performing q p f = lower before (sequence-a-below q p f) refl
-
-  pub sequence-b-falls : {k b t : ℕ} → k ≡ 2 → k ≡ nodeIn image commands n .kind → b ≡ nodeIn image commands n .b → n ≡ t → b < t
-  sequence-b-falls q p f m = rw m at (sequence-b-below q p f)
+  sequence-a-performing q p f = lower before (sequence-a-below (here .command) q p f) refl
 
   pub sequence-b-performing :
       {k b : ℕ} {after : List ℕ}
@@ -180,38 +138,26 @@ module _ {image : List ℕ} {commands expressions : ℕ} {before : List ℕ} {n 
       → b ≡ nodeIn image commands n .b
       → length after ≡ length before
       → Performing image commands expressions after b
-  sequence-b-performing {after = after} q p f same = lower after (sequence-b-below q p f) same
-
-  pub branch-b-falls : {k b t : ℕ} → k ≡ 5 → k ≡ nodeIn image commands n .kind → b ≡ nodeIn image commands n .b → n ≡ t → b < t
-  branch-b-falls q p f m = rw m at (branch-b-below q p f)
+  sequence-b-performing {after = after} q p f same = lower after (sequence-b-below (here .command) q p f) same
 
   pub branch-b-performing : {k b : ℕ} → k ≡ 5 → k ≡ nodeIn image commands n .kind → b ≡ nodeIn image commands n .b → Performing image commands expressions before b
-  branch-b-performing q p f = lower before (branch-b-below q p f) refl
-
-  pub branch-c-falls : {k c t : ℕ} → k ≡ 5 → k ≡ nodeIn image commands n .kind → c ≡ nodeIn image commands n .c → n ≡ t → c < t
-  branch-c-falls q p f m = rw m at (branch-c-below q p f)
+  branch-b-performing q p f = lower before (branch-b-below (here .command) q p f) refl
 
   pub branch-c-performing : {k c : ℕ} → k ≡ 5 → k ≡ nodeIn image commands n .kind → c ≡ nodeIn image commands n .c → Performing image commands expressions before c
-  branch-c-performing q p f = lower before (branch-c-below q p f) refl
+  branch-c-performing q p f = lower before (branch-c-below (here .command) q p f) refl
 
   pub assigned-evaluating : {k e : ℕ} → k ≡ 1 → k ≡ nodeIn image commands n .kind → e ≡ nodeIn image commands n .a → Evaluating image expressions before e
-  unfolding commandKind
-  assigned-evaluating q p f = evaluating (rw (a-is f) (holds q p .1))
+  assigned-evaluating q p f = evaluating (assigned-expression (here .command) q p f)
 
   pub condition-evaluating : {k e : ℕ} → k ≡ 5 → k ≡ nodeIn image commands n .kind → e ≡ nodeIn image commands n .a → Evaluating image expressions before e
-  unfolding commandKind
-  condition-evaluating q p f = evaluating (rw (a-is f) (holds q p .1))
+  condition-evaluating q p f = evaluating (condition (here .command) q p f)
 
   -- ---- what a command leaves
   area-is : length before ≡ 4 * length (designOf image .registers)
-  area-is = rw (registers-count (here .executing .known .describes)) at (here .area)
-
-  written-register : {k r : ℕ} → k ≡ 1 → k ≡ nodeIn image commands n .kind → r ≡ nodeIn image commands n .item → r < length (designOf image .registers)
-  unfolding commandKind
-  written-register q p f = rw (item-is f) (holds q p .0)
+  area-is = rw (registers-count (here .known .describes)) at (here .area)
 
   pub written-inside : {k r : ℕ} → k ≡ 1 → k ≡ nodeIn image commands n .kind → r ≡ nodeIn image commands n .item → 4 * r + 4 ≤ length before
-  written-inside q p f = let area = area-is in let below = written-register q p f in omega arith
+  written-inside q p f = let area = area-is in let below = assigned-register (here .command) q p f in omega arith
 
   pub executes-leaf :
       {k : ℕ}
@@ -220,7 +166,7 @@ module _ {image : List ℕ} {commands expressions : ℕ} {before : List ℕ} {n 
       → (k ≡ 2 → ⊥)
       → (k ≡ 5 → ⊥)
       → executedAs (valuesIn (designOf image) before) (cameTo (commandAt (designOf image) n)) ≡ exec (valuesIn (designOf image) before) (cmdOf (designOf image) n)
-  executes-leaf {k} p a b c = leaves (designOf image) n k (valuesIn (designOf image) before) (kind-is refl p) a b c (holds refl p)
+  executes-leaf {k} p a b c = leaves (designOf image) n k (valuesIn (designOf image) before) (command-kind-is (here .command) refl p) a b c (command-holds (here .command) refl p)
 
   pub executes-assign :
       {k r e v : ℕ} {after : List ℕ}
@@ -236,11 +182,11 @@ module _ {image : List ℕ} {commands expressions : ℕ} {before : List ℕ} {n 
   executes-assign {r = r} {e = e} {v = v} {after = after} q p wrote f value g small =
       let d = designOf image in
       let values = valuesIn d before in
-      let tree = cmd-assign d n (kind-of assigns q p refl) in
-      let same : v ≡ eval values (exprOf d (commandAt d n .a)) = value ∙ ap (λ (m : ℕ). eval values (exprOf d m)) (a-is g) in
-      let words = ap (valuesIn d) wrote ∙ words-put before (written-register q p f) area-is small in
-      let on = came-on (commandAt d n) 1 (kind-is q p) (λ h. omega arith) (λ h. omega arith) in
-      rw (tree, on) (ap (λ (ws : List ℕ). executedAs ws Continued) words ∙ rw (same, item-is f) refl)
+      let tree = cmd-assign d n (command-kind-of (here .command) assigns q p refl) in
+      let same : v ≡ eval values (exprOf d (commandAt d n .a)) = value ∙ ap (λ (m : ℕ). eval values (exprOf d m)) (a-is (here .command) g) in
+      let words = ap (valuesIn d) wrote ∙ words-put before (assigned-register (here .command) q p f) area-is small in
+      let on = came-on (commandAt d n) 1 (command-kind-is (here .command) q p) (λ h. omega arith) (λ h. omega arith) in
+      rw (tree, on) (ap (λ (ws : List ℕ). executedAs ws Continued) words ∙ rw (same, item-is (here .command) f) refl)
 
   pub executes-first :
       {k a l m : ℕ} {t : Bool} (after : List ℕ)
@@ -256,8 +202,8 @@ module _ {image : List ℕ} {commands expressions : ℕ} {before : List ℕ} {n 
   unfolding exec commandKind
   executes-first {l = l} {m = m} after q p first f taken test g below =
       let d = designOf image in
-      let tree = cmd-sequence d n (kind-of sequences q p refl) (holds q p .1) (holds q p .2) in
-      let part = rw (a-is f) at first in
+      let tree = cmd-sequence d n (command-kind-of (here .command) sequences q p refl) (command-holds (here .command) q p .1) (command-holds (here .command) q p .2) in
+      let part = rw (a-is (here .command) f) at first in
       let ended = came-ending (commandAt d l) m (last-kind below g) (sym test ∙ taken) .1 in
       rw (tree, sym part, ended) refl
 
@@ -277,10 +223,10 @@ module _ {image : List ℕ} {commands expressions : ℕ} {before : List ℕ} {n 
   unfolding exec commandKind
   executes-second {l = l} {m = m} between after q p f g first below h test left second =
       let d = designOf image in
-      let tree = cmd-sequence d n (kind-of sequences q p refl) (holds q p .1) (holds q p .2) in
-      let part = rw (a-is f) at first in
+      let tree = cmd-sequence d n (command-kind-of (here .command) sequences q p refl) (command-holds (here .command) q p .1) (command-holds (here .command) q p .2) in
+      let part = rw (a-is (here .command) f) at first in
       let on = came-no-ending (commandAt d l) m (last-kind below h) (sym test ∙ left) in
-      let then = rw (b-is g) at second in
+      let then = rw (b-is (here .command) g) at second in
       rw (tree, sym part, on) then
 
   pub executes-other :
@@ -296,9 +242,9 @@ module _ {image : List ℕ} {commands expressions : ℕ} {before : List ℕ} {n 
   unfolding exec commandKind
   executes-other after q p f g value none part =
       let d = designOf image in
-      let tree = cmd-branch d n (kind-of branches q p refl) (holds q p .2) (holds q p .3) in
-      let same = rw (a-is f) at value in
-      let then = rw (c-is g) at part in
+      let tree = cmd-branch d n (command-kind-of (here .command) branches q p refl) (command-holds (here .command) q p .2) (command-holds (here .command) q p .3) in
+      let same = rw (a-is (here .command) f) at value in
+      let then = rw (c-is (here .command) g) at part in
       rw (tree, sym same, none) then
 
   pub executes-taken :
@@ -314,9 +260,9 @@ module _ {image : List ℕ} {commands expressions : ℕ} {before : List ℕ} {n 
   unfolding exec commandKind
   executes-taken {v = v} after q p f g value some part =
       let d = designOf image in
-      let tree = cmd-branch d n (kind-of branches q p refl) (holds q p .2) (holds q p .3) in
-      let same = rw (a-is f) at value in
-      let then = rw (b-is g) at part in
+      let tree = cmd-branch d n (command-kind-of (here .command) branches q p refl) (command-holds (here .command) q p .2) (command-holds (here .command) q p .3) in
+      let same = rw (a-is (here .command) f) at value in
+      let then = rw (b-is (here .command) g) at part in
       rw (tree, sym same, ne-eqb v 0 some) then
 
 -- the area keeps its length
@@ -325,7 +271,14 @@ put-same-length before r v wrote = ap (λ (bytes : List ℕ). length bytes) wrot
 
 -- ---- a command of a design, and the answer by the command that ran last
 pub performing : {image : List ℕ} {x : Design} {registers : List ℕ} {n : ℕ} → Executing image x n → length registers ≡ 4 * x .registers → Performing image (x .«commands_at») (x .«expressions_at») registers n
-performing executing area = record { design = _; executing = executing; commands-begin = refl; expressions-begin = refl; area = area }
+performing executing area =
+    record {
+      design = _;
+      known = executing .known;
+      command = command-at (executing .known .describes) (executing .known .commands) (executing .node) refl;
+      expressions-begin = refl;
+      area = area;
+    }
 
 module _ {image : List ℕ} {x : Design} {n : ℕ} (executing : Executing image x n) where
   pub answer-inside : {l : ℕ} → l < length (designOf image .commands) → x .«commands_at» + 8 * l + 8 ≤ length image
@@ -352,6 +305,6 @@ module _ {image : List ℕ} {x : Design} {n : ℕ} (executing : Executing image 
     pub answers-on : (k ≡ 3 → ⊥) → (k ≡ 4 → ⊥) → executedAs (wordsOf (x .registers) after) Continued ≡ exec (wordsOf (x .registers) before) (cmdOf (designOf image) n)
     answers-on a b = answers (came-on (commandAt (designOf image) l) k (kind-known refl) a b)
 
-pub ruleset last-run-laws = (command-place-inside, last-inside, itself-last, written-inside, executes-leaf, executes-assign, executes-first, executes-second, executes-other, executes-taken, put-same-length)
+pub ruleset last-run-laws = (command-place-inside, command-below, last-inside, written-inside, executes-leaf, executes-assign, executes-first, executes-second, executes-other, executes-taken, put-same-length)
 
 pub ruleset execute-laws = (answers-fall, answers-goto, answers-on)

@@ -3,21 +3,20 @@
 use Prim.Native.Nat.{ℕ, zero, suc, _+_, _≤_, _<_}
 use mathlib.Core.Path.{_≡_, refl, sym, _∙_, ap}
 use mathlib.Core.Logic.{_⊎_, inl, inr, _≢_}
-use mathlib.Core.Bool.{Bool, true, false, _&&_, _||_, not, cond}
+use mathlib.Core.Bool.{Bool, true, false, _||_, not, cond}
 use mathlib.Core.List.{List}
 use native.Mathlib.Omega.{arith}
 use native.Mathlib.Numerals.{add-one}
 use native.Mathlib.Decide.{decLt, ℕ-discrete}
 use lib.Dec.{eqb}
 use lib.ListN.{length, getD, set, replicate, length-set, length-replicate, getD-replicate}
-use lib.Seq.{getD-set-same, getD-set-other, ext-getD}
+use lib.Seq.{getD-set-same, getD-set-other}
 use borrow.Author.Tests.{eq-eqb, ne-eqb}
-use Rattle.model.specs.Indices.{tabulate}
-use Rattle.model.specs.Image.{Design as Table, States, State, designOf}
+use Rattle.model.specs.Image.{Design as Table, designOf}
 use Rattle.model.specs.States.{parent, isChild, hasChild, defaultTarget, within}
 use Rattle.model.specs.Machine.{targetSound, cleared, goneTo}
 use Rattle.model.proofs.Laws.Booleans.{true-or-false, false-unless-true, cond-true, cond-false}
-use Rattle.model.proofs.Laws.Indices.{extend, nothing-below-zero, length-tabulate, getD-tabulate, recursively-step, onlyBelow, only-below-at}
+use Rattle.model.proofs.Laws.Indices.{extend, nothing-below-zero, only-below-at}
 use Rattle.model.proofs.Laws.States.{child-of, has-child, default-cases}
 use Rattle.model.proofs.Laws.Gotos.{within-step, within-self, within-below, length-cleared}
 use Rattle.model.proofs.Exact.Records.{state-iff}

@@ -11,7 +11,8 @@ use Rattle.model.specs.Kinds.{CommandKind, skips, assigns, sequences, falls, go
 use Rattle.model.specs.Values.{wordsOf}
 use Rattle.model.specs.Machine.{Executed}
 use Rattle.design.specs.declared.Design.{Design}
-use Rattle.bodies.specs.Flows.{FlowKnown, Reading}
+use Rattle.design.specs.NodesAt.{CommandAt, ExpressionAt}
+use Rattle.bodies.specs.Flows.{FlowKnown}
 
 pub record Executing (image : List ℕ) (x : Design) (n : ℕ) : Type 0 where
   pub known : FlowKnown image x
@@ -20,14 +21,14 @@ pub record Executing (image : List ℕ) (x : Design) (n : ℕ) : Type 0 where
 -- the same, where the recursion has the places of a design instead of the design: expression e is evaluated, and command n runs
 pub record Evaluating (image : List ℕ) (at : ℕ) (registers : List ℕ) (e : ℕ) : Type 0 where
   pub design : Design
-  pub reading : Reading image design e
-  pub begins : at ≡ design .«expressions_at»
+  pub known : FlowKnown image design
+  pub expression : ExpressionAt image design at e
   pub area : length registers ≡ 4 * design .registers
 
 pub record Performing (image : List ℕ) (commandsAt expressionsAt : ℕ) (registers : List ℕ) (n : ℕ) : Type 0 where
   pub design : Design
-  pub executing : Executing image design n
-  pub commands-begin : commandsAt ≡ design .«commands_at»
+  pub known : FlowKnown image design
+  pub command : CommandAt image design commandsAt n
   pub expressions-begin : expressionsAt ≡ design .«expressions_at»
   pub area : length registers ≡ 4 * design .registers
 

@@ -1,6 +1,7 @@
 use mathlib.Core.Logic.{⊎-elim}
 use borrow.Author.Needs.{needs}
-use Rattle.machine.proofs.EvaluateRules.{evaluate-laws, expression-place-inside, operand-a-falls, operand-a-evaluating, operand-b-falls, operand-b-evaluating}
+use Rattle.design.proofs.NodeRules.{expression-place-inside, operand-a-falls, operand-b-falls}
+use Rattle.machine.proofs.EvaluateRules.{evaluate-laws, operand-a-evaluating, operand-b-evaluating}
 use Prim.Native.Nat.{ℕ, _<_}
 use borrow.Fn.Kinds.{In}
 use borrow.Fn.PlainCycle.{Measures, is, falls, and}

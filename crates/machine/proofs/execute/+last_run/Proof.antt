@@ -1,5 +1,6 @@
 use borrow.Author.Needs.{needs}
-use Rattle.machine.proofs.ExecuteRules.{last-run-laws, executes-assign, executes-first, executes-second, command-place-inside, last-inside, itself-last, put-same-length, assigned-evaluating, condition-evaluating, sequence-a-falls, sequence-a-performing, sequence-b-falls, sequence-b-performing, branch-b-falls, branch-b-performing, branch-c-falls, branch-c-performing}
+use Rattle.design.proofs.NodeRules.{command-place-inside, sequence-a-falls, sequence-b-falls, branch-b-falls, branch-c-falls, command-below}
+use Rattle.machine.proofs.ExecuteRules.{last-run-laws, executes-assign, executes-first, executes-second, last-inside, put-same-length, assigned-evaluating, condition-evaluating, sequence-a-performing, sequence-b-performing, branch-b-performing, branch-c-performing}
 use Prim.Native.Nat.{ℕ, _<_}
 use borrow.Fn.Kinds.{In}
 use borrow.Fn.PlainCycle.{Measures, is, falls, and}
@@ -89,7 +90,7 @@ last-run-same-length-3 : (t : ℕ) → last-run-lts.Need-same-length-3 (last-run
 last-run-same-length-3 t c = search needs
 
 last-run-returns-3 : (t : ℕ) → last-run-lts.Need-returns-3 (last-run-calls t) (last-run-at t) last-run.Post
-last-run-returns-3 t c = (search (executes-assign, needs), search itself-last, search (put-same-length, needs))
+last-run-returns-3 t c = (search (executes-assign, needs), search command-below, search (put-same-length, needs))
 
 last-run-same-length-4 : (t : ℕ) → last-run-lts.Need-same-length-4 (last-run-calls t) (last-run-at t) last-run.Post
 last-run-same-length-4 t c = search needs
