@@ -15,7 +15,7 @@ use Rattle.model.specs.Parties.{Call, resets, writes, runs, perform, atEnd, Use
 use Rattle.model.proofs.Exact.{verdict-exact}
 use Rattle.model.proofs.Promises.{accepted-exactly, independent-parties}
 use Rattle.caisson.specs.declared.HostAnswer.{HostAnswer}
-use Rattle.caisson.specs.Told.{told, NumbersLeft, NumbersLeftRegisters, toldLeft, inNumbers, toldLeftRegisters, registersInNumbers}
+use Rattle.caisson.specs.Told.{told, NumbersLeft, NumbersLeftRegisters, toldLeft, inNumbers}
 use Rattle.caisson.specs.Hosted.{Made, AllMade}
 
 -- Demand 2, of check: a host is told 0, 0, 0 exactly when the image keeps the rules.

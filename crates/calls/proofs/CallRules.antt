@@ -2,7 +2,6 @@
 -- those of its values.
 use Prim.Native.Nat.{ℕ, _+_, _*_, _^_, _≤_, _<_}
 use mathlib.Core.Path.{_≡_, refl, sym, _∙_, ap}
-use mathlib.Core.Logic.{_⊎_, inl, inr}
 use mathlib.Core.Bool.{Bool, true, false, not, _&&_, _||_}
 use mathlib.Core.List.{List}
 use native.Mathlib.Omega.{arith}
@@ -26,7 +25,7 @@ use Rattle.model.specs.Verdict.{verdict, refusedAt, _before_}
 use Rattle.model.specs.Values.{wordsOf, bytesOf}
 use Rattle.model.specs.Machine.{Areas, resetAreas, targetSound, afterCycles}
 use Rattle.model.specs.Calls.{Lent, Left, LeftRegisters, lengthAnswer, targetsAnswer, registerAreaAnswer, isWritable, portAnswer, cyclesAnswer, areasOf, lentOf, resetAnswer, reset, runAnswer, run, writePortAnswer, writePort}
-use Rattle.model.proofs.Laws.Booleans.{not-true, not-false, and-first, and-second, and-false}
+use Rattle.model.proofs.Laws.Booleans.{not-true, not-false, and-first, and-second}
 use Rattle.model.proofs.Laws.Indices.{failing-none}
 use Rattle.model.proofs.Laws.States.{child-of}
 use Rattle.model.proofs.Laws.Words.{bytes-of-words}

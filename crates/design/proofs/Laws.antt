@@ -8,7 +8,7 @@ use native.Mathlib.Omega.{arith}
 use lib.ListN.{length, getD}
 use Rattle.model.specs.Limits.{directoryLength}
 use Rattle.model.specs.Image.{Section, Labels, Registers, States, Commands, Expressions, recordLength, fewest, most, offset, size, end, offsetsKept, sectionKept, directoryKept, designOf, registerAt, stateAt, commandAt, expressionAt}
-use Rattle.model.proofs.Laws.Images.{row-at, RegisterIs, register-is, StateIs, state-is, NodeIs, command-is, expression-is, label-count, register-count, state-count, command-count, expression-count}
+use Rattle.model.proofs.Laws.Images.{row-at, register-is, state-is, command-is, expression-is, label-count, register-count, state-count, command-count, expression-count}
 use Rattle.design.specs.declared.Design.{Design}
 use Rattle.design.specs.Records.{rowIn, registerIn, stateIn, nodeIn}
 use Rattle.design.specs.Describes.{Describes}

@@ -1,5 +1,5 @@
 -- The buffer for the input is long enough: an image of more bytes than all sections can have is refused by 1 at place 0, and so is its front.
-use Prim.Native.Nat.{ℕ, _-_, _≤_, _<_}
+use Prim.Native.Nat.{ℕ, _≤_, _<_}
 use mathlib.Core.Path.{_≡_, refl, sym, _∙_, ap}
 use mathlib.Core.Bool.{Bool, true, false}
 use mathlib.Core.List.{List}

@@ -1,7 +1,7 @@
 -- The listing of an accepted image is the header and, for each number below the count, the line behind those of so many cycles from reset.
 use Prim.Native.Nat.{ℕ, zero, suc, _+_, _≤_}
 use mathlib.Core.Path.{_≡_, refl, sym, _∙_, ap}
-use mathlib.Core.List.{List, [], _∷_, _++_, append-assoc, append-nil}
+use mathlib.Core.List.{List, [], _++_, append-assoc, append-nil}
 use native.Mathlib.Omega.{arith}
 use lib.ListN.{length, drop}
 use borrow.Author.Tests.{le-ltb}
@@ -9,7 +9,7 @@ use Rattle.model.specs.declared.Answer.the-variants.{Accepted}
 use Rattle.model.specs.Indices.{joinBelow}
 use Rattle.model.specs.Image.{Design as Table, designOf, word16At}
 use Rattle.model.specs.Verdict.{verdict}
-use Rattle.model.specs.Machine.{Areas, Cycle, resetAreas, cycle, cycles, afterLast, afterCycles}
+use Rattle.model.specs.Machine.{Areas, resetAreas, cycle, cycles, afterLast, afterCycles}
 use Rattle.model.specs.Listing.{header, line, lines, listed, listing}
 use Rattle.model.proofs.Laws.Cycles.{after-first}
 use Rattle.listing.specs.Lines.{cycleLine}

@@ -4,15 +4,15 @@ use Prim.Native.Nat.{ℕ, zero, suc, _+_, _*_}
 use mathlib.Core.Path.{_≡_, refl}
 use mathlib.Core.Bool.{false, true}
 use mathlib.Core.List.{List, [], _∷_, _++_, map}
-use lib.ListN.{length, replicate}
-use Rattle.model.specs.declared.Found.the-variants.{At, Nowhere}
+use lib.ListN.{replicate}
+use Rattle.model.specs.declared.Found.the-variants.{At}
 use Rattle.model.specs.Image.{designOf, directoryKept}
 use Rattle.model.specs.Kinds.{ExpressionKind, constants, unknownExpression, operates, add, subtract, bitwiseAnd, bitwiseOr, bitwiseXor, equal, less, expressionKind}
 use Rattle.model.specs.Trees.{exprOf}
 use Rattle.model.specs.Machine.{eval, resetAreas}
-use Rattle.model.specs.Parties.{Seen, Use, runs, writes, Remaining, aWrite, aCycle, givenUnseen, valuesSeen, walkSeen, view, remaining, start, history, remains, views, seenAtEnd}
+use Rattle.model.specs.Parties.{Seen, Use, runs, writes, aWrite, aCycle, givenUnseen, valuesSeen, walkSeen, view, remaining, start, history, remains, views, seenAtEnd}
 use Rattle.model.proofs.Opened.{checks, everything, refused, accepted, judged, faultOfRows, anyLent}
-use Rattle.model.proofs.Designs.{assemble, fromSections, word16, oneState, chain, node, registerRecord, stateRecord, skips, assigns, sequences, falls, goesTo, branches, constant, reads, adds, lease, joined, rows}
+use Rattle.model.proofs.Designs.{assemble, fromSections, word16, oneState, chain, node, registerRecord, stateRecord, skips, assigns, sequences, falls, goesTo, branches, constant, reads, adds, lease}
 
 shows-rows : faultOfRows (1 ∷ 3 ∷ []) ≡ At 0
 shows-rows = unfold checks in refl

@@ -13,7 +13,6 @@ use Rattle.model.specs.States.{parent}
 use Rattle.model.specs.Trees.{bodyOf}
 use Rattle.model.specs.Rules.{DesignKeeps}
 use Rattle.model.specs.Machine.{Areas, Cycle, afterBody, runFrom}
-use Rattle.model.proofs.Laws.States.{ChildOf}
 use Rattle.model.proofs.Independence.Relation.{Good}
 use Rattle.model.proofs.Independence.Endings.{holdsFall}
 use Rattle.model.proofs.Independence.Bounded.{BoundedCmd}

@@ -1,11 +1,9 @@
 -- Commands apart from their node numbers. A command runs by what it says, so two that differ only in node numbers run alike.
 use Prim.Native.Nat.{ℕ}
 use mathlib.Core.Path.{_≡_, refl, sym, _∙_, ap}
-use mathlib.Core.Bool.{Bool, cond, _||_}
 use mathlib.Core.List.{List}
-use lib.Dec.{eqb}
 use Rattle.model.specs.Trees.{Cmd, skip, assign, sequence, fall, goto, branch}
-use Rattle.model.specs.Machine.{eval, Executed, unlessTransferred, exec}
+use Rattle.model.specs.Machine.{Executed, unlessTransferred, exec}
 use Rattle.model.proofs.Independence.Endings.{holdsFall}
 
 -- the command with 0 for every node number

@@ -1,13 +1,13 @@
 -- Laws of the image: where the bytes of each record stand.
-use Prim.Native.Nat.{ℕ, zero, suc, _+_, _*_, _/_, _%_, _≤_, _<_}
+use Prim.Native.Nat.{ℕ, zero, suc, _+_, _*_, _<_}
 use mathlib.Core.Path.{_≡_, refl, sym, _∙_, ap, ap₂}
-use mathlib.Core.List.{List, [], _∷_}
+use mathlib.Core.List.{List}
 use native.Mathlib.Omega.{arith}
 use native.Mathlib.Nat.{add-zero, add-assoc}
 use lib.ListN.{length, getD, drop}
 use lib.Seq.{getD-drop, drop-drop}
 use Rattle.model.specs.Limits.{labelLength, registerLength, stateLength, nodeLength}
-use Rattle.model.specs.Image.{Section, Labels, Registers, States, Commands, Expressions, byteAt, word16At, word32At, recordLength, offset, size, count, end, recordsOf, sectionOf, Register, State, Node, rowOf, registerOf, stateOf, nodeOf, Design, designOf, registerAt, stateAt, commandAt, expressionAt, noNode}
+use Rattle.model.specs.Image.{Section, Labels, Registers, States, Commands, Expressions, byteAt, word16At, word32At, recordLength, offset, count, recordsOf, sectionOf, Register, State, Node, rowOf, registerOf, stateOf, nodeOf, designOf, registerAt, stateAt, commandAt, expressionAt, noNode}
 use Rattle.model.proofs.Laws.Words.{length-recordsOf}
 
 -- ---- records

@@ -1,5 +1,5 @@
 -- Laws of a pass that looks for the lowest index at which a rule fails: what is known before an index, and what the pass answers.
-use Prim.Native.Nat.{ℕ, zero, suc, _+_, _≤_, _<_}
+use Prim.Native.Nat.{ℕ, _+_, _≤_, _<_}
 use mathlib.Core.Path.{_≡_, refl, sym, _∙_, ap}
 use mathlib.Core.Bool.{Bool, true, false, not}
 use native.Mathlib.Omega.{arith}
@@ -8,7 +8,7 @@ use Rattle.model.specs.declared.Found.{Found}
 use Rattle.model.specs.declared.Found.the-variants.{At, Nowhere}
 use Rattle.model.specs.Indices.{lowestFailing, allBelow, someBelow}
 use Rattle.model.proofs.Laws.Booleans.{not-true, not-false, true-or-false, false-unless-true}
-use Rattle.model.proofs.Laws.Indices.{failing-none, failing-nowhere, nothing-below-zero, extend, lowest-at, LowestIs, all-at, all-make, some-at, some-make}
+use Rattle.model.proofs.Laws.Indices.{failing-none, failing-nowhere, nothing-below-zero, extend, lowest-at, all-at, all-make, some-at, some-make}
 
 same-index : (i j : ℕ) → (i < j → ⊥) → (j < i → ⊥) → i ≡ j
 same-index i j h k = omega arith

@@ -82,10 +82,10 @@ flow-reads-requires : (t : ℕ) → flow-lts.Need-reads-requires (flow-calls t) 
 flow-reads-requires t c κs = search (flow-laws, needs)
 
 flow-flow-requires-3 : (t : ℕ) → flow-lts.Need-flow-requires-3 (flow-calls t) (flow-at t) flow.Post
-flow-flow-requires-3 t c κs = (search branch-b-falls, (search (branch-b-flowing (c .before .before .before .before .before .before .before .pre .1 .0)), search (mask-small, needs)))
+flow-flow-requires-3 t c κs = (search branch-b-falls, (search branch-b-flowing, search (mask-small, needs)))
 
 flow-flow-requires-4 : (t : ℕ) → flow-lts.Need-flow-requires-4 (flow-calls t) (flow-at t) flow.Post
-flow-flow-requires-4 t c κs = (search branch-c-falls, (search (branch-c-flowing (c .before .before .before .before .before .before .before .before .pre .1 .0)), search (mask-small, needs)))
+flow-flow-requires-4 t c κs = (search branch-c-falls, (search branch-c-flowing, search (mask-small, needs)))
 
 flow-lower-requires-2 : (t : ℕ) → flow-lts.Need-lower-requires-2 (flow-calls t) (flow-at t) flow.Post
 flow-lower-requires-2 t c κs = search (flow-laws, needs)
