@@ -6,6 +6,7 @@ use crate::places::NOWHERE;
 use crate::places::charged_unless;
 use crate::places::lower;
 use design::Design;
+use design::rows::bit;
 use model::Answer;
 use model::Refusal;
 ghost use Prim.Native.Nat.{ℕ, _/_, _%_, _^_, _<_};
@@ -18,14 +19,6 @@ ghost use Rattle.model.specs.Trees.{exprOf, cmdOf};
 ghost use Rattle.model.specs.Flow.{labelsRead, flowFaults, stateFlowFaults, nearest, flowAnswer};
 ghost use Rattle.design.specs.Describes.{Describes};
 ghost use Rattle.bodies.specs.Flows.{MaskOf, FlowKnown, Gathering, Assigning, Flowing, Labelled, Naming, answerAmong};
-
-// Bit l of a mask.
-fn bit(mask: usize, l: usize) -> bool
-    requires { ⌜ l < 64 ⌝ }
-    ensures { λ r. ⌜ r ≡ eqb (mask / 2 ^ l % 2) 1 ⌝ }
-{
-    (mask >> l) % 2 == 1
-}
 
 // The mask of register r, where the registers begin at a place: its label's row.
 fn register_mask(image: &[u8], at: usize, r: usize) -> usize

@@ -1,6 +1,7 @@
 // The design table in bytes: its limits, its directory, and one accessor for each field. No code of
 // another crate knows where a byte stands.
 pub mod reset;
+pub mod rows;
 pub mod words;
 
 ghost use Prim.Native.Nat.{_+_, _*_, _/_, _%_, _<_, _≤_};
@@ -33,7 +34,7 @@ pub struct Design {
 }
 
 // A byte as an index.
-fn wide(b: u8) -> usize
+pub fn wide(b: u8) -> usize
     ensures { λ r. ⌜ (r ≡ b) × (r < 256) ⌝ }
 {
     b as usize

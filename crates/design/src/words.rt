@@ -7,7 +7,7 @@ ghost use Rattle.model.specs.Image.{word32At};
 ghost use Rattle.design.specs.Words.{putWord};
 
 // A byte as a value.
-fn wide(b: u8) -> u32
+pub fn wide(b: u8) -> u32
     ensures { λ r. ⌜ (r ≡ b) × (r < 256) ⌝ }
 {
     b as u32

@@ -1,6 +1,7 @@
 // The fields of a line, each with the byte that ends it. Within a field one space parts the items.
 use crate::decimal::put_decimal;
 use crate::texts::put_byte;
+use design::words::wide;
 use design::words::word;
 ghost use Prim.Native.Nat.{_+_, _*_, _<_, _≤_};
 ghost use mathlib.Core.Path.{_≡_};
@@ -9,13 +10,6 @@ ghost use lib.ListN.{length, take};
 ghost use Rattle.model.specs.Values.{wordsOf};
 ghost use Rattle.model.specs.Listing.{decimal, spaced};
 ghost use Rattle.listing.specs.Texts.{Put, parted};
-
-// A byte as a number.
-fn wide(b: u8) -> u32
-    ensures { λ r. ⌜ r ≡ b ⌝ }
-{
-    b as u32
-}
 
 // Puts item i of a field.
 fn put_item(out: &mut [u8], at: usize, i: usize, n: u32) -> usize

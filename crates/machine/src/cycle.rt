@@ -1,8 +1,8 @@
 // A cycle along the targets, and runs of cycles.
 use crate::execute::execute;
 use crate::targets::go_to;
-use crate::targets::wide;
 use design::Design;
+use design::wide;
 use model::Ending;
 use model::Outcome;
 ghost use Prim.Native.Nat.{_*_, _<_, _≤_};

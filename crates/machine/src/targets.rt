@@ -1,6 +1,7 @@
 // The target area: one byte for each state.
 use bodies::shape::is_child;
 use design::Design;
+use design::wide;
 use model::Found;
 ghost use Prim.Native.Nat.{_<_};
 ghost use mathlib.Core.Path.{_≡_};
@@ -14,13 +15,6 @@ ghost use Rattle.model.specs.Machine.{targetSound, cleared, goneTo};
 ghost use Rattle.design.specs.Describes.{Describes};
 ghost use Rattle.design.specs.Kept.{StatesKept};
 ghost use Rattle.design.specs.Resets.{Defaults};
-
-// A byte as a state's number.
-pub fn wide(b: u8) -> usize
-    ensures { λ r. ⌜ r ≡ b ⌝ }
-{
-    b as usize
-}
 
 // Number q is a state that is a child of s.
 fn names_child(image: &[u8], design: Design, s: usize, q: usize) -> bool

@@ -57,8 +57,8 @@ some-same p q zero h = refl
 some-same p q (suc n) h = ap₂ (λ (c d : Bool). c || d) (some-same p q n (λ k l. h k (omega arith))) (h n (omega arith))
 
 module _ {image : List ℕ} {x : Design} (d : Describes image x) where
-  -- a label is below 16, a row can be shifted by the count of labels, and there is a label
-  pub label-small : {j : ℕ} → j < x .labels → j < 16
+  -- a row can be shifted by a label and by the count of labels, and there is a label
+  pub label-small : {j : ℕ} → j < x .labels → j < 64
   label-small l = omega (arith, d .labels, d .directory .sections Labels)
 
   pub labels-small : x .labels < 64

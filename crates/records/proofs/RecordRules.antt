@@ -100,7 +100,7 @@ module _ {image : List ℕ} {x : Design} (d : Describes image x) where
         → l ≡ stateIn image (x .«states_at») p .label → l < x .labels
     parent-labelled h n p q = state-labelled (parent-state h n p) q
 
-    pub state-label-small : {s l : ℕ} → s < x .states → l ≡ stateIn image (x .«states_at») s .label → l < 16
+    pub state-label-small : {s l : ℕ} → s < x .states → l ≡ stateIn image (x .«states_at») s .label → l < 64
     state-label-small h p = label-small d (state-labelled h p)
 
     pub child-label-rule : {s p f t : ℕ} {b : Bool} → s < x .states → (s ≡ 0 → ⊥) → p ≡ stateIn image (x .«states_at») s .parent

@@ -1,6 +1,7 @@
 // Refusal 2: the label rows are a lattice with label 0 least. One function for each rule of the
 // meaning, over tests of one bit and of whole rows as masks.
 use design::Design;
+use design::rows::bit;
 use model::Found;
 ghost use Prim.Native.Nat.{_-_, _/_, _%_, _^_, _<_};
 ghost use mathlib.Core.Path.{_≡_};
@@ -11,14 +12,6 @@ ghost use Rattle.model.specs.Image.{designOf};
 ghost use Rattle.model.specs.Lattice.{flowsTo, rowInside, antisymmetric, transitive, leastFull, joined, labelKept};
 ghost use Rattle.design.specs.Describes.{Describes};
 ghost use Rattle.records.specs.LabelTests.{rowMask, distinct, carries, leastIn, joins};
-
-// Bit j of a row.
-pub fn bit(row: usize, j: usize) -> bool
-    requires { ⌜ j < 16 ⌝ }
-    ensures { λ x. ⌜ x ≡ eqb (row / 2 ^ j % 2) 1 ⌝ }
-{
-    (row >> j) % 2 == 1
-}
 
 // The row of label i.
 fn row(image: &[u8], design: Design, i: usize) -> usize
@@ -46,7 +39,7 @@ fn mask(image: &[u8], design: Design, i: usize) -> usize
 
 // Label i flows to label j.
 pub fn flows(image: &[u8], design: Design, i: usize, j: usize) -> bool
-    requires { ⌜ Describes (now image) design × (i < design .labels) × (j < 16) ⌝ }
+    requires { ⌜ Describes (now image) design × (i < design .labels) × (j < 64) ⌝ }
     ensures { λ x. ⌜ x ≡ flowsTo (designOf (now (image .entry)) .rows) i j ⌝ }
 {
     bit(row(image, design, i), j)

@@ -8,7 +8,7 @@ use Rattle.bodies.proofs.flow.assign_flow.Lts as lts
 use Rattle.design.proofs.Design.item.Reads as item-reads
 use Rattle.design.proofs.Design.part_a.Reads as part-a-reads
 use Rattle.design.proofs.Design.register_label.Reads as register-label-reads
-use Rattle.bodies.proofs.flow.bit.Reads as bit-reads
+use Rattle.design.proofs.rows.bit.Reads as bit-reads
 use Rattle.bodies.proofs.flow.reads.Reads as reads-reads
 use Rattle.bodies.proofs.places.charged_unless.Reads as charged-unless-reads
 

@@ -5,7 +5,7 @@ use Rattle.bodies.proofs.flow.flows_to_state.Tie as tie
 use Rattle.bodies.proofs.flow.flows_to_state.Reads as reads
 use Rattle.bodies.proofs.flow.flows_to_state.Lts as lts
 use Rattle.design.proofs.Design.state_label.Reads as state-label-reads
-use Rattle.bodies.proofs.flow.bit.Reads as bit-reads
+use Rattle.design.proofs.rows.bit.Reads as bit-reads
 
 state-label-requires : tie.Need-state-label-requires
 state-label-requires c κs = search (state-place-inside, needs)

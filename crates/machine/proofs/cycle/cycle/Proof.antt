@@ -6,7 +6,7 @@ use Rattle.machine.proofs.cycle.cycle.Tie as tie
 use Rattle.machine.proofs.cycle.cycle.Reads as reads
 use Rattle.machine.proofs.cycle.cycle.Lts as lts
 use Rattle.machine.proofs.cycle.body.Reads as body-reads
-use Rattle.machine.proofs.targets.wide.Reads as wide-reads
+use Rattle.design.proofs.wide.Reads as wide-reads
 use Rattle.machine.proofs.targets.go_to.Reads as go-to-reads
 
 abbrev Inv-loop : tie.InvT-loop

@@ -6,7 +6,7 @@ use Rattle.machine.proofs.targets.clear_family.Tie as tie
 use Rattle.machine.proofs.targets.clear_family.Reads as reads
 use Rattle.machine.proofs.targets.clear_family.Lts as lts
 use Rattle.machine.proofs.targets.clear.Reads as clear-reads
-use Rattle.machine.proofs.targets.wide.Reads as wide-reads
+use Rattle.design.proofs.wide.Reads as wide-reads
 
 shared-slice-read-wide : tie.Need-shared-slice-read-wide
 shared-slice-read-wide c = search (entry-inside, needs)

@@ -5,7 +5,7 @@ use Rattle.machine.proofs.targets.sound.Tie as tie
 use Rattle.machine.proofs.targets.sound.Reads as reads
 use Rattle.machine.proofs.targets.sound.Lts as lts
 use Rattle.machine.proofs.targets.names_child.Reads as names-child-reads
-use Rattle.machine.proofs.targets.wide.Reads as wide-reads
+use Rattle.design.proofs.wide.Reads as wide-reads
 
 shared-slice-read-wide : tie.Need-shared-slice-read-wide
 shared-slice-read-wide c = search (entry-inside, needs)
