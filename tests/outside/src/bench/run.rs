@@ -19,12 +19,12 @@ pub fn print() {
     println!("runs of 1,000,000 cycles: medians");
     println!("design        library cycles/s  reference cycles/s  library/reference time");
     for (name, table, rounds) in [
-        ("lease", &lease(), 5),
-        ("two groups", &two_groups(), 5),
+        ("lease", lease(), 5),
+        ("two groups", two_groups(), 5),
         // Seconds each.
-        ("largest", &largest, 1),
+        ("largest", largest.clone(), 1),
     ] {
-        let (library, reference) = time(table, LONGEST, rounds);
+        let (library, reference) = time(&[table], LONGEST, rounds);
         println!(
             "{name:<12} {:>17.0} {:>19.0} {:>23.2}",
             f64::from(LONGEST) / library,
@@ -34,8 +34,13 @@ pub fn print() {
     }
     println!("runs of one cycle, image checks included: medians");
     println!("design          library µs  reference µs  library/reference");
-    for (name, table) in [("smallest", &smallest()), ("largest", &largest)] {
-        let (library, reference) = time(table, 1, 31);
+    for (name, tables) in [
+        ("smallest", vec![smallest()]),
+        ("largest", vec![largest]),
+        // A box that does other work between two cycles meets its design anew each time.
+        ("16 largest", sixteen_largest()),
+    ] {
+        let (library, reference) = time(&tables, 1, 31);
         println!(
             "{name:<12} {:>13.2} {:>13.2} {:>18.2}",
             library * 1e6,
@@ -45,12 +50,18 @@ pub fn print() {
     }
 }
 
-/// The medians of the library and of the reference, in seconds for each run.
-fn time(table: &Table, cycles: u32, rounds: usize) -> (f64, f64) {
-    let image = accepted(table);
+/// Designs of the largest size, to be taken in turns.
+fn sixteen_largest() -> Vec<Table> {
+    (1..=16)
+        .map(|seed| design(&mut Random::new(seed), Size::LARGEST))
+        .collect()
+}
+
+/// The medians of the library and of the reference, in seconds for each run, over designs in turns.
+fn time(tables: &[Table], cycles: u32, rounds: usize) -> (f64, f64) {
     let mut calls = [
-        running(table, &image, cycles, library::run),
-        running(table, &image, cycles, reference::run),
+        running(tables, cycles, library::run),
+        running(tables, cycles, reference::run),
     ];
     let times = in_turns(rounds, &mut calls);
     (times[0], times[1])
@@ -58,13 +69,35 @@ fn time(table: &Table, cycles: u32, rounds: usize) -> (f64, f64) {
 
 type Run = fn(&[u8], &mut [u8], &mut [u8], u32) -> Answer;
 
-/// Runs on and on from a reset.
-fn running<'a>(table: &Table, image: &'a [u8], cycles: u32, run: Run) -> Call<'a> {
-    let mut registers = vec![0; 4 * table.registers.len()];
-    let mut targets = vec![0; table.states.len()];
-    reference::reset(image, &mut registers, &mut targets);
+/// A design and its areas, as a host holds them.
+struct Site {
+    image: Vec<u8>,
+    registers: Vec<u8>,
+    targets: Vec<u8>,
+}
+
+impl Site {
+    fn reset(table: &Table) -> Self {
+        let image = accepted(table);
+        let mut registers = vec![0; 4 * table.registers.len()];
+        let mut targets = vec![0; table.states.len()];
+        reference::reset(&image, &mut registers, &mut targets);
+        Self {
+            image,
+            registers,
+            targets,
+        }
+    }
+}
+
+/// Runs one design after the other, on and on from a reset.
+fn running<'a>(tables: &[Table], cycles: u32, run: Run) -> Call<'a> {
+    let mut sites: Vec<Site> = tables.iter().map(Site::reset).collect();
+    let mut next = 0;
     Box::new(move || {
-        let answer = run(image, &mut registers, &mut targets, cycles);
+        let at = &mut sites[next];
+        let answer = run(&at.image, &mut at.registers, &mut at.targets, cycles);
         assert_eq!(answer, Answer::accepted(cycles as usize));
+        next = (next + 1) % sites.len();
     })
 }
