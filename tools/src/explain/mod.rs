@@ -1,8 +1,10 @@
 //! A verdict of the library in words: the rule, the place, and what stands there.
 
 mod flow;
+mod lattice;
 mod place;
 mod rules;
+mod shape;
 mod uses;
 
 use crate::library::Answer;

@@ -1,6 +1,6 @@
 //! What stands at the place of a refusal, in source form.
 
-use super::{flow, uses};
+use super::{flow, lattice, shape, uses};
 use crate::print::body::{self, Reader};
 use crate::print::{layout, records};
 use crate::table::limits::EXPRESSION_PLACE;
@@ -21,7 +21,7 @@ pub fn describe(image: &[u8], number: u32, place: usize) -> String {
     }
 }
 
-/// With what a reader would look for next: the uses, or the labels that do not flow.
+/// With what a reader would look for next: the uses, or why the rule fails.
 fn node(table: &Table, number: u32, place: usize) -> String {
     if place >= EXPRESSION_PLACE {
         let place = place - EXPRESSION_PLACE;
@@ -34,6 +34,7 @@ fn node(table: &Table, number: u32, place: usize) -> String {
     let text = command(table, place);
     match number {
         6 => format!("{text}\n{}", uses::of_command(table, place as u16)),
+        8 => format!("{text}\nBecause:\n{}", shape::reasons(table, place)),
         10..=12 => format!("{text}\nBecause:\n{}", flow::reasons(table, place)),
         _ => text,
     }
@@ -57,7 +58,8 @@ fn label(table: &Table, label: usize) -> String {
     let text = records::label(table, label);
     let all = (0..table.rows.len()).map(|other| records::label(table, other) + "\n");
     let all = indented(&all.collect::<String>());
-    format!("Label {label}, row {row}:\n    {text}\n\nAll labels:\n{all}\n")
+    let why = lattice::reasons(table, label);
+    format!("Label {label}, row {row}:\n    {text}\n\nAll labels:\n{all}\n\nBecause:\n{why}")
 }
 
 fn register(table: &Table, register: usize) -> String {

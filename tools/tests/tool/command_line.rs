@@ -79,6 +79,11 @@ fn explain_shows_the_place() {
         ("cut_short", 1, "    20,4 24,12 36,20 56,104 160,48\n"),
         ("no_lattice", 2, "Label 1, row 2:\n    label l1\n"),
         (
+            "no_lattice",
+            2,
+            "Because:\n    l1 and l2 have no least common label above them\n",
+        ),
+        (
             "register_kind",
             3,
             "Register 0:\n    [kind 2] r0 : l0 = 3\n",
@@ -108,6 +113,7 @@ fn explain_shows_the_place() {
             8,
             "    state s2 in s0 : l0 { r0 := r0 + 1 }\n",
         ),
+        ("no_transfer", 8, "Because:\n    state s2 does not transfer"),
         (
             "low_child",
             9,

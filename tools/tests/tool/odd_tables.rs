@@ -135,3 +135,67 @@ fn uses_are_explained() {
     let expected = "It is in the body of no state.\n\nUsed by: nothing\n";
     assert!(text.ends_with(expected), "{text}");
 }
+
+/// Refusal 8 says which rule of shape the command breaks.
+#[test]
+fn shapes_are_explained() {
+    for (source, reason) in [
+        (
+            "state root : l0 { fall } state a in root : l0 { fall }",
+            "state s1 has no child",
+        ),
+        (
+            "state root : l0 { goto root }",
+            "s0 is the root, which has no sibling",
+        ),
+        (
+            "state root : l0 { fall } state a in root : l0 { goto root }",
+            "s0 is the root, which is nobody's sibling",
+        ),
+        (
+            "state root : l0 { fall } state a in root : l0 { fall } state b in a : l0 { goto a }",
+            "s1 is no sibling of s2: its parent is s0, and that of s2 is s1",
+        ),
+        (
+            "state root : l0 { fall } state a in root : l0 { if 1 then goto a else skip }",
+            "one branch transfers, and the other does not",
+        ),
+        (
+            "state root : l0 { fall } state a in root : l0 { goto a; goto a }",
+            "the first part transfers, so the second would never run",
+        ),
+    ] {
+        let image = assemble(&format!("label l0\n{source}")).unwrap();
+        let answer = library::check(&image);
+        assert_eq!(answer.number, 8, "{source}");
+        let text = explain::explain(&image, answer);
+        assert!(text.contains(&format!("    {reason}\n")), "{text}");
+    }
+}
+
+/// Refusal 2 says which rule of a lattice the rows break.
+#[test]
+fn lattices_are_explained() {
+    for (rows, reason) in [
+        (vec![3, 6], "bit 2 is set, and there are 2 labels"),
+        (vec![2, 2], "l0 does not flow to itself"),
+        (vec![3, 3], "l0 and l1 flow to each other"),
+        (vec![1, 2], "l0 is label 0 and does not flow to l1"),
+        (
+            vec![15, 6, 12, 8],
+            "l1 flows to l2, which flows to l3, and l1 does not",
+        ),
+        (
+            vec![7, 2, 4],
+            "l1 and l2 have no least common label above them",
+        ),
+    ] {
+        let mut table = lease();
+        table.rows = rows;
+        let image = table.image();
+        let answer = library::check(&image);
+        assert_eq!(answer.number, 2, "{:?}", table.rows);
+        let text = explain::explain(&image, answer);
+        assert!(text.contains(&format!("    {reason}\n")), "{text}");
+    }
+}

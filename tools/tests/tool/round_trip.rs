@@ -129,8 +129,9 @@ fn designs_refused_from_7_on_come_back_apart_from_node_numbers() {
     }
 }
 
-/// Every table that can be cut is printed, and every answer explained. If the text assembles, it
-/// prints as the same text but for the comments.
+/// Every table that can be cut is printed, and every answer explained, with a reason where the rule
+/// is about more than one record. If the text assembles, it prints as the same text but for the
+/// comments.
 #[test]
 fn faults_are_printed_and_explained() {
     let mut images: Vec<Vec<u8>> = examples::all().into_iter().map(|one| one.image).collect();
@@ -150,6 +151,13 @@ fn faults_are_printed_and_explained() {
         let answer = library::check(&image);
         let explained = explain::explain(&image, answer);
         assert_eq!(explained == "accepted\n", answer.number == 0);
+        if let 2 | 8 | 10..=12 = answer.number {
+            let reasons = explained.split_once("\nBecause:\n").map(|(_, last)| last);
+            assert!(
+                reasons.is_some_and(|reasons| !reasons.is_empty()),
+                "{explained}"
+            );
+        }
         let Ok(table) = read(&image) else {
             assert_eq!(answer.number, 1);
             continue;
