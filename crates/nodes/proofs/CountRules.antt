@@ -13,7 +13,7 @@ use borrow.Author.Tests.{eq-eqb, ne-eqb, eqb-true, eqb-false}
 use Rattle.model.specs.declared.Found.{Found}
 use Rattle.model.specs.Indices.{lowest, lowestFailing, occurrences, joinBelow}
 use Rattle.model.proofs.Laws.Booleans.{decide}
-use Rattle.nodes.specs.Tables.{countUse, countUses}
+use Rattle.nodes.specs.Tables.{countUse, countUses, OnceWhere}
 
 -- ---- lists of uses
 occurrences-same : (k u : ℕ) (us : List ℕ) → u ≡ k → occurrences k (u ∷ us) ≡ suc (occurrences k us)
@@ -25,7 +25,7 @@ unfolding occurrences
 occurrences-other k u us e = rw (occurrences, ne-eqb u k e)
 
 -- ---- the table
-count-append : (t us vs : List ℕ) → countUses t (us ++ vs) ≡ countUses (countUses t us) vs
+pub count-append : (t us vs : List ℕ) → countUses t (us ++ vs) ≡ countUses (countUses t us) vs
 unfolding countUses
 count-append t [] vs = refl
 count-append t (u ∷ us) vs = count-append (countUse t u) us vs
@@ -113,28 +113,24 @@ module _ {t₀ : List ℕ} {uses : ℕ → List ℕ} where
   counted-all {t} {i} {m} {n} p l h q = let e : i ≡ n = omega arith in rw (← e) (p .is)
 
 -- ---- the pass over the table
-failing-same : (f g : ℕ → Bool) (n : ℕ) → ((k : ℕ) → k < n → f k ≡ g k) → lowestFailing f n ≡ lowestFailing g n
+pub failing-same : (f g : ℕ → Bool) (n : ℕ) → ((k : ℕ) → k < n → f k ≡ g k) → lowestFailing f n ≡ lowestFailing g n
 unfolding lowestFailing lowest
 failing-same f g zero h = refl
 failing-same f g (suc n) h = rw (failing-same f g n (λ k l. h k (omega arith)), h n (omega arith))
 
--- a table that counted two lists of uses from nothing finds the lowest node that is not used once
-pub counted-find :
-    (limit n : ℕ) (us vs : List ℕ) {t u : List ℕ} {f : Found}
-    → t ≡ countUses (replicate limit 0) us
-    → u ≡ countUses t vs
-    → n ≤ limit
-    → f ≡ lowestFailing (λ k. eqb (getD u k 0) 1) n
-    → f ≡ lowestFailing (λ k. eqb (occurrences k (us ++ vs)) 1) n
-counted-find limit n us vs {t} {u} p q l e =
-    let all : u ≡ countUses (replicate limit 0) (us ++ vs) = q ∙ ap (λ (v : List ℕ). countUses v vs) p ∙ sym (count-append (replicate limit 0) us vs) in
-    e ∙ failing-same (λ k. eqb (getD u k 0) 1) (λ k. eqb (occurrences k (us ++ vs)) 1) n (λ k h. rw all (used-once limit (us ++ vs) k (omega arith)))
+pub once-found : {rule : ℕ → Bool} {table : List ℕ} {m n : ℕ} {f : Found} → OnceWhere rule table m → m ≡ n → f ≡ lowestFailing (λ k. eqb (getD table k 0) 1) m → f ≡ lowestFailing rule n
+once-found {rule} {table} {m} so e h = h ∙ failing-same (λ k. eqb (getD table k 0) 1) rule m (so .entry) ∙ ap (lowestFailing rule) e
 
-pub counted-length : {limit : ℕ} (us vs : List ℕ) {t u : List ℕ} → t ≡ countUses (replicate limit 0) us → u ≡ countUses t vs → limit ≡ length u
-counted-length {limit} us vs {t} {u} p q =
+-- a table that counted from nothing tells which nodes are used once
+pub counted-length : {limit : ℕ} (us : List ℕ) {t : List ℕ} → t ≡ countUses (replicate limit 0) us → limit ≡ length t
+counted-length {limit} us p =
     let long = length-replicate {A = ℕ} limit 0 in
-    let first = length-counts (replicate limit 0) us in
-    let second = length-counts t vs in
-    omega (arith, ap length p, ap length q)
+    let same = length-counts (replicate limit 0) us in
+    omega (arith, ap length p)
+
+pub counted-once : (limit : ℕ) (us : List ℕ) {n : ℕ} {t : List ℕ} → t ≡ countUses (replicate limit 0) us → n ≤ limit → OnceWhere (λ k. eqb (occurrences k us) 1) t n
+counted-once limit us {n} {t} p l =
+    let same : limit ≡ length t = counted-length us p in
+    record { long = omega arith; entry = λ k h. rw p (used-once limit us k (omega arith)) }
 
 pub ruleset count-laws = (count-one, counted-none, counted-more, counted-all)

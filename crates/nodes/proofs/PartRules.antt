@@ -1,17 +1,18 @@
 -- What a pass knows of a node whose record was judged: its kind by the kind byte, and that its parts are nodes of lower numbers.
 use Prim.Native.Nat.{ℕ, _≤_, _<_}
 use mathlib.Core.Path.{_≡_, sym, _∙_, ap}
+use mathlib.Core.Bool.{Bool, true, false, not}
 use mathlib.Core.List.{List}
 use native.Mathlib.Omega.{arith}
 use Rattle.model.specs.Image.{Commands, Expressions, Node, designOf, commandAt, expressionAt}
-use Rattle.model.specs.Kinds.{CommandKind, sequences, branches, assigns, Operation, operates, commandKind, expressionKind}
+use Rattle.model.specs.Kinds.{CommandKind, sequences, branches, assigns, Operation, operates, commandKind, expressionKind, commandKept, expressionKept}
 use Rattle.model.specs.Rules.{CommandHolds, ExpressionHolds}
+use Rattle.model.proofs.Laws.Booleans.{not-false}
 use Rattle.model.proofs.Laws.Kinds.{kind-assigns, kind-sequences, kind-branches, kind-operates}
 use Rattle.model.proofs.Exact.Records.{command-iff, expression-iff}
 use Rattle.design.specs.declared.Design.{Design}
 use Rattle.design.specs.Records.{nodeIn}
 use Rattle.design.specs.Describes.{Describes}
-use Rattle.design.specs.Kept.{CommandsKept, ExpressionsKept}
 use Rattle.design.proofs.Laws.{states-count, commands-count, expressions-count, command-in, expression-in}
 
 module _ {image : List ℕ} {x : Design} (d : Describes image x) where
@@ -67,9 +68,9 @@ module _ {image : List ℕ} {x : Design} (d : Describes image x) where
     expression-b e = e ∙ ap (λ (y : Node). y .b) (expression-in d l)
 
   -- ---- the parts of a command
-  module _ (kept : CommandsKept (designOf image)) {n k : ℕ} (l : n < x .commands) (same : k ≡ nodeIn image (x .«commands_at») n .kind) where
+  module _ {n k : ℕ} (kept : commandKept (designOf image) n ≡ true) (l : n < x .commands) (same : k ≡ nodeIn image (x .«commands_at») n .kind) where
     holds : {kind : CommandKind} → commandKind (commandAt (designOf image) n .kind) ≡ kind → CommandHolds (designOf image) n kind (commandAt (designOf image) n)
-    holds e = rw e at (command-iff (designOf image) n .0 (kept .kept n (omega (arith, commands-count d))))
+    holds e = rw e at (command-iff (designOf image) n .0 kept)
 
     pub assign-a : {m : ℕ} → k ≡ 1 → m ≡ nodeIn image (x .«commands_at») n .a → m < x .expressions
     assign-a e p = rw (command-a l p, expressions-count d) (holds (is-assign l same e) .1)
@@ -90,15 +91,19 @@ module _ {image : List ℕ} {x : Design} (d : Describes image x) where
     branch-c e p = rw (command-c l p) (holds (is-branch l same e) .3)
 
   -- ---- the parts of an expression
-  module _ (kept : ExpressionsKept (designOf image)) {n k : ℕ} (l : n < x .expressions) (same : k ≡ nodeIn image (x .«expressions_at») n .kind) where
+  module _ {n k : ℕ} (kept : expressionKept (designOf image) n ≡ true) (l : n < x .expressions) (same : k ≡ nodeIn image (x .«expressions_at») n .kind) where
     operation-holds : (o : Operation) → expressionKind (expressionAt (designOf image) n .kind) ≡ operates o → ExpressionHolds (designOf image) n (operates o) (expressionAt (designOf image) n)
-    operation-holds o e = rw e at (expression-iff (designOf image) n .0 (kept .kept n (omega (arith, expressions-count d))))
+    operation-holds o e = rw e at (expression-iff (designOf image) n .0 kept)
 
     pub operation-a : {m : ℕ} → 2 ≤ k → k < 9 → m ≡ nodeIn image (x .«expressions_at») n .a → m < n
     operation-a low high p = let o = is-operation l same low high in rw (expression-a l p) (operation-holds (o .0) (o .1) .1)
 
     pub operation-b : {m : ℕ} → 2 ≤ k → k < 9 → m ≡ nodeIn image (x .«expressions_at») n .b → m < n
     operation-b low high p = let o = is-operation l same low high in rw (expression-b l p) (operation-holds (o .0) (o .1) .2)
+
+-- a record that has just been judged
+pub just-kept : {b kept : Bool} → b ≡ kept → not b ≡ false → kept ≡ true
+just-kept {b} e h = sym e ∙ not-false b h
 
 -- a part of a node stands in the table of its family
 pub part-inside : {n m limit : ℕ} → n < limit → m < n → m < limit

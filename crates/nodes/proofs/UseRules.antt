@@ -1,15 +1,15 @@
--- The uses of a node by its kind, as the passes over uses count them, and refusal 6 from the tables.
+-- The uses of a node by its kind, as they are counted, and what the tables then tell for refusal 6.
 use Prim.Native.Nat.{ℕ, _≤_, _<_}
 use mathlib.Core.Path.{_≡_, refl, _∙_, ap}
 use mathlib.Core.Logic.{_⊎_, inl, inr, ⊎-elim}
-use mathlib.Core.List.{List, [], _∷_}
+use mathlib.Core.Bool.{true}
+use mathlib.Core.List.{List, [], _∷_, _++_}
 use native.Mathlib.Omega.{arith}
-use lib.Dec.{eqb}
-use lib.ListN.{length, getD, replicate}
-use Rattle.model.specs.declared.Found.{Found}
+use lib.ListN.{length, replicate}
+use Rattle.model.specs.declared.Found.the-variants.{Nowhere}
 use Rattle.model.specs.Indices.{lowestFailing, joinBelow}
 use Rattle.model.specs.Image.{Commands, Expressions, State, Node, designOf, stateAt, commandAt, expressionAt}
-use Rattle.model.specs.Kinds.{CommandKind, skips, assigns, sequences, falls, goes, branches, unknownCommand, ExpressionKind, constants, reads, unknownExpression, Operation, operates, commandKind, expressionKind}
+use Rattle.model.specs.Kinds.{CommandKind, skips, assigns, sequences, falls, goes, branches, unknownCommand, ExpressionKind, constants, reads, unknownExpression, Operation, operates, commandKind, expressionKind, commandKept, expressionKept}
 use Rattle.model.specs.Nodes.{commandParts, expressionsOf, expressionParts, commandUses, expressionUses, commandUsedOnce, expressionUsedOnce}
 use Rattle.model.proofs.Laws.Indices.{below-suc}
 use Rattle.model.proofs.Laws.Kinds.{assigns-number, sequences-number, branches-number, no-operation-zero, no-operation-one, no-operation-above}
@@ -17,11 +17,11 @@ use Rattle.model.proofs.Exact.Records.{state-iff}
 use Rattle.design.specs.declared.Design.{Design}
 use Rattle.design.specs.Records.{stateIn, nodeIn}
 use Rattle.design.specs.Describes.{Describes}
-use Rattle.design.specs.Kept.{StatesKept, CommandsKept}
-use Rattle.design.proofs.Laws.{states-count, commands-count, expressions-count, state-in}
-use Rattle.nodes.specs.Tables.{commandOf, partsOf, expressionOf, operandsOf, countUse, countUses}
+use Rattle.design.specs.Kept.{StatesKept}
+use Rattle.design.proofs.Laws.{states-count, commands-count, state-in}
+use Rattle.nodes.specs.Tables.{commandOf, partsOf, expressionOf, operandsOf, keptCommands, keptExpressions, countUse, countUses, OnceWhere}
 use Rattle.nodes.proofs.PartRules.{commands-most, expressions-most, command-byte, expression-byte, is-assign, is-sequence, is-branch, is-operation, command-a, command-b, command-c, expression-a, expression-b, assign-a, branch-a}
-use Rattle.nodes.proofs.CountRules.{counted-find, counted-length}
+use Rattle.nodes.proofs.CountRules.{counted-once}
 
 -- ---- one use, and two
 use-one : (t : List ℕ) {v : List ℕ} {a p : ℕ} {uses : List ℕ} → uses ≡ p ∷ [] → a ≡ p → v ≡ countUse t a → v ≡ countUses t uses
@@ -132,7 +132,7 @@ module _ {image : List ℕ} {x : Design} (d : Describes image x) {n k : ℕ} (l 
       (λ e. h (inr (branches-number k (ap commandKind (command-byte d l same) ∙ e)))))
 
   -- the expression of a command is one
-  pub expression-inside : {a : ℕ} → CommandsKept (designOf image) → (k ≡ 1) ⊎ (k ≡ 5) → a ≡ nodeIn image (x .«commands_at») n .a → a < 2048
+  pub expression-inside : {a : ℕ} → commandKept (designOf image) n ≡ true → (k ≡ 1) ⊎ (k ≡ 5) → a ≡ nodeIn image (x .«commands_at») n .a → a < 2048
   expression-inside kept e p = expressions-most d (⊎-elim (λ (one : k ≡ 1). assign-a d kept l same one p) (λ (five : k ≡ 5). branch-a d kept l same five p) e)
 
 -- ---- an expression's uses, from its kind byte
@@ -174,42 +174,23 @@ module _ {image : List ℕ} {x : Design} (d : Describes image x) {s m : ℕ} (l 
       let is : m ≡ stateAt (designOf image) s .command = same ∙ ap (λ (y : State). y .command) (state-in d l) in
       commands-most d (omega (arith, commands-count d))
 
--- ---- refusal 6
-module _ {image : List ℕ} {x : Design} (d : Describes image x) where
-  pub commands-counted : (us vs : List ℕ) {t u : List ℕ} → t ≡ countUses (replicate 1024 0) us → u ≡ countUses t vs → x .commands ≤ length u
-  commands-counted us vs {t} {u} p q =
-      let most = d .directory .sections Commands .at-most in
-      let long : 1024 ≡ length u = counted-length us vs p q in
-      omega (arith, d .commands)
-
-  pub expressions-counted : (us vs : List ℕ) {t u : List ℕ} → t ≡ countUses (replicate 2048 0) us → u ≡ countUses t vs → x .expressions ≤ length u
-  expressions-counted us vs {t} {u} p q =
-      let most = d .directory .sections Expressions .at-most in
-      let long : 2048 ≡ length u = counted-length us vs p q in
-      omega (arith, d .expressions)
-
-  pub command-uses-rule :
-      {t u : List ℕ} {f : Found}
-      → t ≡ countUses (replicate 1024 0) (joinBelow (commandOf (designOf image)) (length (designOf image .states)))
-      → u ≡ countUses t (joinBelow (partsOf (designOf image)) (length (designOf image .commands)))
-      → f ≡ lowestFailing (λ k. eqb (getD u k 0) 1) (x .commands)
-      → f ≡ lowestFailing (commandUsedOnce (designOf image)) (length (designOf image .commands))
+-- ---- refusal 6, where every record keeps its rule
+module _ {image : List ℕ} {x : Design} (d : Describes image x) {t : List ℕ} (commands : lowestFailing (commandKept (designOf image)) (length (designOf image .commands)) ≡ Nowhere) where
+  pub command-uses-told :
+      t ≡ countUses (replicate 1024 0) (joinBelow (commandOf (designOf image)) (length (designOf image .states)) ++ joinBelow (partsOf (designOf image)) (keptCommands (designOf image)))
+      → OnceWhere (commandUsedOnce (designOf image)) t (x .commands)
   unfolding commandUsedOnce commandUses
-  command-uses-rule p q e =
+  command-uses-told p =
       let most = d .directory .sections Commands .at-most in
-      rw (← (commands-count d)) (counted-find 1024 (x .commands) _ _ p q (omega (arith, d .commands)) e)
+      counted-once 1024 _ (rw commands at p) (omega (arith, d .commands))
 
-  pub expression-uses-rule :
-      {t u : List ℕ} {f : Found}
-      → t ≡ countUses (replicate 2048 0) (joinBelow (expressionOf (designOf image)) (length (designOf image .commands)))
-      → u ≡ countUses t (joinBelow (operandsOf (designOf image)) (length (designOf image .expressions)))
-      → f ≡ lowestFailing (λ k. eqb (getD u k 0) 1) (x .expressions)
-      → f ≡ lowestFailing (expressionUsedOnce (designOf image)) (length (designOf image .expressions))
+  pub expression-uses-told :
+      lowestFailing (expressionKept (designOf image)) (length (designOf image .expressions)) ≡ Nowhere
+      → t ≡ countUses (replicate 2048 0) (joinBelow (expressionOf (designOf image)) (keptCommands (designOf image)) ++ joinBelow (operandsOf (designOf image)) (keptExpressions (designOf image)))
+      → OnceWhere (expressionUsedOnce (designOf image)) t (x .expressions)
   unfolding expressionUsedOnce expressionUses
-  expression-uses-rule p q e =
+  expression-uses-told expressions p =
       let most = d .directory .sections Expressions .at-most in
-      rw (← (expressions-count d)) (counted-find 2048 (x .expressions) _ _ p q (omega (arith, d .expressions)) e)
+      counted-once 2048 _ (rw (commands, expressions) at p) (omega (arith, d .expressions))
 
 pub ruleset use-laws = (uses-sequence, uses-branch, uses-no-part, uses-expression, uses-no-expression, expression-inside, uses-operation, uses-low, uses-high, uses-body, body-inside)
-
-pub ruleset used-once-laws = (counted-length, commands-counted, expressions-counted, command-uses-rule, expression-uses-rule)

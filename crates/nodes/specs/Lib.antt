@@ -1,2 +1,2 @@
--- What the contracts of this crate cite: what an earlier pass established, and the tables that a pass fills.
+-- What the contracts of this crate cite: the tables that the loops over the nodes fill.
 pub mod Tables

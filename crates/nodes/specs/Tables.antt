@@ -1,12 +1,21 @@
--- The nodes that a record uses, and the tables that the passes over nodes fill.
+-- The nodes that a record uses, the tables that the loops over the nodes fill, and what the tables then tell.
 use Prim.Native.Nat.{ℕ, min, _+_, _≤_, _<_}
 use mathlib.Core.Path.{_≡_}
-use mathlib.Core.List.{List, [], _∷_}
-use lib.ListN.{getD, set}
-use Rattle.model.specs.Limits.{depthMax}
-use Rattle.model.specs.Image.{Design, stateAt, commandAt, expressionAt}
-use Rattle.model.specs.Kinds.{commandKind, expressionKind}
-use Rattle.model.specs.Nodes.{commandParts, expressionsOf, expressionParts}
+use mathlib.Core.Bool.{Bool}
+use mathlib.Core.List.{List, [], _∷_, _++_}
+use lib.Dec.{leb, eqb}
+use lib.ListN.{length, getD, set, replicate}
+use Rattle.model.specs.declared.Found.{Found}
+use Rattle.model.specs.declared.Found.the-variants.{At, Nowhere}
+use Rattle.model.specs.Indices.{lowestFailing, joinBelow}
+use Rattle.model.specs.Limits.{commandsMax, expressionsMax, depthMax}
+use Rattle.model.specs.Image.{Design, designOf, stateAt, commandAt, expressionAt}
+use Rattle.model.specs.Kinds.{commandKind, expressionKind, commandKept, expressionKept}
+use Rattle.model.specs.Trees.{exprOf, cmdOf, exprDepth, cmdDepth}
+use Rattle.model.specs.Nodes.{commandParts, expressionsOf, expressionParts, commandUsedOnce, expressionUsedOnce, commandDepthKept, expressionDepthKept}
+use Rattle.model.specs.Verdict.{lowestNode}
+use Rattle.design.specs.declared.Design.{Design as Described}
+use Rattle.design.specs.Resets.{Filled}
 
 -- the command that a state uses, the commands and the expressions that a command uses, and the expressions that an expression uses
 abbrev pub commandOf : Design → ℕ → List ℕ
@@ -21,10 +30,18 @@ expressionOf d n = expressionsOf (commandKind (commandAt d n .kind)) (commandAt 
 abbrev pub operandsOf : Design → ℕ → List ℕ
 operandsOf d n = expressionParts (expressionKind (expressionAt d n .kind)) (expressionAt d n)
 
--- a table holds the depth of every node below n, and none is above 64
+-- how many nodes a pass has behind it, of so many, where it found this
+abbrev pub passed : Found → ℕ → ℕ
+passed (At n) count = n
+passed Nowhere count = count
+
+-- a depth in a table; an entry stops at one past the limit
+abbrev pub depthEntry : ℕ → ℕ
+depthEntry depth = min (depthMax + 1) depth
+
+-- a table holds the depth of every node below n
 pub record Depths (table : List ℕ) (depth : ℕ → ℕ) (n : ℕ) : Type 0 where
-  pub entry : (k : ℕ) → k < n → getD table k 0 ≡ depth k
-  pub small : (k : ℕ) → k < n → depth k ≤ depthMax
+  pub entry : (k : ℕ) → k < n → getD table k 0 ≡ depthEntry (depth k)
 
 -- a table of counts with one more use of node k; a count stops at 2
 unfoldable pub countUse : List ℕ → ℕ → List ℕ
@@ -34,3 +51,46 @@ countUse table k = set table k (min 2 (getD table k 0 + 1))
 unfoldable pub countUses : List ℕ → List ℕ → List ℕ
 countUses table [] = table
 countUses table (k ∷ ks) = countUses (countUse table k) ks
+
+-- what the loop over the commands found, and what it leaves in its tables; and the loop over the expressions
+pub record CommandsPassed (d : Design) (f : Found) (uses₀ uses expressionUses₀ expressionUses depths₀ depths : List ℕ) : Type 0 where
+  pub found : f ≡ lowestFailing (commandKept d) (length (d .commands))
+  pub counted : uses ≡ countUses uses₀ (joinBelow (partsOf d) (passed f (length (d .commands))))
+  pub expressions-counted : expressionUses ≡ countUses expressionUses₀ (joinBelow (expressionOf d) (passed f (length (d .commands))))
+  pub filled : Filled (λ k. depthEntry (cmdDepth (cmdOf d k))) depths₀ (passed f (length (d .commands))) depths
+
+pub record ExpressionsPassed (d : Design) (f : Found) (uses₀ uses depths₀ depths : List ℕ) : Type 0 where
+  pub found : f ≡ lowestFailing (expressionKept d) (length (d .expressions))
+  pub counted : uses ≡ countUses uses₀ (joinBelow (operandsOf d) (passed f (length (d .expressions))))
+  pub filled : Filled (λ k. depthEntry (exprDepth (exprOf d k))) depths₀ (passed f (length (d .expressions))) depths
+
+-- how many nodes of a family stand before the first whose record breaks its rule
+abbrev pub keptCommands : Design → ℕ
+keptCommands d = passed (lowestFailing (commandKept d) (length (d .commands))) (length (d .commands))
+
+abbrev pub keptExpressions : Design → ℕ
+keptExpressions d = passed (lowestFailing (expressionKept d) (length (d .expressions))) (length (d .expressions))
+
+-- what both loops found, and what they leave in four tables that were fresh; the uses by states are counted before them
+pub record NodesPassed (d : Design) (f : Found) (commandUses expressionUses commandDepths expressionDepths : List ℕ) : Type 0 where
+  pub found : f ≡ lowestNode d (commandKept d) (expressionKept d)
+  pub commands-counted : commandUses ≡ countUses (replicate commandsMax 0) (joinBelow (commandOf d) (length (d .states)) ++ joinBelow (partsOf d) (keptCommands d))
+  pub expressions-counted : expressionUses ≡ countUses (replicate expressionsMax 0) (joinBelow (expressionOf d) (keptCommands d) ++ joinBelow (operandsOf d) (keptExpressions d))
+  pub commands-filled : Filled (λ k. depthEntry (cmdDepth (cmdOf d k))) (replicate commandsMax 0) (keptCommands d) commandDepths
+  pub expressions-filled : Filled (λ k. depthEntry (exprDepth (exprOf d k))) (replicate expressionsMax 0) (keptExpressions d) expressionDepths
+
+-- a table of counts that has 1 exactly where one of n nodes keeps the rule, and a table of depths that has at most the limit exactly there
+pub record OnceWhere (rule : ℕ → Bool) (table : List ℕ) (n : ℕ) : Type 0 where
+  pub long : n ≤ length table
+  pub entry : (k : ℕ) → k < n → eqb (getD table k 0) 1 ≡ rule k
+
+pub record NearWhere (rule : ℕ → Bool) (table : List ℕ) (n : ℕ) : Type 0 where
+  pub long : n ≤ length table
+  pub entry : (k : ℕ) → k < n → leb (getD table k 0) depthMax ≡ rule k
+
+-- what the four tables tell of the nodes
+pub record NodesTold (image : List ℕ) (x : Described) (commandUses expressionUses commandDepths expressionDepths : List ℕ) : Type 0 where
+  pub command-uses : OnceWhere (commandUsedOnce (designOf image)) commandUses (x .commands)
+  pub expression-uses : OnceWhere (expressionUsedOnce (designOf image)) expressionUses (x .expressions)
+  pub command-depths : NearWhere (commandDepthKept (designOf image)) commandDepths (x .commands)
+  pub expression-depths : NearWhere (expressionDepthKept (designOf image)) expressionDepths (x .expressions)

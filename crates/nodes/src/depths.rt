@@ -1,40 +1,50 @@
-// Refusal 7: passes that fill a table of depths from the lowest node on, since a part has a lower
-// number than its owner. A pass ends at the first node that is too deep, so every entry is small.
+// Refusal 7: a table of depths is filled from the lowest node on, since a part has a lower number than
+// its owner, and a pass looks for a node that is too deep. An entry stops at one past the limit.
 use design::Design;
 use model::Found;
 ghost use Prim.Native.Nat.{_+_, _<_, _≤_, max};
 ghost use mathlib.Core.Path.{_≡_};
-ghost use lib.ListN.{length};
+ghost use mathlib.Core.Bool.{true};
+ghost use lib.Dec.{leb};
+ghost use lib.ListN.{length, getD};
 ghost use Rattle.model.specs.Indices.{lowestFailing};
 ghost use Rattle.model.specs.Limits.{depthMax};
 ghost use Rattle.model.specs.Image.{designOf};
+ghost use Rattle.model.specs.Kinds.{commandKept, expressionKept};
 ghost use Rattle.model.specs.Trees.{exprOf, cmdOf, exprDepth, cmdDepth};
-ghost use Rattle.model.specs.Nodes.{commandDepthKept, expressionDepthKept};
 ghost use Rattle.design.specs.Describes.{Describes};
-ghost use Rattle.design.specs.Kept.{CommandsKept, ExpressionsKept};
-ghost use Rattle.nodes.specs.Tables.{Depths};
+ghost use Rattle.nodes.specs.Tables.{depthEntry, Depths};
 
 // The greatest depth, as an entry of a table.
 const DEEPEST: u8 = Design::DEPTH as u8;
 
-// One more than the deeper of two parts.
-fn above(p: u8, q: u8) -> u8
-    requires { ⌜ (p ≤ depthMax) × (q ≤ depthMax) ⌝ }
-    ensures { λ r. ⌜ r ≡ max p q + 1 ⌝ }
+// The entry one above an entry.
+fn one_above(entry: u8) -> u8
+    ensures { λ r. ⌜ r ≡ depthEntry (entry + 1) ⌝ }
 {
-    if p < q {
-        return q + 1;
+    if entry <= DEEPEST {
+        return entry + 1;
     }
-    p + 1
+    DEEPEST + 1
 }
 
-// The depth of command n, from the depths of the commands below n.
-fn command_depth(image: &[u8], design: Design, depths: &[u8; Design::COMMANDS], n: usize) -> u8
+// The entry one above the deeper of two parts.
+fn above(p: u8, q: u8) -> u8
+    ensures { λ r. ⌜ r ≡ depthEntry (max p q + 1) ⌝ }
+{
+    if p < q {
+        return one_above(q);
+    }
+    one_above(p)
+}
+
+// The entry of command n, from those of the commands below n.
+pub fn command_depth(image: &[u8], design: Design, depths: &[u8; Design::COMMANDS], n: usize) -> u8
     requires { ⌜ Describes (now image) design
         × (n < design .commands)
-        × CommandsKept (designOf (now image))
+        × (commandKept (designOf (now image)) n ≡ true)
         × Depths (now depths) (λ k. cmdDepth (cmdOf (designOf (now image)) k)) n ⌝ }
-    ensures { λ r. ⌜ r ≡ cmdDepth (cmdOf (designOf (now (image .entry))) n) ⌝ }
+    ensures { λ r. ⌜ r ≡ depthEntry (cmdDepth (cmdOf (designOf (now (image .entry))) n)) ⌝ }
 {
     let at = design.commands_at;
     let kind = Design::kind(image, at, n);
@@ -48,8 +58,8 @@ fn command_depth(image: &[u8], design: Design, depths: &[u8; Design::COMMANDS], 
     }
 }
 
-// The depth of expression n, from the depths of the expressions below n.
-fn expression_depth(
+// The entry of expression n, from those of the expressions below n.
+pub fn expression_depth(
     image: &[u8],
     design: Design,
     depths: &[u8; Design::EXPRESSIONS],
@@ -57,9 +67,9 @@ fn expression_depth(
 ) -> u8
     requires { ⌜ Describes (now image) design
         × (n < design .expressions)
-        × ExpressionsKept (designOf (now image))
+        × (expressionKept (designOf (now image)) n ≡ true)
         × Depths (now depths) (λ k. exprDepth (exprOf (designOf (now image)) k)) n ⌝ }
-    ensures { λ r. ⌜ r ≡ exprDepth (exprOf (designOf (now (image .entry))) n) ⌝ }
+    ensures { λ r. ⌜ r ≡ depthEntry (exprDepth (exprOf (designOf (now (image .entry))) n)) ⌝ }
 {
     let at = design.expressions_at;
     let kind = Design::kind(image, at, n);
@@ -71,39 +81,16 @@ fn expression_depth(
     }
 }
 
-// Refusal 7, at the lowest command.
-pub fn command_depths(image: &[u8], design: Design) -> Found
-    requires { ⌜ Describes (now image) design
-        × CommandsKept (designOf (now image)) ⌝ }
-    ensures { λ f. ⌜ f ≡ lowestFailing (commandDepthKept (designOf (now (image .entry)))) (length (designOf (now (image .entry)) .commands)) ⌝ }
+// The lowest of so many nodes whose entry in a table of depths is too deep.
+pub fn too_deep(table: &[u8], nodes: usize) -> Found
+    requires { ⌜ nodes ≤ length (now table) ⌝ }
+    ensures { λ f. ⌜ f ≡ lowestFailing (λ k. leb (getD (now (table .entry)) k 0) depthMax) nodes ⌝ }
 {
-    let mut depths = [0u8; Design::COMMANDS];
     let mut n = 0;
-    while n < design.commands {
-        let depth = command_depth(image, design, &depths, n);
-        if !(depth <= DEEPEST) {
+    while n < nodes {
+        if !(table[n] <= DEEPEST) {
             return Found::At(n);
         }
-        depths[n] = depth;
-        n += 1;
-    }
-    Found::Nowhere
-}
-
-// Refusal 7, at the lowest expression.
-pub fn expression_depths(image: &[u8], design: Design) -> Found
-    requires { ⌜ Describes (now image) design
-        × ExpressionsKept (designOf (now image)) ⌝ }
-    ensures { λ f. ⌜ f ≡ lowestFailing (expressionDepthKept (designOf (now (image .entry)))) (length (designOf (now (image .entry)) .expressions)) ⌝ }
-{
-    let mut depths = [0u8; Design::EXPRESSIONS];
-    let mut n = 0;
-    while n < design.expressions {
-        let depth = expression_depth(image, design, &depths, n);
-        if !(depth <= DEEPEST) {
-            return Found::At(n);
-        }
-        depths[n] = depth;
         n += 1;
     }
     Found::Nowhere

@@ -1,17 +1,13 @@
-// Refusal 5: passes that judge a node by its record. A match on the kind byte decides what the
-// fields hold.
+// Refusal 5: a node is judged by its record. A match on the kind byte decides what the fields hold.
 use design::Design;
-use model::Found;
 ghost use Prim.Native.Nat.{_<_};
 ghost use mathlib.Core.Path.{_≡_};
-ghost use lib.ListN.{length};
-ghost use Rattle.model.specs.Indices.{lowestFailing};
 ghost use Rattle.model.specs.Image.{designOf};
 ghost use Rattle.model.specs.Kinds.{commandKept, expressionKept};
 ghost use Rattle.design.specs.Describes.{Describes};
 
 // Command n has a kind, and its fields hold what the kind asks for.
-fn command_kept(image: &[u8], design: Design, n: usize) -> bool
+pub fn command_kept(image: &[u8], design: Design, n: usize) -> bool
     requires { ⌜ Describes (now image) design × (n < design .commands) ⌝ }
     ensures { λ x. ⌜ x ≡ commandKept (designOf (now (image .entry))) n ⌝ }
 {
@@ -32,7 +28,7 @@ fn command_kept(image: &[u8], design: Design, n: usize) -> bool
 }
 
 // Expression n has a kind, and its fields hold what the kind asks for.
-fn expression_kept(image: &[u8], design: Design, n: usize) -> bool
+pub fn expression_kept(image: &[u8], design: Design, n: usize) -> bool
     requires { ⌜ Describes (now image) design × (n < design .expressions) ⌝ }
     ensures { λ x. ⌜ x ≡ expressionKept (designOf (now (image .entry))) n ⌝ }
 {
@@ -48,34 +44,4 @@ fn expression_kept(image: &[u8], design: Design, n: usize) -> bool
         2..=8 => (item == 0) & (a < n) & (b < n) & (c == 0),
         _ => false,
     }
-}
-
-// Refusal 5, at the lowest command.
-pub fn commands(image: &[u8], design: Design) -> Found
-    requires { ⌜ Describes (now image) design ⌝ }
-    ensures { λ f. ⌜ f ≡ lowestFailing (commandKept (designOf (now (image .entry)))) (length (designOf (now (image .entry)) .commands)) ⌝ }
-{
-    let mut n = 0;
-    while n < design.commands {
-        if !command_kept(image, design, n) {
-            return Found::At(n);
-        }
-        n += 1;
-    }
-    Found::Nowhere
-}
-
-// Refusal 5, at the lowest expression.
-pub fn expressions(image: &[u8], design: Design) -> Found
-    requires { ⌜ Describes (now image) design ⌝ }
-    ensures { λ f. ⌜ f ≡ lowestFailing (expressionKept (designOf (now (image .entry)))) (length (designOf (now (image .entry)) .expressions)) ⌝ }
-{
-    let mut n = 0;
-    while n < design.expressions {
-        if !expression_kept(image, design, n) {
-            return Found::At(n);
-        }
-        n += 1;
-    }
-    Found::Nowhere
 }

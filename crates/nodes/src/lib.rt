@@ -2,4 +2,5 @@
 // exactly once, refusal 6; and that none is too deep, refusal 7.
 pub mod depths;
 pub mod kinds;
+pub mod passes;
 pub mod uses;

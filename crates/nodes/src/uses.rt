@@ -1,17 +1,18 @@
-// Refusal 6: passes that count the uses of every node of a family in a table, and then look for one that
-// is not used exactly once. A count stops at 2.
+// Refusal 6: the uses of every node of a family are counted in a table, and a pass looks for one that is
+// not used exactly once. A count stops at 2.
 use design::Design;
 use model::Found;
 ghost use Prim.Native.Nat.{_+_, _<_, _≤_, min};
 ghost use mathlib.Core.Path.{_≡_};
+ghost use mathlib.Core.Bool.{true};
 ghost use lib.Dec.{eqb};
 ghost use lib.ListN.{length, getD};
 ghost use Rattle.model.specs.Indices.{lowestFailing, joinBelow};
 ghost use Rattle.model.specs.Limits.{commandsMax, expressionsMax};
 ghost use Rattle.model.specs.Image.{designOf};
-ghost use Rattle.model.specs.Nodes.{commandUsedOnce, expressionUsedOnce};
+ghost use Rattle.model.specs.Kinds.{commandKept, expressionKept};
 ghost use Rattle.design.specs.Describes.{Describes};
-ghost use Rattle.design.specs.Kept.{StatesKept, CommandsKept, ExpressionsKept};
+ghost use Rattle.design.specs.Kept.{StatesKept};
 ghost use Rattle.nodes.specs.Tables.{commandOf, partsOf, expressionOf, operandsOf, countUse, countUses};
 
 // One use more than a count.
@@ -43,10 +44,10 @@ fn use_expression(table: &mut [u8; Design::EXPRESSIONS], k: usize)
 }
 
 // Command n uses the commands that are its parts.
-fn use_parts(table: &mut [u8; Design::COMMANDS], image: &[u8], design: Design, n: usize)
+pub fn use_parts(table: &mut [u8; Design::COMMANDS], image: &[u8], design: Design, n: usize)
     requires { ⌜ Describes (now image) design
         × (n < design .commands)
-        × CommandsKept (designOf (now image)) ⌝ }
+        × (commandKept (designOf (now image)) n ≡ true) ⌝ }
     ensures { λ r. ⌜ now (table .exit) ≡ countUses (now (table .entry)) (partsOf (designOf (now (image .entry))) n) ⌝ }
 {
     let at = design.commands_at;
@@ -68,7 +69,7 @@ fn use_parts(table: &mut [u8; Design::COMMANDS], image: &[u8], design: Design, n
 }
 
 // Command n uses the expression that is its part.
-fn use_command_expression(
+pub fn use_command_expression(
     table: &mut [u8; Design::EXPRESSIONS],
     image: &[u8],
     design: Design,
@@ -76,7 +77,7 @@ fn use_command_expression(
 )
     requires { ⌜ Describes (now image) design
         × (n < design .commands)
-        × CommandsKept (designOf (now image)) ⌝ }
+        × (commandKept (designOf (now image)) n ≡ true) ⌝ }
     ensures { λ r. ⌜ now (table .exit) ≡ countUses (now (table .entry)) (expressionOf (designOf (now (image .entry))) n) ⌝ }
 {
     let at = design.commands_at;
@@ -89,10 +90,10 @@ fn use_command_expression(
 }
 
 // Expression n uses the expressions that are its parts.
-fn use_operands(table: &mut [u8; Design::EXPRESSIONS], image: &[u8], design: Design, n: usize)
+pub fn use_operands(table: &mut [u8; Design::EXPRESSIONS], image: &[u8], design: Design, n: usize)
     requires { ⌜ Describes (now image) design
         × (n < design .expressions)
-        × ExpressionsKept (designOf (now image)) ⌝ }
+        × (expressionKept (designOf (now image)) n ≡ true) ⌝ }
     ensures { λ r. ⌜ now (table .exit) ≡ countUses (now (table .entry)) (operandsOf (designOf (now (image .entry))) n) ⌝ }
 {
     let at = design.expressions_at;
@@ -109,7 +110,7 @@ fn use_operands(table: &mut [u8; Design::EXPRESSIONS], image: &[u8], design: Des
 }
 
 // Every state uses its command.
-fn use_bodies(table: &mut [u8; Design::COMMANDS], image: &[u8], design: Design)
+pub fn use_bodies(table: &mut [u8; Design::COMMANDS], image: &[u8], design: Design)
     requires { ⌜ Describes (now image) design
         × StatesKept (designOf (now image)) ⌝ }
     ensures { λ r. ⌜ now (table .exit) ≡ countUses (now (table .entry)) (joinBelow (commandOf (designOf (now (image .entry)))) (length ((designOf (now (image .entry))) .states))) ⌝ }
@@ -123,47 +124,8 @@ fn use_bodies(table: &mut [u8; Design::COMMANDS], image: &[u8], design: Design)
     }
 }
 
-// Every command uses its parts.
-fn use_all_parts(table: &mut [u8; Design::COMMANDS], image: &[u8], design: Design)
-    requires { ⌜ Describes (now image) design
-        × CommandsKept (designOf (now image)) ⌝ }
-    ensures { λ r. ⌜ now (table .exit) ≡ countUses (now (table .entry)) (joinBelow (partsOf (designOf (now (image .entry)))) (length ((designOf (now (image .entry))) .commands))) ⌝ }
-{
-    let mut n = 0;
-    while n < design.commands {
-        use_parts(table, image, design, n);
-        n += 1;
-    }
-}
-
-// Every command uses its expression.
-fn use_command_expressions(table: &mut [u8; Design::EXPRESSIONS], image: &[u8], design: Design)
-    requires { ⌜ Describes (now image) design
-        × CommandsKept (designOf (now image)) ⌝ }
-    ensures { λ r. ⌜ now (table .exit) ≡ countUses (now (table .entry)) (joinBelow (expressionOf (designOf (now (image .entry)))) (length ((designOf (now (image .entry))) .commands))) ⌝ }
-{
-    let mut n = 0;
-    while n < design.commands {
-        use_command_expression(table, image, design, n);
-        n += 1;
-    }
-}
-
-// Every expression uses its parts.
-fn use_all_operands(table: &mut [u8; Design::EXPRESSIONS], image: &[u8], design: Design)
-    requires { ⌜ Describes (now image) design
-        × ExpressionsKept (designOf (now image)) ⌝ }
-    ensures { λ r. ⌜ now (table .exit) ≡ countUses (now (table .entry)) (joinBelow (operandsOf (designOf (now (image .entry)))) (length ((designOf (now (image .entry))) .expressions))) ⌝ }
-{
-    let mut n = 0;
-    while n < design.expressions {
-        use_operands(table, image, design, n);
-        n += 1;
-    }
-}
-
 // The lowest of so many nodes that a table of counts does not count once.
-fn not_once(table: &[u8], nodes: usize) -> Found
+pub fn not_once(table: &[u8], nodes: usize) -> Found
     requires { ⌜ nodes ≤ length (now table) ⌝ }
     ensures { λ f. ⌜ f ≡ lowestFailing (λ k. eqb (getD (now (table .entry)) k 0) 1) nodes ⌝ }
 {
@@ -175,30 +137,4 @@ fn not_once(table: &[u8], nodes: usize) -> Found
         n += 1;
     }
     Found::Nowhere
-}
-
-// Refusal 6, at the lowest command.
-pub fn command_uses(image: &[u8], design: Design) -> Found
-    requires { ⌜ Describes (now image) design
-        × StatesKept (designOf (now image))
-        × CommandsKept (designOf (now image)) ⌝ }
-    ensures { λ f. ⌜ f ≡ lowestFailing (commandUsedOnce (designOf (now (image .entry)))) (length ((designOf (now (image .entry))) .commands)) ⌝ }
-{
-    let mut table = [0u8; Design::COMMANDS];
-    use_bodies(&mut table, image, design);
-    use_all_parts(&mut table, image, design);
-    not_once(&table, design.commands)
-}
-
-// Refusal 6, at the lowest expression.
-pub fn expression_uses(image: &[u8], design: Design) -> Found
-    requires { ⌜ Describes (now image) design
-        × CommandsKept (designOf (now image))
-        × ExpressionsKept (designOf (now image)) ⌝ }
-    ensures { λ f. ⌜ f ≡ lowestFailing (expressionUsedOnce (designOf (now (image .entry)))) (length ((designOf (now (image .entry))) .expressions)) ⌝ }
-{
-    let mut table = [0u8; Design::EXPRESSIONS];
-    use_command_expressions(&mut table, image, design);
-    use_all_operands(&mut table, image, design);
-    not_once(&table, design.expressions)
 }

@@ -1,36 +1,35 @@
 -- The verdict from a pass on: what the pass found, before what follows; and what is known once a pass has found nothing.
-use Prim.Native.Nat.{ℕ, _+_, _≤_, _<_}
+use Prim.Native.Nat.{ℕ, _+_, _<_}
 use mathlib.Core.Path.{_≡_, refl, sym, _∙_, ap}
-use mathlib.Core.Logic.{_↔_}
 use mathlib.Core.Bool.{Bool, true, false, not}
 use mathlib.Core.List.{List}
 use native.Mathlib.Omega.{arith}
-use lib.ListN.{length}
+use lib.ListN.{length, replicate, length-replicate}
 use mir.Syntax.{w64}
 use mir.Val.{Fits}
 use Rattle.model.specs.declared.Found.{Found}
 use Rattle.model.specs.declared.Found.the-variants.{At, Nowhere}
 use Rattle.model.specs.declared.Refusal.{Refusal}
-use Rattle.model.specs.declared.Refusal.the-variants.{Directory, LabelRow, RegisterRecord, StateRecord, NodeRecord, NodeUse, Depth, Shape, ChildLabel}
+use Rattle.model.specs.declared.Refusal.the-variants.{Directory}
 use Rattle.model.specs.declared.Answer.{Answer}
-use Rattle.model.specs.declared.Answer.the-variants.{Accepted, Refused}
-use Rattle.model.specs.Indices.{lowestFailing}
+use Rattle.model.specs.declared.Answer.the-variants.{Refused}
+use Rattle.model.specs.Indices.{lowestFailing, joinBelow}
 use Rattle.model.specs.Image.{Expressions, Design as Table, directoryKept, designOf}
-use Rattle.model.specs.Lattice.{labelKept}
-use Rattle.model.specs.States.{registerKept, stateKept, childLabelKept}
+use Rattle.model.specs.States.{registerKept, stateKept}
 use Rattle.model.specs.Kinds.{commandKept, expressionKept}
-use Rattle.model.specs.Nodes.{commandUsedOnce, expressionUsedOnce, commandDepthKept, expressionDepthKept}
-use Rattle.model.specs.Shape.{shapeFault}
-use Rattle.model.specs.Flow.{flowAnswer}
 use Rattle.model.specs.Rules.{DirectoryKeeps}
-use Rattle.model.specs.Verdict.{_before_, refusedAt, atZeroUnless, commandsFirst, lowestNode, designVerdict, verdict}
+use Rattle.model.specs.Verdict.{_before_, refusedAt, commandsFirst, lowestNode, designVerdict, verdict}
 use Rattle.model.proofs.Laws.Booleans.{not-true, not-false}
 use Rattle.model.proofs.Laws.Indices.{failing-none, lowest-failing-below}
 use Rattle.model.proofs.Exact.Directories.{directory-iff}
 use Rattle.design.specs.declared.Design.{Design}
 use Rattle.design.specs.Describes.{Describes}
 use Rattle.design.proofs.Laws.{expressions-count}
-use Rattle.design.specs.Kept.{RegistersKept, StatesKept, CommandsKept, ExpressionsKept}
+use Rattle.design.specs.Kept.{RegistersKept, StatesKept}
+use Rattle.nodes.specs.Tables.{commandOf, countUses, CommandsPassed, ExpressionsPassed, NodesPassed, NodesTold}
+use Rattle.nodes.proofs.CountRules.{count-append}
+use Rattle.nodes.proofs.UseRules.{command-uses-told, expression-uses-told}
+use Rattle.nodes.proofs.DepthRules.{command-depths-told, expression-depths-told}
 use Rattle.bodies.specs.Shapes.{ShapeKnown}
 use Rattle.bodies.specs.Flows.{FlowKnown}
 use Rattle.rules.specs.Stages.{fromChildren, fromShape, fromDepths, fromUses, fromNodes, fromStates, fromRegisters, fromLabels}
@@ -59,13 +58,16 @@ unfolding lowestNode
 both-families d c e p q k = k ∙ rw (p, q)
 
 -- an expression's number is small enough for its place
-pub expression-small : {image : List ℕ} {x : Design} (rule : ℕ → Bool) {f : Found} {n : ℕ} → Describes image x → f ≡ lowestFailing rule (length (designOf image .expressions)) → f ≡ At n → n < 2048
-expression-small {image} {x} rule {f} {n} d p h =
-    let below = lowest-failing-below rule (length (designOf image .expressions)) n (sym p ∙ h) in
-    let count = expressions-count d in
-    let is = d .expressions in
-    let most = d .directory .sections Expressions .at-most in
-    omega arith
+module _ {image : List ℕ} {x : Design} (rule : ℕ → Bool) {f : Found} {n : ℕ} (d : Describes image x) where
+  pub expression-few : f ≡ lowestFailing rule (x .expressions) → f ≡ At n → n < 2048
+  expression-few p h =
+      let below = lowest-failing-below rule (x .expressions) n (sym p ∙ h) in
+      let is = d .expressions in
+      let most = d .directory .sections Expressions .at-most in
+      omega arith
+
+  pub expression-small : f ≡ lowestFailing rule (length (designOf image .expressions)) → f ≡ At n → n < 2048
+  expression-small p h = expression-few (p ∙ ap (lowestFailing rule) (sym (expressions-count d))) h
 
 pub place-fits : {f : Found} {n : ℕ} → ((m : ℕ) → f ≡ At m → m < 2048) → f ≡ At n → Fits w64 (1024 + n)
 place-fits {n = n} h e = let small = h n e in record { fits = omega arith }
@@ -82,17 +84,54 @@ node-none (At n) g e = absurd (let z : _≡_ {A = ℕ} 0 1 = cc in omega arith)
 node-none Nowhere (At n) e = absurd (let z : _≡_ {A = ℕ} 0 1 = cc in omega arith)
 node-none Nowhere Nowhere e = (refl, refl)
 
-pub known-nodes : {image : List ℕ} {x : Design} {f : Found} → Describes image x → RegistersKept (designOf image) → StatesKept (designOf image) → f ≡ lowestNode (designOf image) (commandKept (designOf image)) (expressionKept (designOf image)) → f ≡ Nowhere → FlowKnown image x
+-- ---- both loops over the nodes, and what is known and told where they found nothing
+pub fresh-length : {t : List ℕ} {limit : ℕ} → t ≡ replicate limit 0 → length t ≡ limit
+fresh-length {limit = limit} e = ap length e ∙ length-replicate {A = ℕ} limit 0
+
+pub nodes-passed :
+    {d : Table} {c t u s v w p a q b : List ℕ} {f g r : Found}
+    → CommandsPassed d f t u s v p a
+    → ExpressionsPassed d g v w q b
+    → r ≡ commandsFirst f g
+    → t ≡ countUses c (joinBelow (commandOf d) (length (d .states)))
+    → c ≡ replicate 1024 0
+    → s ≡ replicate 2048 0
+    → p ≡ replicate 1024 0
+    → q ≡ replicate 2048 0
+    → NodesPassed d r u w a b
+nodes-passed {d} commands expressions first bodies c s p q =
+    record {
+      found = both-families d (commandKept d) (expressionKept d) (commands .found) (expressions .found) first;
+      commands-counted = rw (← (commands .found), count-append (replicate 1024 0), ← c, ← bodies) (commands .counted);
+      expressions-counted = rw (← (commands .found), ← (expressions .found), count-append (replicate 2048 0), ← s, ← (commands .expressions-counted)) (expressions .counted);
+      commands-filled = rw (← (commands .found), ← p) (commands .filled);
+      expressions-filled = rw (← (expressions .found), ← q) (expressions .filled);
+    }
+
+both-none : (d : Table) {f : Found} → f ≡ Nowhere → f ≡ lowestNode d (commandKept d) (expressionKept d) → (lowestFailing (commandKept d) (length (d .commands)) ≡ Nowhere) × (lowestFailing (expressionKept d) (length (d .expressions)) ≡ Nowhere)
 unfolding lowestNode
-known-nodes {image} describes registers states p h =
+both-none d h p = node-none (lowestFailing (commandKept d) (length (d .commands))) (lowestFailing (expressionKept d) (length (d .expressions))) (sym p ∙ h)
+
+pub known-nodes : {image : List ℕ} {x : Design} {f : Found} → f ≡ Nowhere → f ≡ lowestNode (designOf image) (commandKept (designOf image)) (expressionKept (designOf image)) → Describes image x → RegistersKept (designOf image) → StatesKept (designOf image) → FlowKnown image x
+known-nodes {image} h p describes registers states =
     let d = designOf image in
-    let both = node-none (lowestFailing (commandKept d) (length (d .commands))) (lowestFailing (expressionKept d) (length (d .expressions))) (sym p ∙ h) in
+    let none = both-none d h p in
     record {
       describes = describes;
       registers = registers;
       states = states;
-      commands = record { kept = failing-none (commandKept d) (length (d .commands)) (both .0) };
-      expressions = record { kept = failing-none (expressionKept d) (length (d .expressions)) (both .1) };
+      commands = record { kept = failing-none (commandKept d) (length (d .commands)) (none .0) };
+      expressions = record { kept = failing-none (expressionKept d) (length (d .expressions)) (none .1) };
+    }
+
+pub nodes-told : {image u w a b : List ℕ} {x : Design} {f : Found} → f ≡ Nowhere → NodesPassed (designOf image) f u w a b → Describes image x → NodesTold image x u w a b
+nodes-told {image} h passed describes =
+    let none = both-none (designOf image) h (passed .found) in
+    record {
+      command-uses = command-uses-told describes (none .0) (passed .commands-counted);
+      expression-uses = expression-uses-told describes (none .0) (none .1) (passed .expressions-counted);
+      command-depths = command-depths-told describes (none .0) (passed .commands-filled);
+      expression-depths = expression-depths-told describes (none .1) (passed .expressions-filled);
     }
 
 -- what the pass of refusal 8 asks, of what is known

@@ -6,13 +6,15 @@ use model::Found;
 use model::Refusal;
 ghost use Prim.Native.Nat.{ℕ, _+_, _<_};
 ghost use mathlib.Core.Path.{_≡_};
+ghost use lib.ListN.{replicate};
 ghost use Rattle.model.specs.declared.Found.the-variants.{At};
+ghost use Rattle.model.specs.Limits.{commandsMax, expressionsMax};
 ghost use Rattle.model.specs.Image.{designOf};
-ghost use Rattle.model.specs.Kinds.{commandKept, expressionKept};
 ghost use Rattle.model.specs.Nodes.{commandUsedOnce, expressionUsedOnce, commandDepthKept, expressionDepthKept};
 ghost use Rattle.model.specs.Verdict.{commandsFirst, lowestNode, verdict as verdictOf};
 ghost use Rattle.design.specs.Describes.{Describes};
 ghost use Rattle.design.specs.Kept.{RegistersKept, StatesKept};
+ghost use Rattle.nodes.specs.Tables.{NodesPassed, OnceWhere, NearWhere, NodesTold};
 ghost use Rattle.bodies.specs.Flows.{FlowKnown};
 ghost use Rattle.rules.specs.Stages.{fromChildren, fromShape, fromDepths, fromUses, fromNodes, fromStates, fromRegisters, fromLabels};
 
@@ -30,33 +32,57 @@ fn commands_first(command: Found, expression: Found) -> Found
     }
 }
 
-// The lowest node whose record breaks its rule.
-fn node_records(image: &[u8], design: Design) -> Found
-    requires { ⌜ Describes (now image) design ⌝ }
-    ensures { λ f. ⌜ f ≡ lowestNode (designOf (now (image .entry))) (commandKept (designOf (now (image .entry)))) (expressionKept (designOf (now (image .entry)))) ⌝ }
+// The lowest node whose record breaks its rule. The loops that judge the records fill the fresh tables
+// of uses and depths.
+fn node_records(
+    image: &[u8],
+    design: Design,
+    command_uses: &mut [u8; Design::COMMANDS],
+    expression_uses: &mut [u8; Design::EXPRESSIONS],
+    command_depths: &mut [u8; Design::COMMANDS],
+    expression_depths: &mut [u8; Design::EXPRESSIONS],
+) -> Found
+    requires { ⌜ Describes (now image) design
+        × StatesKept (designOf (now image))
+        × (now «command_uses» ≡ replicate commandsMax 0)
+        × (now «expression_uses» ≡ replicate expressionsMax 0)
+        × (now «command_depths» ≡ replicate commandsMax 0)
+        × (now «expression_depths» ≡ replicate expressionsMax 0) ⌝ }
+    ensures { λ f. ⌜ NodesPassed (designOf (now (image .entry))) f (now («command_uses» .exit)) (now («expression_uses» .exit)) (now («command_depths» .exit)) (now («expression_depths» .exit)) ⌝ }
 {
-    let command = nodes::kinds::commands(image, design);
-    let expression = nodes::kinds::expressions(image, design);
+    nodes::uses::use_bodies(command_uses, image, design);
+    let command = nodes::passes::commands(
+        image,
+        design,
+        command_uses,
+        expression_uses,
+        command_depths,
+    );
+    let expression = nodes::passes::expressions(image, design, expression_uses, expression_depths);
     commands_first(command, expression)
 }
 
 // The lowest node that is not used exactly once.
-fn node_uses(image: &[u8], design: Design) -> Found
-    requires { ⌜ FlowKnown (now image) design ⌝ }
+fn node_uses(image: &[u8], design: Design, commands: &[u8], expressions: &[u8]) -> Found
+    requires { ⌜ Describes (now image) design
+        × OnceWhere (commandUsedOnce (designOf (now image))) (now commands) (design .commands)
+        × OnceWhere (expressionUsedOnce (designOf (now image))) (now expressions) (design .expressions) ⌝ }
     ensures { λ f. ⌜ f ≡ lowestNode (designOf (now (image .entry))) (commandUsedOnce (designOf (now (image .entry)))) (expressionUsedOnce (designOf (now (image .entry)))) ⌝ }
 {
-    let command = nodes::uses::command_uses(image, design);
-    let expression = nodes::uses::expression_uses(image, design);
+    let command = nodes::uses::not_once(commands, design.commands);
+    let expression = nodes::uses::not_once(expressions, design.expressions);
     commands_first(command, expression)
 }
 
 // The lowest node that is too deep.
-fn node_depths(image: &[u8], design: Design) -> Found
-    requires { ⌜ FlowKnown (now image) design ⌝ }
+fn node_depths(image: &[u8], design: Design, commands: &[u8], expressions: &[u8]) -> Found
+    requires { ⌜ Describes (now image) design
+        × NearWhere (commandDepthKept (designOf (now image))) (now commands) (design .commands)
+        × NearWhere (expressionDepthKept (designOf (now image))) (now expressions) (design .expressions) ⌝ }
     ensures { λ f. ⌜ f ≡ lowestNode (designOf (now (image .entry))) (commandDepthKept (designOf (now (image .entry)))) (expressionDepthKept (designOf (now (image .entry)))) ⌝ }
 {
-    let command = nodes::depths::command_depths(image, design);
-    let expression = nodes::depths::expression_depths(image, design);
+    let command = nodes::depths::too_deep(commands, design.commands);
+    let expression = nodes::depths::too_deep(expressions, design.expressions);
     commands_first(command, expression)
 }
 
@@ -85,11 +111,18 @@ fn from_shape(image: &[u8], design: Design) -> Answer
 }
 
 // Refusal 7, and on.
-fn from_depths(image: &[u8], design: Design) -> Answer
-    requires { ⌜ FlowKnown (now image) design ⌝ }
+fn from_depths(
+    image: &[u8],
+    design: Design,
+    command_depths: &[u8],
+    expression_depths: &[u8],
+) -> Answer
+    requires { ⌜ FlowKnown (now image) design
+        × NearWhere (commandDepthKept (designOf (now image))) (now «command_depths») (design .commands)
+        × NearWhere (expressionDepthKept (designOf (now image))) (now «expression_depths») (design .expressions) ⌝ }
     ensures { λ a. ⌜ a ≡ fromDepths (designOf (now (image .entry))) ⌝ }
 {
-    let found = node_depths(image, design);
+    let found = node_depths(image, design, command_depths, expression_depths);
     match found {
         Found::At(place) => Answer::Refused(Refusal::Depth, place),
         Found::Nowhere => from_shape(image, design),
@@ -97,14 +130,22 @@ fn from_depths(image: &[u8], design: Design) -> Answer
 }
 
 // Refusal 6, and on.
-fn from_uses(image: &[u8], design: Design) -> Answer
-    requires { ⌜ FlowKnown (now image) design ⌝ }
+fn from_uses(
+    image: &[u8],
+    design: Design,
+    command_uses: &[u8],
+    expression_uses: &[u8],
+    command_depths: &[u8],
+    expression_depths: &[u8],
+) -> Answer
+    requires { ⌜ FlowKnown (now image) design
+        × NodesTold (now image) design (now «command_uses») (now «expression_uses») (now «command_depths») (now «expression_depths») ⌝ }
     ensures { λ a. ⌜ a ≡ fromUses (designOf (now (image .entry))) ⌝ }
 {
-    let found = node_uses(image, design);
+    let found = node_uses(image, design, command_uses, expression_uses);
     match found {
         Found::At(place) => Answer::Refused(Refusal::NodeUse, place),
-        Found::Nowhere => from_depths(image, design),
+        Found::Nowhere => from_depths(image, design, command_depths, expression_depths),
     }
 }
 
@@ -113,10 +154,28 @@ fn from_nodes(image: &[u8], design: Design) -> Answer
     requires { ⌜ Describes (now image) design × RegistersKept (designOf (now image)) × StatesKept (designOf (now image)) ⌝ }
     ensures { λ a. ⌜ a ≡ fromNodes (designOf (now (image .entry))) ⌝ }
 {
-    let found = node_records(image, design);
+    let mut command_uses = [0u8; Design::COMMANDS];
+    let mut expression_uses = [0u8; Design::EXPRESSIONS];
+    let mut command_depths = [0u8; Design::COMMANDS];
+    let mut expression_depths = [0u8; Design::EXPRESSIONS];
+    let found = node_records(
+        image,
+        design,
+        &mut command_uses,
+        &mut expression_uses,
+        &mut command_depths,
+        &mut expression_depths,
+    );
     match found {
         Found::At(place) => Answer::Refused(Refusal::NodeRecord, place),
-        Found::Nowhere => from_uses(image, design),
+        Found::Nowhere => from_uses(
+            image,
+            design,
+            &command_uses,
+            &expression_uses,
+            &command_depths,
+            &expression_depths,
+        ),
     }
 }
 

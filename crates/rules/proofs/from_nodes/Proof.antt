@@ -1,12 +1,9 @@
+use Rattle.nodes.proofs.CountRules.{counted-length}
 use Rattle.rules.specs.Stages.{fromNodes}
-use Rattle.rules.proofs.StageRules.{stage-refuses, stage-passes, known-registers, known-states, known-nodes, shape-known}
+use Rattle.rules.proofs.StageRules.{stage-refuses, stage-passes, known-nodes, nodes-told}
 use borrow.Author.Needs.{needs}
 use Rattle.rules.proofs.from_nodes.Statement.{statement}
 use Rattle.rules.proofs.from_nodes.Tie as tie
-use Rattle.rules.proofs.from_nodes.Reads as reads
-use Rattle.rules.proofs.from_nodes.Lts as lts
-use Rattle.rules.proofs.from_uses.Reads as from-uses-reads
-use Rattle.rules.proofs.node_records.Reads as node-records-reads
 
 node-records-requires : tie.Need-node-records-requires
 node-records-requires c κs = search needs
@@ -17,8 +14,20 @@ enum-known-found c = search needs
 enum-told : tie.Need-enum-told
 enum-told c = search needs
 
+slice-aggregate-from-uses : tie.Need-slice-aggregate-from-uses
+slice-aggregate-from-uses c = search (counted-length, needs)
+
+slice-aggregate-from-uses-2 : tie.Need-slice-aggregate-from-uses-2
+slice-aggregate-from-uses-2 c = search (counted-length, needs)
+
+slice-aggregate-from-uses-3 : tie.Need-slice-aggregate-from-uses-3
+slice-aggregate-from-uses-3 c = search needs
+
+slice-aggregate-from-uses-4 : tie.Need-slice-aggregate-from-uses-4
+slice-aggregate-from-uses-4 c = search needs
+
 from-uses-requires : tie.Need-from-uses-requires
-from-uses-requires c κs = search (known-registers, known-states, known-nodes, shape-known, needs)
+from-uses-requires c κs = search (known-nodes, nodes-told)
 
 returns : tie.Need-returns
 unfolding fromNodes
@@ -35,6 +44,10 @@ from-nodes-spec =
     node-records-requires
     enum-known-found
     enum-told
+    slice-aggregate-from-uses
+    slice-aggregate-from-uses-2
+    slice-aggregate-from-uses-3
+    slice-aggregate-from-uses-4
     from-uses-requires
     returns
     returns-2)

@@ -1,26 +1,22 @@
-use Rattle.rules.proofs.StageRules.{both-families, expression-small}
+use Rattle.design.proofs.Laws.{commands-count, expressions-count}
+use Rattle.nodes.proofs.DepthRules.{near-found}
+use Rattle.rules.proofs.StageRules.{both-families, expression-few}
 use borrow.Author.Needs.{needs}
 use Rattle.rules.proofs.node_depths.Statement.{statement}
 use Rattle.rules.proofs.node_depths.Tie as tie
-use Rattle.rules.proofs.node_depths.Reads as reads
-use Rattle.rules.proofs.node_depths.Lts as lts
-use Rattle.nodes.proofs.depths.command_depths.Reads as command-depths-reads
-use Rattle.nodes.proofs.depths.expression_depths.Reads as expression-depths-reads
-use Rattle.rules.proofs.commands_first.Reads as commands-first-reads
 
-command-depths-requires : tie.Need-command-depths-requires
-command-depths-requires c κs = search needs
+too-deep-requires : tie.Need-too-deep-requires
+too-deep-requires c κs = search needs
 
-expression-depths-requires : tie.Need-expression-depths-requires
-expression-depths-requires c κs = search needs
+too-deep-requires-2 : tie.Need-too-deep-requires-2
+too-deep-requires-2 c κs = search needs
 
 commands-first-requires : tie.Need-commands-first-requires
-commands-first-requires c κs = λ n e. search (expression-small, needs)
+commands-first-requires c κs = λ n e. search (expression-few, needs)
 
 returns : tie.Need-returns
-returns c = search (both-families, needs)
+returns c = search (both-families, near-found, commands-count, expressions-count, needs)
 
 pub node-depths-spec : {M : Type 1} → statement M
 node-depths-spec =
-    tie.close
-    (tie.spec command-depths-requires expression-depths-requires commands-first-requires returns)
+    tie.close (tie.spec too-deep-requires too-deep-requires-2 commands-first-requires returns)
