@@ -1,6 +1,6 @@
 -- Laws of the passes over depths: the depth of a node from the table of its parts' depths, and the table itself.
 use Prim.Native.Nat.{ℕ, suc, max, _+_, _≤_, _<_}
-use mathlib.Core.Path.{_≡_, sym, _∙_, ap}
+use mathlib.Core.Path.{_≡_, refl, sym, _∙_, ap}
 use mathlib.Core.Logic.{⊎-elim}
 use mathlib.Core.Bool.{Bool, true, false}
 use mathlib.Core.List.{List}
@@ -13,22 +13,24 @@ use Rattle.model.specs.declared.Found.the-variants.{Nowhere}
 use Rattle.model.specs.Indices.{lowestFailing}
 use Rattle.model.specs.Limits.{depthMax}
 use Rattle.model.specs.Image.{Commands, Expressions, designOf}
-use Rattle.model.specs.Kinds.{commandKind, expressionKind, Operation, operates, commandKept, expressionKept}
+use Rattle.model.specs.Kinds.{sequences, branches, commandKind, expressionKind, Operation, operates, commandKept, expressionKept}
 use Rattle.model.specs.Trees.{exprOf, cmdOf, exprDepth, cmdDepth}
 use Rattle.model.specs.Nodes.{commandDepthKept, expressionDepthKept}
 use Rattle.model.proofs.Laws.Booleans.{decide}
 use Rattle.model.proofs.Laws.Indices.{below-suc}
-use Rattle.model.proofs.Laws.Kinds.{sequences-number, branches-number, no-operation-zero, no-operation-one, no-operation-above}
+use Rattle.model.proofs.Laws.Kinds.{kind-sequences, kind-branches, sequences-number, branches-number, no-operation-zero, no-operation-one, no-operation-above}
 use Rattle.model.proofs.Laws.Trees.{cmd-flat-depth, cmd-sequence-depth, cmd-branch-depth, expr-flat-depth, expr-binary-depth}
 use Rattle.design.specs.declared.Design.{Design}
 use Rattle.design.specs.Records.{nodeIn}
 use Rattle.design.specs.Describes.{Describes}
 use Rattle.design.specs.Resets.{Filled}
 use Rattle.design.proofs.Laws.{commands-count, expressions-count}
+use Rattle.design.specs.NodesAt.{CommandAt, ExpressionAt}
+use Rattle.design.proofs.NodeRules.{command-kind-is, command-kind-of, a-is, b-is, c-is, sequence-a-below, sequence-b-below, branch-b-below, branch-c-below, expression-kind-is, first-is, second-is, operation}
 use Rattle.design.proofs.ResetRules.{filled-none, filled-more, filled-to}
 use Rattle.nodes.specs.Tables.{keptCommands, keptExpressions, depthEntry, Depths, NearWhere}
 use Rattle.nodes.proofs.CountRules.{failing-same}
-use Rattle.nodes.proofs.PartRules.{command-byte, expression-byte, is-sequence, is-branch, is-operation, command-a, command-b, command-c, expression-a, expression-b, sequence-a, sequence-b, branch-b, branch-c, operation-a, operation-b}
+use Rattle.nodes.proofs.PartRules.{operation-a, operation-b}
 
 -- ---- the table
 -- a loop over so many nodes as the design has is at its end
@@ -52,45 +54,48 @@ depth-one : {depth : ℕ} → depth ≡ 1 → 1 ≡ depthEntry depth
 depth-one e = rw e
 
 -- ---- commands
-module _ {image : List ℕ} {x : Design} (d : Describes image x) {n k : ℕ} (l : n < x .commands) (same : k ≡ nodeIn image (x .«commands_at») n .kind) where
+module _ {image : List ℕ} {x : Design} {place n k : ℕ} (here : CommandAt image x place n) (same : k ≡ nodeIn image place n .kind) where
   pub flat-depth : (k ≡ 2 → ⊥) → (k ≡ 5 → ⊥) → 1 ≡ depthEntry (cmdDepth (cmdOf (designOf image) n))
   flat-depth two five =
+      let byte = sym (command-kind-is here refl same) in
       depth-one
       (cmd-flat-depth
       (designOf image)
       n
-      (λ e. two (sequences-number k (ap commandKind (command-byte d l same) ∙ e)))
-      (λ e. five (branches-number k (ap commandKind (command-byte d l same) ∙ e))))
+      (λ e. two (sequences-number k (ap commandKind byte ∙ e)))
+      (λ e. five (branches-number k (ap commandKind byte ∙ e))))
 
-  module _ (kept : commandKept (designOf image) n ≡ true) {table : List ℕ} {a b r : ℕ} (t : Depths table (λ m. cmdDepth (cmdOf (designOf image) m)) n) where
+  module _ {table : List ℕ} {a b r : ℕ} (t : Depths table (λ m. cmdDepth (cmdOf (designOf image) m)) n) where
     pub sequence-depth :
         k ≡ 2
-        → a ≡ nodeIn image (x .«commands_at») n .a
-        → b ≡ nodeIn image (x .«commands_at») n .b
+        → a ≡ nodeIn image place n .a
+        → b ≡ nodeIn image place n .b
         → r ≡ depthEntry (max (getD table a 0) (getD table b 0) + 1)
         → r ≡ depthEntry (cmdDepth (cmdOf (designOf image) n))
     sequence-depth e p q h =
-        let near = sequence-a d kept l same e p in
-        let nearer = sequence-b d kept l same e q in
-        let parts = two-parts t (command-a d l p) (command-b d l q) near nearer in
-        h ∙ sym parts ∙ ap depthEntry (sym (cmd-sequence-depth (designOf image) n (is-sequence d l same e) (rw (command-a d l p) at near) (rw (command-b d l q) at nearer)))
+        let near = sequence-a-below here e same p in
+        let nearer = sequence-b-below here e same q in
+        let parts = two-parts t (a-is here p) (b-is here q) near nearer in
+        let kind = command-kind-of here sequences refl same (kind-sequences e) in
+        h ∙ sym parts ∙ ap depthEntry (sym (cmd-sequence-depth (designOf image) n kind (rw (a-is here p) at near) (rw (b-is here q) at nearer)))
 
     pub branch-depth :
         k ≡ 5
-        → a ≡ nodeIn image (x .«commands_at») n .b
-        → b ≡ nodeIn image (x .«commands_at») n .c
+        → a ≡ nodeIn image place n .b
+        → b ≡ nodeIn image place n .c
         → r ≡ depthEntry (max (getD table a 0) (getD table b 0) + 1)
         → r ≡ depthEntry (cmdDepth (cmdOf (designOf image) n))
     branch-depth e p q h =
-        let near = branch-b d kept l same e p in
-        let nearer = branch-c d kept l same e q in
-        let parts = two-parts t (command-b d l p) (command-c d l q) near nearer in
-        h ∙ sym parts ∙ ap depthEntry (sym (cmd-branch-depth (designOf image) n (is-branch d l same e) (rw (command-b d l p) at near) (rw (command-c d l q) at nearer)))
+        let near = branch-b-below here e same p in
+        let nearer = branch-c-below here e same q in
+        let parts = two-parts t (b-is here p) (c-is here q) near nearer in
+        let kind = command-kind-of here branches refl same (kind-branches e) in
+        h ∙ sym parts ∙ ap depthEntry (sym (cmd-branch-depth (designOf image) n kind (rw (b-is here p) at near) (rw (c-is here q) at nearer)))
 
 -- ---- expressions
-module _ {image : List ℕ} {x : Design} (d : Describes image x) {n k : ℕ} (l : n < x .expressions) (same : k ≡ nodeIn image (x .«expressions_at») n .kind) where
+module _ {image : List ℕ} {x : Design} {place n k : ℕ} (here : ExpressionAt image x place n) (same : k ≡ nodeIn image place n .kind) where
   no-operation : ((o : Operation) → expressionKind k ≡ operates o → ⊥) → 1 ≡ depthEntry (exprDepth (exprOf (designOf image) n))
-  no-operation h = depth-one (expr-flat-depth (designOf image) n (λ o e. h o (ap expressionKind (expression-byte d l same) ∙ e)))
+  no-operation h = depth-one (expr-flat-depth (designOf image) n (λ o e. h o (ap expressionKind (sym (expression-kind-is here same)) ∙ e)))
 
   pub low-depth : k < 2 → 1 ≡ depthEntry (exprDepth (exprOf (designOf image) n))
   low-depth h = no-operation (λ o e. ⊎-elim (λ (z : k < 1). no-operation-zero (omega arith) o e) (λ (z : k ≡ 1). no-operation-one z o e) (below-suc h))
@@ -98,20 +103,20 @@ module _ {image : List ℕ} {x : Design} (d : Describes image x) {n k : ℕ} (l 
   pub high-depth : 9 ≤ k → 1 ≡ depthEntry (exprDepth (exprOf (designOf image) n))
   high-depth h = no-operation (no-operation-above h)
 
-  module _ (kept : expressionKept (designOf image) n ≡ true) {table : List ℕ} {a b r : ℕ} (t : Depths table (λ m. exprDepth (exprOf (designOf image) m)) n) where
+  module _ {table : List ℕ} {a b r : ℕ} (t : Depths table (λ m. exprDepth (exprOf (designOf image) m)) n) where
     pub operation-depth :
         2 ≤ k
         → k < 9
-        → a ≡ nodeIn image (x .«expressions_at») n .a
-        → b ≡ nodeIn image (x .«expressions_at») n .b
+        → a ≡ nodeIn image place n .a
+        → b ≡ nodeIn image place n .b
         → r ≡ depthEntry (max (getD table a 0) (getD table b 0) + 1)
         → r ≡ depthEntry (exprDepth (exprOf (designOf image) n))
     operation-depth low high p q h =
-        let near = operation-a d kept l same low high p in
-        let nearer = operation-b d kept l same low high q in
-        let parts = two-parts t (expression-a d l p) (expression-b d l q) near nearer in
-        let o = is-operation d l same low high in
-        h ∙ sym parts ∙ ap depthEntry (sym (expr-binary-depth (designOf image) n (o .1) (rw (expression-a d l p) at near) (rw (expression-b d l q) at nearer)))
+        let near = operation-a here low high same p in
+        let nearer = operation-b here low high same q in
+        let parts = two-parts t (first-is here p) (second-is here q) near nearer in
+        let o = operation here high (omega arith) (λ e. omega arith) same in
+        h ∙ sym parts ∙ ap depthEntry (sym (expr-binary-depth (designOf image) n (o .1) (rw (first-is here p) at near) (rw (second-is here q) at nearer)))
 
 -- ---- the rule, tested on an entry
 entry-small : (depth : ℕ) → leb (depthEntry depth) depthMax ≡ leb depth depthMax

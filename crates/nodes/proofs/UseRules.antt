@@ -1,8 +1,7 @@
 -- The uses of a node by its kind, as they are counted, and what the tables then tell for refusal 6.
 use Prim.Native.Nat.{ℕ, _≤_, _<_}
-use mathlib.Core.Path.{_≡_, refl, _∙_, ap}
+use mathlib.Core.Path.{_≡_, refl, sym, _∙_, ap}
 use mathlib.Core.Logic.{_⊎_, inl, inr, ⊎-elim}
-use mathlib.Core.Bool.{true}
 use mathlib.Core.List.{List, [], _∷_, _++_}
 use native.Mathlib.Omega.{arith}
 use lib.ListN.{length, replicate}
@@ -12,15 +11,17 @@ use Rattle.model.specs.Image.{Commands, Expressions, State, Node, designOf, sta
 use Rattle.model.specs.Kinds.{CommandKind, skips, assigns, sequences, falls, goes, branches, unknownCommand, ExpressionKind, constants, reads, unknownExpression, Operation, operates, commandKind, expressionKind, commandKept, expressionKept}
 use Rattle.model.specs.Nodes.{commandParts, expressionsOf, expressionParts, commandUses, expressionUses, commandUsedOnce, expressionUsedOnce}
 use Rattle.model.proofs.Laws.Indices.{below-suc}
-use Rattle.model.proofs.Laws.Kinds.{assigns-number, sequences-number, branches-number, no-operation-zero, no-operation-one, no-operation-above}
+use Rattle.model.proofs.Laws.Kinds.{kind-assigns, kind-sequences, kind-branches, assigns-number, sequences-number, branches-number, no-operation-zero, no-operation-one, no-operation-above}
 use Rattle.model.proofs.Exact.Records.{state-iff}
 use Rattle.design.specs.declared.Design.{Design}
 use Rattle.design.specs.Records.{stateIn, nodeIn}
 use Rattle.design.specs.Describes.{Describes}
 use Rattle.design.specs.Kept.{StatesKept}
-use Rattle.design.proofs.Laws.{states-count, commands-count, state-in}
+use Rattle.design.proofs.Laws.{states-count, commands-count, expressions-count, state-in}
+use Rattle.design.specs.NodesAt.{CommandAt, ExpressionAt}
+use Rattle.design.proofs.NodeRules.{command-kind-is, command-kind-of, a-is, b-is, c-is, assigned-expression, condition, expression-kind-is, first-is, second-is, operation}
 use Rattle.nodes.specs.Tables.{commandOf, partsOf, expressionOf, operandsOf, keptCommands, keptExpressions, countUse, countUses, OnceWhere}
-use Rattle.nodes.proofs.PartRules.{commands-most, expressions-most, command-byte, expression-byte, is-assign, is-sequence, is-branch, is-operation, command-a, command-b, command-c, expression-a, expression-b, assign-a, branch-a}
+use Rattle.nodes.proofs.PartRules.{commands-most, expressions-most}
 use Rattle.nodes.proofs.CountRules.{counted-once}
 
 -- ---- one use, and two
@@ -85,26 +86,32 @@ no-operands (operates o) x h = absurd (h o refl)
 no-operands unknownExpression x h = refl
 
 -- ---- a command's uses, from its kind byte
-module _ {image : List ℕ} {x : Design} (d : Describes image x) {n k : ℕ} (l : n < x .commands) (same : k ≡ nodeIn image (x .«commands_at») n .kind) where
+module _ {image : List ℕ} {x : Design} {place n k : ℕ} (here : CommandAt image x place n) (same : k ≡ nodeIn image place n .kind) where
+  kind-of : (c : CommandKind) → commandKind k ≡ c → commandKind (commandAt (designOf image) n .kind) ≡ c
+  kind-of c e = command-kind-of here c refl same e
+
+  byte : k ≡ commandAt (designOf image) n .kind
+  byte = sym (command-kind-is here refl same)
+
   pub uses-sequence :
       (t : List ℕ) {u v : List ℕ} {a b : ℕ}
       → k ≡ 2
-      → a ≡ nodeIn image (x .«commands_at») n .a
-      → b ≡ nodeIn image (x .«commands_at») n .b
+      → a ≡ nodeIn image place n .a
+      → b ≡ nodeIn image place n .b
       → u ≡ countUse t a
       → v ≡ countUse u b
       → v ≡ countUses t (partsOf (designOf image) n)
-  uses-sequence t e p q g h = use-two t (sequence-parts (commandAt (designOf image) n) (is-sequence d l same e)) (command-a d l p) (command-b d l q) g h
+  uses-sequence t e p q g h = use-two t (sequence-parts (commandAt (designOf image) n) (kind-of sequences (kind-sequences e))) (a-is here p) (b-is here q) g h
 
   pub uses-branch :
       (t : List ℕ) {u v : List ℕ} {a b : ℕ}
       → k ≡ 5
-      → a ≡ nodeIn image (x .«commands_at») n .b
-      → b ≡ nodeIn image (x .«commands_at») n .c
+      → a ≡ nodeIn image place n .b
+      → b ≡ nodeIn image place n .c
       → u ≡ countUse t a
       → v ≡ countUse u b
       → v ≡ countUses t (partsOf (designOf image) n)
-  uses-branch t e p q g h = use-two t (branch-parts (commandAt (designOf image) n) (is-branch d l same e)) (command-b d l p) (command-c d l q) g h
+  uses-branch t e p q g h = use-two t (branch-parts (commandAt (designOf image) n) (kind-of branches (kind-branches e))) (b-is here p) (c-is here q) g h
 
   pub uses-no-part : {t : List ℕ} → (k ≡ 2 → ⊥) → (k ≡ 5 → ⊥) → t ≡ countUses t (partsOf (designOf image) n)
   uses-no-part two five =
@@ -112,14 +119,14 @@ module _ {image : List ℕ} {x : Design} (d : Describes image x) {n k : ℕ} (l 
       (no-parts
       (commandKind (commandAt (designOf image) n .kind))
       (commandAt (designOf image) n)
-      (λ e. two (sequences-number k (ap commandKind (command-byte d l same) ∙ e)))
-      (λ e. five (branches-number k (ap commandKind (command-byte d l same) ∙ e))))
+      (λ e. two (sequences-number k (ap commandKind byte ∙ e)))
+      (λ e. five (branches-number k (ap commandKind byte ∙ e))))
 
-  pub uses-expression : (t : List ℕ) {v : List ℕ} {a : ℕ} → (k ≡ 1) ⊎ (k ≡ 5) → a ≡ nodeIn image (x .«commands_at») n .a → v ≡ countUse t a → v ≡ countUses t (expressionOf (designOf image) n)
+  pub uses-expression : (t : List ℕ) {v : List ℕ} {a : ℕ} → (k ≡ 1) ⊎ (k ≡ 5) → a ≡ nodeIn image place n .a → v ≡ countUse t a → v ≡ countUses t (expressionOf (designOf image) n)
   uses-expression t e p h =
       ⊎-elim
-      (λ (one : k ≡ 1). use-one t (assign-expression (commandAt (designOf image) n) (is-assign d l same one)) (command-a d l p) h)
-      (λ (five : k ≡ 5). use-one t (branch-expression (commandAt (designOf image) n) (is-branch d l same five)) (command-a d l p) h)
+      (λ (one : k ≡ 1). use-one t (assign-expression (commandAt (designOf image) n) (kind-of assigns (kind-assigns one))) (a-is here p) h)
+      (λ (five : k ≡ 5). use-one t (branch-expression (commandAt (designOf image) n) (kind-of branches (kind-branches five))) (a-is here p) h)
       e
 
   pub uses-no-expression : {t : List ℕ} → ((k ≡ 1) ⊎ (k ≡ 5) → ⊥) → t ≡ countUses t (expressionOf (designOf image) n)
@@ -128,26 +135,29 @@ module _ {image : List ℕ} {x : Design} (d : Describes image x) {n k : ℕ} (l 
       (no-expression
       (commandKind (commandAt (designOf image) n .kind))
       (commandAt (designOf image) n)
-      (λ e. h (inl (assigns-number k (ap commandKind (command-byte d l same) ∙ e))))
-      (λ e. h (inr (branches-number k (ap commandKind (command-byte d l same) ∙ e)))))
+      (λ e. h (inl (assigns-number k (ap commandKind byte ∙ e))))
+      (λ e. h (inr (branches-number k (ap commandKind byte ∙ e)))))
 
   -- the expression of a command is one
-  pub expression-inside : {a : ℕ} → commandKept (designOf image) n ≡ true → (k ≡ 1) ⊎ (k ≡ 5) → a ≡ nodeIn image (x .«commands_at») n .a → a < 2048
-  expression-inside kept e p = expressions-most d (⊎-elim (λ (one : k ≡ 1). assign-a d kept l same one p) (λ (five : k ≡ 5). branch-a d kept l same five p) e)
+  pub expression-inside : {a : ℕ} → (k ≡ 1) ⊎ (k ≡ 5) → a ≡ nodeIn image place n .a → a < 2048
+  expression-inside e p =
+      let below = ⊎-elim (λ (one : k ≡ 1). assigned-expression here one same p) (λ (five : k ≡ 5). condition here five same p) e in
+      expressions-most (here .describes) (omega (arith, expressions-count (here .describes)))
 
 -- ---- an expression's uses, from its kind byte
-module _ {image : List ℕ} {x : Design} (d : Describes image x) {n k : ℕ} (l : n < x .expressions) (same : k ≡ nodeIn image (x .«expressions_at») n .kind) where
+module _ {image : List ℕ} {x : Design} {place n k : ℕ} (here : ExpressionAt image x place n) (same : k ≡ nodeIn image place n .kind) where
   pub uses-operation :
       (t : List ℕ) {u v : List ℕ} {a b : ℕ}
       → 2 ≤ k
       → k < 9
-      → a ≡ nodeIn image (x .«expressions_at») n .a
-      → b ≡ nodeIn image (x .«expressions_at») n .b
+      → a ≡ nodeIn image place n .a
+      → b ≡ nodeIn image place n .b
       → u ≡ countUse t a
       → v ≡ countUse u b
       → v ≡ countUses t (operandsOf (designOf image) n)
   uses-operation t low high p q g h =
-      use-two t (operands (expressionAt (designOf image) n) (is-operation d l same low high .1)) (expression-a d l p) (expression-b d l q) g h
+      let o = operation here high (omega arith) (λ e. omega arith) same in
+      use-two t (operands (expressionAt (designOf image) n) (o .1)) (first-is here p) (second-is here q) g h
 
   no-operation : {t : List ℕ} → ((o : Operation) → expressionKind k ≡ operates o → ⊥) → t ≡ countUses t (operandsOf (designOf image) n)
   no-operation h =
@@ -155,7 +165,7 @@ module _ {image : List ℕ} {x : Design} (d : Describes image x) {n k : ℕ} (l 
       (no-operands
       (expressionKind (expressionAt (designOf image) n .kind))
       (expressionAt (designOf image) n)
-      (λ o e. h o (ap expressionKind (expression-byte d l same) ∙ e)))
+      (λ o e. h o (ap expressionKind (sym (expression-kind-is here same)) ∙ e)))
 
   pub uses-low : {t : List ℕ} → k < 2 → t ≡ countUses t (operandsOf (designOf image) n)
   uses-low h = no-operation (λ o e. ⊎-elim (λ (z : k < 1). no-operation-zero (omega arith) o e) (λ (z : k ≡ 1). no-operation-one z o e) (below-suc h))

@@ -4,15 +4,13 @@ use design::Design;
 use model::Found;
 ghost use Prim.Native.Nat.{_+_, _<_, _≤_, max};
 ghost use mathlib.Core.Path.{_≡_};
-ghost use mathlib.Core.Bool.{true};
 ghost use lib.Dec.{leb};
 ghost use lib.ListN.{length, getD};
 ghost use Rattle.model.specs.Indices.{lowestFailing};
 ghost use Rattle.model.specs.Limits.{depthMax};
 ghost use Rattle.model.specs.Image.{designOf};
-ghost use Rattle.model.specs.Kinds.{commandKept, expressionKept};
 ghost use Rattle.model.specs.Trees.{exprOf, cmdOf, exprDepth, cmdDepth};
-ghost use Rattle.design.specs.Describes.{Describes};
+ghost use Rattle.design.specs.NodesAt.{CommandAt, ExpressionAt};
 ghost use Rattle.nodes.specs.Tables.{depthEntry, Depths};
 
 // The greatest depth, as an entry of a table.
@@ -40,9 +38,7 @@ fn above(p: u8, q: u8) -> u8
 
 // The entry of command n, from those of the commands below n.
 pub fn command_depth(image: &[u8], design: Design, depths: &[u8; Design::COMMANDS], n: usize) -> u8
-    requires { ⌜ Describes (now image) design
-        × (n < design .commands)
-        × (commandKept (designOf (now image)) n ≡ true)
+    requires { ⌜ CommandAt (now image) design (design .«commands_at») n
         × Depths (now depths) (λ k. cmdDepth (cmdOf (designOf (now image)) k)) n ⌝ }
     ensures { λ r. ⌜ r ≡ depthEntry (cmdDepth (cmdOf (designOf (now (image .entry))) n)) ⌝ }
 {
@@ -65,9 +61,7 @@ pub fn expression_depth(
     depths: &[u8; Design::EXPRESSIONS],
     n: usize,
 ) -> u8
-    requires { ⌜ Describes (now image) design
-        × (n < design .expressions)
-        × (expressionKept (designOf (now image)) n ≡ true)
+    requires { ⌜ ExpressionAt (now image) design (design .«expressions_at») n
         × Depths (now depths) (λ k. exprDepth (exprOf (designOf (now image)) k)) n ⌝ }
     ensures { λ r. ⌜ r ≡ depthEntry (exprDepth (exprOf (designOf (now (image .entry))) n)) ⌝ }
 {

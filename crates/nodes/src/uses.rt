@@ -4,14 +4,13 @@ use design::Design;
 use model::Found;
 ghost use Prim.Native.Nat.{_+_, _<_, _≤_, min};
 ghost use mathlib.Core.Path.{_≡_};
-ghost use mathlib.Core.Bool.{true};
 ghost use lib.Dec.{eqb};
 ghost use lib.ListN.{length, getD};
 ghost use Rattle.model.specs.Indices.{lowestFailing, joinBelow};
 ghost use Rattle.model.specs.Limits.{commandsMax, expressionsMax};
 ghost use Rattle.model.specs.Image.{designOf};
-ghost use Rattle.model.specs.Kinds.{commandKept, expressionKept};
 ghost use Rattle.design.specs.Describes.{Describes};
+ghost use Rattle.design.specs.NodesAt.{CommandAt, ExpressionAt};
 ghost use Rattle.design.specs.Kept.{StatesKept};
 ghost use Rattle.nodes.specs.Tables.{commandOf, partsOf, expressionOf, operandsOf, countUse, countUses};
 
@@ -45,9 +44,7 @@ fn use_expression(table: &mut [u8; Design::EXPRESSIONS], k: usize)
 
 // Command n uses the commands that are its parts.
 pub fn use_parts(table: &mut [u8; Design::COMMANDS], image: &[u8], design: Design, n: usize)
-    requires { ⌜ Describes (now image) design
-        × (n < design .commands)
-        × (commandKept (designOf (now image)) n ≡ true) ⌝ }
+    requires { ⌜ CommandAt (now image) design (design .«commands_at») n ⌝ }
     ensures { λ r. ⌜ now (table .exit) ≡ countUses (now (table .entry)) (partsOf (designOf (now (image .entry))) n) ⌝ }
 {
     let at = design.commands_at;
@@ -75,9 +72,7 @@ pub fn use_command_expression(
     design: Design,
     n: usize,
 )
-    requires { ⌜ Describes (now image) design
-        × (n < design .commands)
-        × (commandKept (designOf (now image)) n ≡ true) ⌝ }
+    requires { ⌜ CommandAt (now image) design (design .«commands_at») n ⌝ }
     ensures { λ r. ⌜ now (table .exit) ≡ countUses (now (table .entry)) (expressionOf (designOf (now (image .entry))) n) ⌝ }
 {
     let at = design.commands_at;
@@ -91,9 +86,7 @@ pub fn use_command_expression(
 
 // Expression n uses the expressions that are its parts.
 pub fn use_operands(table: &mut [u8; Design::EXPRESSIONS], image: &[u8], design: Design, n: usize)
-    requires { ⌜ Describes (now image) design
-        × (n < design .expressions)
-        × (expressionKept (designOf (now image)) n ≡ true) ⌝ }
+    requires { ⌜ ExpressionAt (now image) design (design .«expressions_at») n ⌝ }
     ensures { λ r. ⌜ now (table .exit) ≡ countUses (now (table .entry)) (operandsOf (designOf (now (image .entry))) n) ⌝ }
 {
     let at = design.expressions_at;

@@ -1,10 +1,9 @@
 -- What acceptance gives to every caller, once and for all: the image keeps the rules, so each record, node and body is well formed. An acceptance by the
 -- image checks has count 0, since they end in the nearest of refusals, or in none.
 use Prim.Native.Nat.{ℕ}
-use mathlib.Core.Path.{_≡_, refl, sym, _∙_, ap}
+use mathlib.Core.Path.{_≡_, sym, _∙_, ap}
 use mathlib.Core.Bool.{Bool, true, false, cond}
 use mathlib.Core.List.{List, [], _∷_}
-use native.Mathlib.Omega.{arith}
 use lib.Dec.{ltb}
 use lib.ListN.{length}
 use Rattle.model.specs.declared.Found.{Found}
@@ -13,10 +12,10 @@ use Rattle.model.specs.declared.Refusal.{Refusal}
 use Rattle.model.specs.declared.Answer.{Answer}
 use Rattle.model.specs.declared.Answer.the-variants.{Accepted, Refused}
 use Rattle.model.specs.Indices.{joinBelow}
-use Rattle.model.specs.Image.{Design as Table, designOf}
+use Rattle.model.specs.Image.{designOf}
 use Rattle.model.specs.Flow.{nearer, nearest, stateFlowFaults, flowAnswer}
 use Rattle.model.specs.Rules.{Keeps}
-use Rattle.model.specs.Verdict.{_before_, refusedAt, atZeroUnless, designVerdict, verdict}
+use Rattle.model.specs.Verdict.{_before_, refusedAt, designVerdict, verdict}
 use Rattle.model.proofs.Laws.Verdict.{refused-is-not-accepted}
 use Rattle.model.proofs.Exact.{verdict-exact}
 use Rattle.model.proofs.Exact.Records.{register-iff, state-iff, command-iff, expression-iff}

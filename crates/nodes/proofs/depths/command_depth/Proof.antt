@@ -1,6 +1,6 @@
 use Rattle.nodes.proofs.PartRules.{command-part-laws}
 use Rattle.nodes.proofs.DepthRules.{depth-laws}
-use Rattle.design.proofs.Laws.{command-inside}
+use Rattle.design.proofs.NodeRules.{command-place-inside}
 use borrow.Author.Needs.{needs}
 use Rattle.nodes.proofs.depths.command_depth.Statement.{statement}
 use Rattle.nodes.proofs.depths.command_depth.Tie as tie
@@ -13,16 +13,16 @@ use Rattle.design.proofs.Design.part_c.Reads as part-c-reads
 use Rattle.nodes.proofs.depths.above.Reads as above-reads
 
 kind-requires : tie.Need-kind-requires
-kind-requires c κs = search (command-inside, needs)
+kind-requires c κs = search (command-place-inside, needs)
 
 part-a-requires : tie.Need-part-a-requires
-part-a-requires c κs = search (command-inside, needs)
+part-a-requires c κs = search (command-place-inside, needs)
 
 part-b-requires : tie.Need-part-b-requires
-part-b-requires c κs = search (command-inside, needs)
+part-b-requires c κs = search (command-place-inside, needs)
 
 part-c-requires : tie.Need-part-c-requires
-part-c-requires c κs = search (command-inside, needs)
+part-c-requires c κs = search (command-place-inside, needs)
 
 element-copy-out-above : tie.Need-element-copy-out-above
 element-copy-out-above c = search (command-part-laws, depth-laws, needs)

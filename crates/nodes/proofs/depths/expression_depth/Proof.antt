@@ -1,6 +1,6 @@
 use Rattle.nodes.proofs.PartRules.{expression-part-laws}
 use Rattle.nodes.proofs.DepthRules.{depth-laws}
-use Rattle.design.proofs.Laws.{expression-inside}
+use Rattle.design.proofs.NodeRules.{expression-place-inside}
 use borrow.Author.Needs.{needs}
 use Rattle.nodes.proofs.depths.expression_depth.Statement.{statement}
 use Rattle.nodes.proofs.depths.expression_depth.Tie as tie
@@ -12,13 +12,13 @@ use Rattle.design.proofs.Design.part_b.Reads as part-b-reads
 use Rattle.nodes.proofs.depths.above.Reads as above-reads
 
 kind-requires : tie.Need-kind-requires
-kind-requires c κs = search (expression-inside, needs)
+kind-requires c κs = search (expression-place-inside, needs)
 
 part-a-requires : tie.Need-part-a-requires
-part-a-requires c κs = search (expression-inside, needs)
+part-a-requires c κs = search (expression-place-inside, needs)
 
 part-b-requires : tie.Need-part-b-requires
-part-b-requires c κs = search (expression-inside, needs)
+part-b-requires c κs = search (expression-place-inside, needs)
 
 element-copy-out-above : tie.Need-element-copy-out-above
 element-copy-out-above c = search (expression-part-laws, depth-laws, needs)

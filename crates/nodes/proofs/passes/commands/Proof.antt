@@ -5,7 +5,7 @@ use Rattle.model.specs.Trees.{cmdOf, cmdDepth}
 use Rattle.model.proofs.Laws.Passes.{Passed, pass-laws}
 use Rattle.design.specs.Resets.{Filled}
 use Rattle.nodes.specs.Tables.{partsOf, expressionOf, depthEntry}
-use Rattle.nodes.proofs.PartRules.{counts, just-kept}
+use Rattle.nodes.proofs.PartRules.{counts, judged-command}
 use Rattle.nodes.proofs.CountRules.{Counted, count-laws}
 use Rattle.nodes.proofs.DepthRules.{table-laws}
 use borrow.Author.Needs.{needs}
@@ -33,13 +33,13 @@ returns : tie.Need-returns Inv-loop μ-loop
 returns c = search (pass-laws, count-laws, table-laws, counts, needs)
 
 use-parts-requires : tie.Need-use-parts-requires Inv-loop μ-loop
-use-parts-requires c κs = search (just-kept, needs)
+use-parts-requires c κs = search (judged-command, needs)
 
 use-command-expression-requires : tie.Need-use-command-expression-requires Inv-loop μ-loop
-use-command-expression-requires c κs = search (just-kept, needs)
+use-command-expression-requires c κs = search (judged-command, needs)
 
 command-depth-requires : tie.Need-command-depth-requires Inv-loop μ-loop
-command-depth-requires c κs = search (just-kept, table-laws, needs)
+command-depth-requires c κs = search (judged-command, table-laws, needs)
 
 element-write-depths : tie.Need-element-write-depths Inv-loop μ-loop
 element-write-depths c = search (counts, needs)

@@ -5,7 +5,7 @@ use Rattle.model.specs.Trees.{exprOf, exprDepth}
 use Rattle.model.proofs.Laws.Passes.{Passed, pass-laws}
 use Rattle.design.specs.Resets.{Filled}
 use Rattle.nodes.specs.Tables.{operandsOf, depthEntry}
-use Rattle.nodes.proofs.PartRules.{counts, just-kept}
+use Rattle.nodes.proofs.PartRules.{counts, judged-expression}
 use Rattle.nodes.proofs.CountRules.{Counted, count-laws}
 use Rattle.nodes.proofs.DepthRules.{table-laws}
 use borrow.Author.Needs.{needs}
@@ -32,10 +32,10 @@ returns : tie.Need-returns Inv-loop μ-loop
 returns c = search (pass-laws, count-laws, table-laws, counts, needs)
 
 use-operands-requires : tie.Need-use-operands-requires Inv-loop μ-loop
-use-operands-requires c κs = search (just-kept, needs)
+use-operands-requires c κs = search (judged-expression, needs)
 
 expression-depth-requires : tie.Need-expression-depth-requires Inv-loop μ-loop
-expression-depth-requires c κs = search (just-kept, table-laws, needs)
+expression-depth-requires c κs = search (judged-expression, table-laws, needs)
 
 element-write-depths : tie.Need-element-write-depths Inv-loop μ-loop
 element-write-depths c = search (counts, needs)

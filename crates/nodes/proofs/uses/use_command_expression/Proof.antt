@@ -1,6 +1,6 @@
 use Rattle.nodes.proofs.PartRules.{command-part-laws}
 use Rattle.nodes.proofs.UseRules.{use-laws}
-use Rattle.design.proofs.Laws.{command-inside}
+use Rattle.design.proofs.NodeRules.{command-place-inside}
 use borrow.Author.Needs.{needs}
 use Rattle.nodes.proofs.uses.use_command_expression.Statement.{statement}
 use Rattle.nodes.proofs.uses.use_command_expression.Tie as tie
@@ -11,10 +11,10 @@ use Rattle.design.proofs.Design.part_a.Reads as part-a-reads
 use Rattle.nodes.proofs.uses.use_expression.Reads as use-expression-reads
 
 kind-requires : tie.Need-kind-requires
-kind-requires c κs = search (command-inside, needs)
+kind-requires c κs = search (command-place-inside, needs)
 
 part-a-requires : tie.Need-part-a-requires
-part-a-requires c κs = search (command-inside, needs)
+part-a-requires c κs = search (command-place-inside, needs)
 
 use-expression-requires : tie.Need-use-expression-requires
 use-expression-requires c κs = search (command-part-laws, use-laws, needs)

@@ -1,6 +1,6 @@
 use Rattle.nodes.proofs.PartRules.{command-part-laws}
 use Rattle.nodes.proofs.UseRules.{use-laws}
-use Rattle.design.proofs.Laws.{command-inside}
+use Rattle.design.proofs.NodeRules.{command-place-inside}
 use borrow.Author.Needs.{needs}
 use Rattle.nodes.proofs.uses.use_parts.Statement.{statement}
 use Rattle.nodes.proofs.uses.use_parts.Tie as tie
@@ -13,16 +13,16 @@ use Rattle.design.proofs.Design.part_c.Reads as part-c-reads
 use Rattle.nodes.proofs.uses.use_command.Reads as use-command-reads
 
 kind-requires : tie.Need-kind-requires
-kind-requires c κs = search (command-inside, needs)
+kind-requires c κs = search (command-place-inside, needs)
 
 part-a-requires : tie.Need-part-a-requires
-part-a-requires c κs = search (command-inside, needs)
+part-a-requires c κs = search (command-place-inside, needs)
 
 part-b-requires : tie.Need-part-b-requires
-part-b-requires c κs = search (command-inside, needs)
+part-b-requires c κs = search (command-place-inside, needs)
 
 part-c-requires : tie.Need-part-c-requires
-part-c-requires c κs = search (command-inside, needs)
+part-c-requires c κs = search (command-place-inside, needs)
 
 use-command-requires : tie.Need-use-command-requires
 use-command-requires c κs = search (command-part-laws, use-laws, needs)
