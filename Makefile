@@ -6,7 +6,7 @@ SOAK_SEED = 1
 library = target/staticlib/libcaisson.a
 soak_sources = tests/soak/soak.c $(addprefix host/, box.c design.c numbers.c refusals.c say.c table.c)
 
-.PHONY: test quick bench run host tool soak library lister install clean
+.PHONY: test quick bench stack run host tool soak library lister install clean
 
 # The gate, as CI runs it: proofs from nothing, must-fail edits, tests outside Rattle.
 test:
@@ -20,6 +20,11 @@ quick:
 bench: library
 	cd tests/outside && CAISSON_LIB_DIR=$(CURDIR)/target/staticlib CARGO_TARGET_DIR=$(CURDIR)/target/outside \
 		cargo run --quiet --release --offline --bin bench
+
+# The stack that each call takes, on a small design and on one as deep as the rules allow.
+stack: library
+	gcc -std=c11 -O2 -Wall -Wextra -Werror -Iinclude tests/c/stack.c $(library) -pthread -o target/stack
+	target/stack designs/lease.table designs/deepest.table
 
 # Lists four cycles of document 01's lease design.
 run: lister

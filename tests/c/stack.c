@@ -1,0 +1,94 @@
+/* How much stack a call takes, for each design named: a thread runs it on a painted stack, and the
+   paint that is left is counted. What the thread takes without a call is subtracted. */
+#define _POSIX_C_SOURCE 200809L
+#include <pthread.h>
+#include <stdio.h>
+#include <stdlib.h>
+#include <string.h>
+
+#include "caisson.h"
+
+enum { IMAGE_MOST = 25268, REGISTERS_MOST = 4 * 64, STATES_MOST = 64, CYCLES = 1000 };
+enum { STACK = 1 << 20, PAGE = 4096, PAINT = 0xA5 };
+
+static uint8_t image[IMAGE_MOST], registers[REGISTERS_MOST], targets[STATES_MOST];
+static size_t image_len, registers_len, targets_len;
+static caisson_answer answer;
+
+static void *nothing(void *unused) { return unused; }
+
+static void *check(void *unused) {
+    answer = caisson_check(image, image_len);
+    return unused;
+}
+
+static void *reset(void *unused) {
+    answer = caisson_reset(image, image_len, registers, registers_len, targets, targets_len);
+    return unused;
+}
+
+static void *write_port(void *unused) {
+    answer = caisson_write_port(image, image_len, registers, registers_len, 0, 1);
+    return unused;
+}
+
+static void *run(void *unused) {
+    answer = caisson_run(image, image_len, registers, registers_len, targets, targets_len, CYCLES);
+    return unused;
+}
+
+static void fail(const char *what) {
+    perror(what);
+    exit(2);
+}
+
+/* The bytes of the stack that were written. */
+static size_t used(void *(*call)(void *)) {
+    uint8_t *stack = aligned_alloc(PAGE, STACK);
+    if (!stack)
+        fail("stack");
+    memset(stack, PAINT, STACK);
+    pthread_attr_t attributes;
+    pthread_t thread;
+    if (pthread_attr_init(&attributes) || pthread_attr_setstack(&attributes, stack, STACK) ||
+        pthread_create(&thread, &attributes, call, NULL) || pthread_join(thread, NULL))
+        fail("thread");
+    pthread_attr_destroy(&attributes);
+    size_t left = 0;
+    while (left < STACK && stack[left] == PAINT)
+        left++;
+    free(stack);
+    return STACK - left;
+}
+
+static size_t word16(size_t at) { return image[at] + 256u * image[at + 1]; }
+
+/* Reads a design that the library accepts; its directory then tells the lengths of the areas. */
+static void read_design(const char *path) {
+    FILE *file = fopen(path, "rb");
+    if (!file)
+        fail(path);
+    image_len = fread(image, 1, sizeof image, file);
+    fclose(file);
+    if (caisson_check(image, image_len).number != 0) {
+        fprintf(stderr, "%s is refused\n", path);
+        exit(2);
+    }
+    registers_len = word16(6) / 6 * 4;
+    targets_len = word16(10) / 4;
+}
+
+int main(int count, char **paths) {
+    static const struct {
+        const char *name;
+        void *(*call)(void *);
+    } calls[] = {{"check", check}, {"reset", reset}, {"write_port", write_port}, {"run", run}};
+    for (int i = 1; i < count; i++) {
+        read_design(paths[i]);
+        size_t without = used(nothing);
+        for (size_t k = 0; k < sizeof calls / sizeof *calls; k++)
+            printf("%s: %s takes %zu bytes\n", paths[i], calls[k].name,
+                   used(calls[k].call) - without);
+    }
+    return 0;
+}
