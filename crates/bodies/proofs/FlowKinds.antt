@@ -1,5 +1,5 @@
 -- What the flow pass finds at a command of each kind, from what it finds at the parts.
-use Prim.Native.Nat.{ℕ, zero, suc, min, _+_, _*_, _≤_, _<_}
+use Prim.Native.Nat.{ℕ, zero, suc, min, _+_, _≤_, _<_}
 use mathlib.Core.Path.{_≡_, refl, sym, _∙_, ap}
 use mathlib.Core.Bool.{Bool}
 use mathlib.Core.List.{List, [], _∷_, _++_}
@@ -21,7 +21,7 @@ use Rattle.model.proofs.Exact.Records.{state-iff}
 use Rattle.model.specs.Indices.{joinBelow}
 use native.Mathlib.Numerals.{add-one}
 use Rattle.design.specs.declared.Design.{Design}
-use Rattle.design.specs.Records.{nodeIn, stateIn, rowIn}
+use Rattle.design.specs.Records.{nodeIn, stateIn, rowIn, rowEnd}
 use Rattle.design.proofs.Laws.{labels-count, states-count, commands-count, expressions-count, row-inside, row-in, state-in}
 use Rattle.design.proofs.NodeRules.{command-at, command-place-inside, command-below, command-kind-is, command-kind-of, item-is, a-is, b-is, c-is, command-holds, named-state, condition, sequence-a-below, sequence-b-below, branch-b-below, branch-c-below, lower-command, expression-at}
 use Rattle.bodies.specs.Places.{placeUnless}
@@ -197,7 +197,7 @@ pub ruleset flow-laws = (command-place-inside, assigning, mask-small, condition-
 
 -- ---- states
 module _ {image : List ℕ} {x : Design} (known : FlowKnown image x) where
-  pub state-row-inside : {s l : ℕ} → s < x .states → l ≡ stateIn image (x .«states_at») s .label → 20 + 2 * l + 2 ≤ length image
+  pub state-row-inside : {s l : ℕ} → s < x .states → l ≡ stateIn image (x .«states_at») s .label → rowEnd l ≤ length image
   state-row-inside h e =
       let labels = labels-count (known .describes) in
       let below = state-label-below known h in

@@ -1,5 +1,5 @@
 -- What the flow pass finds at an expression and at an assignment: what the lower of two places says, the labels that are read, and the labels of states.
-use Prim.Native.Nat.{ℕ, zero, suc, min, _+_, _*_, _/_, _%_, _^_, _≤_, _<_}
+use Prim.Native.Nat.{ℕ, zero, suc, min, _+_, _/_, _%_, _^_, _≤_, _<_}
 use mathlib.Core.Path.{_≡_, refl, sym, _∙_, ap}
 use mathlib.Core.Logic.{_⊎_, ⊎-elim}
 use mathlib.Core.Bool.{Bool, true, false}
@@ -22,7 +22,7 @@ use Rattle.model.specs.Rules.{ExpressionHolds}
 use Rattle.model.proofs.Laws.Trees.{expr-constant, expr-register, expr-binary, cmd-assign}
 use Rattle.model.proofs.Exact.Records.{state-iff}
 use Rattle.design.specs.declared.Design.{Design}
-use Rattle.design.specs.Records.{nodeIn, registerIn, stateIn}
+use Rattle.design.specs.Records.{nodeIn, registerIn, stateIn, registerEnd, stateEnd}
 use Rattle.design.specs.Describes.{Describes}
 use Rattle.design.proofs.Laws.{labels-count, registers-count, states-count, commands-count, expressions-count, register-inside, state-inside, state-in, command-in}
 use Rattle.design.proofs.NodeRules.{command-below, same-command, item-is, a-is, assigned-register, assigned-expression, expression-at, expression-place-inside, expression-kind-is, read-is, first-is, second-is, expression-holds, read-register, operation, operand-a-below, operand-b-below, lower-expression}
@@ -223,7 +223,7 @@ module _ {image : List ℕ} {x : Design} (known : FlowKnown image x) where
       state-iff (designOf image) s .0 (known .states .kept s (omega arith)) .label
 
 module _ {image : List ℕ} {place s : ℕ} (here : Naming image place s) where
-  pub state-place-inside : place + 4 * s + 4 ≤ length image
+  pub state-place-inside : stateEnd place s ≤ length image
   state-place-inside = rw (here .begins) (state-inside (here .known .describes) (here .state))
 
   label-at : {l : ℕ} → l ≡ stateIn image place s .label → l ≡ stateLabel (designOf image) s
@@ -257,7 +257,7 @@ module _ {image : List ℕ} {registersAt place expressionsAt n : ℕ} (a : Assig
       let below = assigned-register (a .command) assigns-byte refl f in
       omega arith
 
-  pub assigned-inside : {r : ℕ} → r ≡ nodeIn image place n .item → registersAt + 6 * r + 6 ≤ length image
+  pub assigned-inside : {r : ℕ} → r ≡ nodeIn image place n .item → registerEnd registersAt r ≤ length image
   assigned-inside f = rw (a .registers-begin) (register-inside (a .known .describes) (assigned f))
 
   pub assigned-gathering : {e : ℕ} → e ≡ nodeIn image place n .a → Gathering image registersAt expressionsAt e

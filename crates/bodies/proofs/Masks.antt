@@ -1,5 +1,5 @@
 -- Laws of masks: the bits of a conjunction are those of both, so a mask of two contexts together is the `and` of theirs.
-use Prim.Native.Nat.{ℕ, _+_, _*_, _/_, _%_, _^_, _≤_, _<_}
+use Prim.Native.Nat.{ℕ, _+_, _/_, _%_, _^_, _≤_, _<_}
 use mathlib.Core.Path.{_≡_, refl, sym, _∙_, ap}
 use mathlib.Core.Bool.{Bool, true, false, _&&_}
 use mathlib.Core.List.{List, [], _∷_, _++_}
@@ -14,7 +14,7 @@ use Rattle.model.specs.Image.{Labels, Register, designOf}
 use Rattle.model.specs.Lattice.{flowsTo, allFlowTo, registerLabel}
 use Rattle.model.proofs.Laws.Indices.{all-at}
 use Rattle.design.specs.declared.Design.{Design}
-use Rattle.design.specs.Records.{rowIn, registerIn}
+use Rattle.design.specs.Records.{rowIn, registerIn, registerEnd, rowEnd}
 use Rattle.design.specs.Describes.{Describes}
 use Rattle.design.proofs.Laws.{labels-count, registers-count, row-inside, register-inside, row-in, register-in}
 use Rattle.model.proofs.Exact.Records.{register-iff}
@@ -74,13 +74,13 @@ module _ {image : List ℕ} {x : Design} (known : FlowKnown image x) where
       omega arith
 
 module _ {image : List ℕ} {place r : ℕ} (here : Labelled image place r) where
-  pub register-place-inside : place + 6 * r + 6 ≤ length image
+  pub register-place-inside : registerEnd place r ≤ length image
   register-place-inside = rw (here .begins) (register-inside (here .known .describes) (here .register))
 
   label-at : {k : ℕ} → k ≡ registerIn image place r .label → k ≡ registerLabel (designOf image) r
   label-at e = label-is (here .known) (here .register) (rw (here .begins) at e)
 
-  pub label-inside : {k : ℕ} → k ≡ registerIn image place r .label → 20 + 2 * k + 2 ≤ length image
+  pub label-inside : {k : ℕ} → k ≡ registerIn image place r .label → rowEnd k ≤ length image
   label-inside e = row-inside (here .known .describes) (rw (label-at e) (register-label (here .known) (here .register)))
 
   pub register-mask-rule : {k m : ℕ} → k ≡ registerIn image place r .label → m ≡ rowIn image 20 k → m < 65536 → MaskOf (designOf image .rows) (registerLabel (designOf image) r ∷ []) m

@@ -24,7 +24,7 @@ use Rattle.model.proofs.Exact.Records.{state-iff}
 use Rattle.model.proofs.Laws.Passes.{Missed, one-passes, none-pass}
 use native.Mathlib.Numerals.{add-one}
 use Rattle.design.specs.declared.Design.{Design}
-use Rattle.design.specs.Records.{nodeIn, stateIn}
+use Rattle.design.specs.Records.{nodeIn, stateIn, stateEnd}
 use Rattle.design.specs.Describes.{Describes}
 use Rattle.design.proofs.Laws.{states-count, commands-count, state-inside, state-in}
 use Rattle.design.proofs.NodeRules.{command-at, command-place-inside, command-below, command-kind-of, item-is, a-is, b-is, c-is, command-holds, named-state, sequence-a-below, sequence-b-below, branch-b-below, branch-c-below, lower-command}
@@ -39,10 +39,10 @@ and-known true false c e = refl
 and-known false b c e = refl
 
 module _ {image : List ℕ} {place s t : ℕ} (here : Going image place s t) where
-  pub state-place-inside : place + 4 * s + 4 ≤ length image
+  pub state-place-inside : stateEnd place s ≤ length image
   state-place-inside = rw (here .states-begin) (state-inside (here .describes) (here .state))
 
-  pub target-place-inside : place + 4 * t + 4 ≤ length image
+  pub target-place-inside : stateEnd place t ≤ length image
   target-place-inside = rw (here .states-begin) (state-inside (here .describes) (here .target))
 
   pub sibling-rule :

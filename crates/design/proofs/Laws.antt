@@ -1,5 +1,5 @@
 -- A record by the place of its section is the design's record, and stands inside the image.
-use Prim.Native.Nat.{ℕ, _+_, _*_, _/_, _%_, _≤_, _<_}
+use Prim.Native.Nat.{ℕ, _/_, _%_, _≤_, _<_}
 use mathlib.Core.Path.{_≡_, sym, ap, _∙_}
 use mathlib.Core.Bool.{Bool, false, _&&_}
 use lib.Dec.{eqb, leb}
@@ -10,7 +10,7 @@ use Rattle.model.specs.Limits.{directoryLength}
 use Rattle.model.specs.Image.{Section, Labels, Registers, States, Commands, Expressions, recordLength, fewest, most, offset, size, end, offsetsKept, sectionKept, directoryKept, designOf, registerAt, stateAt, commandAt, expressionAt}
 use Rattle.model.proofs.Laws.Images.{row-at, register-is, state-is, command-is, expression-is, label-count, register-count, state-count, command-count, expression-count}
 use Rattle.design.specs.declared.Design.{Design}
-use Rattle.design.specs.Records.{rowIn, registerIn, stateIn, nodeIn}
+use Rattle.design.specs.Records.{rowIn, registerIn, stateIn, nodeIn, nodeEnd, registerEnd, rowEnd, stateEnd}
 use Rattle.design.specs.Describes.{Describes}
 use Rattle.model.specs.Rules.{DirectoryKeeps}
 use Rattle.model.proofs.Laws.Booleans.{false-unless-true}
@@ -117,19 +117,19 @@ module _ {image : List ℕ} {x : Design} (d : Describes image x) where
   expressions-count = d .expressions ∙ sym (expression-count image)
 
   -- ---- records stand inside the image
-  pub row-inside : {i : ℕ} → i < x .labels → 20 + 2 * i + 2 ≤ length image
+  pub row-inside : {i : ℕ} → i < x .labels → rowEnd i ≤ length image
   row-inside l = omega (arith, d .labels, d .directory)
 
-  pub register-inside : {r : ℕ} → r < x .registers → x .«registers_at» + 6 * r + 6 ≤ length image
+  pub register-inside : {r : ℕ} → r < x .registers → registerEnd (x .«registers_at») r ≤ length image
   register-inside l = omega (arith, d, d .directory)
 
-  pub state-inside : {s : ℕ} → s < x .states → x .«states_at» + 4 * s + 4 ≤ length image
+  pub state-inside : {s : ℕ} → s < x .states → stateEnd (x .«states_at») s ≤ length image
   state-inside l = omega (arith, d, d .directory)
 
-  pub command-inside : {n : ℕ} → n < x .commands → x .«commands_at» + 8 * n + 8 ≤ length image
+  pub command-inside : {n : ℕ} → n < x .commands → nodeEnd (x .«commands_at») n ≤ length image
   command-inside l = omega (arith, d, d .directory)
 
-  pub expression-inside : {n : ℕ} → n < x .expressions → x .«expressions_at» + 8 * n + 8 ≤ length image
+  pub expression-inside : {n : ℕ} → n < x .expressions → nodeEnd (x .«expressions_at») n ≤ length image
   expression-inside l = omega (arith, d, d .directory)
 
   -- ---- and are the design's

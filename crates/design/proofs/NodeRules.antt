@@ -1,5 +1,5 @@
 -- What the fields of a node hold once its record was judged: its kind by the kind byte, and that its parts are nodes of lower numbers.
-use Prim.Native.Nat.{ℕ, _+_, _*_, _≤_, _<_}
+use Prim.Native.Nat.{ℕ, _≤_, _<_}
 use mathlib.Core.Path.{_≡_, sym, _∙_, ap}
 use mathlib.Core.List.{List}
 use native.Mathlib.Omega.{arith}
@@ -10,7 +10,7 @@ use Rattle.model.specs.Rules.{CommandHolds, ExpressionHolds}
 use Rattle.model.proofs.Laws.Kinds.{kind-operates}
 use Rattle.model.proofs.Exact.Records.{command-iff, expression-iff}
 use Rattle.design.specs.declared.Design.{Design}
-use Rattle.design.specs.Records.{nodeIn}
+use Rattle.design.specs.Records.{nodeIn, nodeEnd}
 use Rattle.design.specs.Describes.{Describes}
 use Rattle.design.specs.Kept.{CommandsKept, ExpressionsKept}
 use Rattle.design.specs.NodesAt.{CommandAt, ExpressionAt}
@@ -21,7 +21,7 @@ pub command-at : {image : List ℕ} {x : Design} {place n : ℕ} → Describes i
 command-at {n = n} d kept l begins = let count = commands-count d in record { describes = d; node = l; kept = kept .kept n (omega arith); begins = begins }
 
 module _ {image : List ℕ} {x : Design} {place n : ℕ} (here : CommandAt image x place n) where
-  pub command-place-inside : place + 8 * n + 8 ≤ length image
+  pub command-place-inside : nodeEnd place n ≤ length image
   command-place-inside = rw (here .begins) (command-inside (here .describes) (here .node))
 
   pub command-below : n < length (designOf image .commands)
@@ -107,7 +107,7 @@ pub expression-at : {image : List ℕ} {x : Design} {place e : ℕ} → Describe
 expression-at {e = e} d kept l begins = let count = expressions-count d in record { describes = d; node = l; kept = kept .kept e (omega arith); begins = begins }
 
 module _ {image : List ℕ} {x : Design} {place e : ℕ} (here : ExpressionAt image x place e) where
-  pub expression-place-inside : place + 8 * e + 8 ≤ length image
+  pub expression-place-inside : nodeEnd place e ≤ length image
   expression-place-inside = rw (here .begins) (expression-inside (here .describes) (here .node))
 
   pub same-expression : nodeIn image place e ≡ expressionAt (designOf image) e

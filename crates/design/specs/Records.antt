@@ -2,27 +2,41 @@
 -- is `Laws.antt` of `proofs/`.
 use Prim.Native.Nat.{ℕ, _+_, _*_}
 use mathlib.Core.List.{List}
+use Rattle.model.specs.Limits.{directoryLength, labelLength, registerLength, stateLength, nodeLength}
 use Rattle.model.specs.Image.{byteAt, word16At, word32At, Register, State, Node}
 
 abbrev pub rowIn : List ℕ → ℕ → ℕ → ℕ
-rowIn image at i = word16At image (at + 2 * i)
+rowIn image at i = word16At image (at + labelLength * i)
 
 abbrev pub registerIn : List ℕ → ℕ → ℕ → Register
-registerIn image at r = record { label = byteAt image (at + 6 * r); kind = byteAt image (at + 6 * r + 1); reset = word32At image (at + 6 * r + 2) }
+registerIn image at r = record { label = byteAt image (at + registerLength * r); kind = byteAt image (at + registerLength * r + 1); reset = word32At image (at + registerLength * r + 2) }
 
 abbrev pub stateIn : List ℕ → ℕ → ℕ → State
-stateIn image at s = record { parent = byteAt image (at + 4 * s); label = byteAt image (at + 4 * s + 1); command = word16At image (at + 4 * s + 2) }
+stateIn image at s = record { parent = byteAt image (at + stateLength * s); label = byteAt image (at + stateLength * s + 1); command = word16At image (at + stateLength * s + 2) }
 
 abbrev pub nodeIn : List ℕ → ℕ → ℕ → Node
 nodeIn image at n =
     record {
-      kind = byteAt image (at + 8 * n);
-      item = byteAt image (at + 8 * n + 1);
-      a = word16At image (at + 8 * n + 2);
-      b = word16At image (at + 8 * n + 4);
-      c = word16At image (at + 8 * n + 6);
+      kind = byteAt image (at + nodeLength * n);
+      item = byteAt image (at + nodeLength * n + 1);
+      a = word16At image (at + nodeLength * n + 2);
+      b = word16At image (at + nodeLength * n + 4);
+      c = word16At image (at + nodeLength * n + 6);
     }
 
 -- the 32 bits of a constant, in the fields b and c
 abbrev pub constantIn : List ℕ → ℕ → ℕ → ℕ
-constantIn image at n = word32At image (at + 8 * n + 4)
+constantIn image at n = word32At image (at + nodeLength * n + 4)
+
+-- where a record ends; the rows begin behind the directory
+abbrev pub rowEnd : ℕ → ℕ
+rowEnd i = directoryLength + labelLength * i + labelLength
+
+abbrev pub registerEnd : ℕ → ℕ → ℕ
+registerEnd at r = at + registerLength * r + registerLength
+
+abbrev pub stateEnd : ℕ → ℕ → ℕ
+stateEnd at s = at + stateLength * s + stateLength
+
+abbrev pub nodeEnd : ℕ → ℕ → ℕ
+nodeEnd at n = at + nodeLength * n + nodeLength

@@ -14,7 +14,7 @@ ghost use Rattle.model.specs.Limits.{directoryLength, labelLength, registerLeng
 ghost use Rattle.model.specs.Rules.{DirectoryKeeps};
 ghost use Rattle.model.specs.Machine.{resetAreas};
 ghost use Rattle.model.specs.Calls.{lentOf};
-ghost use Rattle.design.specs.Records.{rowIn, registerIn, stateIn, nodeIn, constantIn};
+ghost use Rattle.design.specs.Records.{rowIn, registerIn, stateIn, nodeIn, constantIn, nodeEnd, registerEnd, rowEnd, stateEnd};
 ghost use Rattle.design.specs.Describes.{Describes};
 ghost use Rattle.design.specs.Kept.{StatesKept};
 ghost use Rattle.design.specs.Resets.{lends};
@@ -159,7 +159,7 @@ impl Design {
 
     // The row of label i.
     pub fn row(image: &[u8], i: usize) -> usize
-        requires { ⌜ 20 + 2 * i + 2 ≤ length (now image) ⌝ }
+        requires { ⌜ rowEnd i ≤ length (now image) ⌝ }
         ensures { λ r. ⌜ (r ≡ rowIn (now (image .entry)) 20 i) × (r < 65536) ⌝ }
     {
         word16(image, Self::DIRECTORY_LENGTH + Self::LABEL_LENGTH * i)
@@ -167,21 +167,21 @@ impl Design {
 
     // The fields of register r, where the registers begin at a place.
     pub fn register_label(image: &[u8], at: usize, r: usize) -> usize
-        requires { ⌜ at + 6 * r + 6 ≤ length (now image) ⌝ }
+        requires { ⌜ registerEnd at r ≤ length (now image) ⌝ }
         ensures { λ x. ⌜ (x ≡ registerIn (now (image .entry)) at r .label) × (x < 256) ⌝ }
     {
         wide(image[at + Self::REGISTER_LENGTH * r])
     }
 
     pub fn register_kind(image: &[u8], at: usize, r: usize) -> usize
-        requires { ⌜ at + 6 * r + 6 ≤ length (now image) ⌝ }
+        requires { ⌜ registerEnd at r ≤ length (now image) ⌝ }
         ensures { λ x. ⌜ (x ≡ registerIn (now (image .entry)) at r .kind) × (x < 256) ⌝ }
     {
         wide(image[at + Self::REGISTER_LENGTH * r + 1])
     }
 
     pub fn register_reset(image: &[u8], at: usize, r: usize) -> u32
-        requires { ⌜ at + 6 * r + 6 ≤ length (now image) ⌝ }
+        requires { ⌜ registerEnd at r ≤ length (now image) ⌝ }
         ensures { λ x. ⌜ x ≡ registerIn (now (image .entry)) at r .reset ⌝ }
     {
         word32(image, at + Self::REGISTER_LENGTH * r + 2)
@@ -189,21 +189,21 @@ impl Design {
 
     // The fields of state s, where the states begin at a place.
     pub fn parent(image: &[u8], at: usize, s: usize) -> usize
-        requires { ⌜ at + 4 * s + 4 ≤ length (now image) ⌝ }
+        requires { ⌜ stateEnd at s ≤ length (now image) ⌝ }
         ensures { λ x. ⌜ (x ≡ stateIn (now (image .entry)) at s .parent) × (x < 256) ⌝ }
     {
         wide(image[at + Self::STATE_LENGTH * s])
     }
 
     pub fn state_label(image: &[u8], at: usize, s: usize) -> usize
-        requires { ⌜ at + 4 * s + 4 ≤ length (now image) ⌝ }
+        requires { ⌜ stateEnd at s ≤ length (now image) ⌝ }
         ensures { λ x. ⌜ (x ≡ stateIn (now (image .entry)) at s .label) × (x < 256) ⌝ }
     {
         wide(image[at + Self::STATE_LENGTH * s + 1])
     }
 
     pub fn state_command(image: &[u8], at: usize, s: usize) -> usize
-        requires { ⌜ at + 4 * s + 4 ≤ length (now image) ⌝ }
+        requires { ⌜ stateEnd at s ≤ length (now image) ⌝ }
         ensures { λ x. ⌜ (x ≡ stateIn (now (image .entry)) at s .command) × (x < 65536) ⌝ }
     {
         word16(image, at + Self::STATE_LENGTH * s + 2)
@@ -211,42 +211,42 @@ impl Design {
 
     // The fields of node n, where the nodes of its family begin at a place.
     pub fn kind(image: &[u8], at: usize, n: usize) -> u8
-        requires { ⌜ at + 8 * n + 8 ≤ length (now image) ⌝ }
+        requires { ⌜ nodeEnd at n ≤ length (now image) ⌝ }
         ensures { λ x. ⌜ x ≡ nodeIn (now (image .entry)) at n .kind ⌝ }
     {
         image[at + Self::NODE_LENGTH * n]
     }
 
     pub fn item(image: &[u8], at: usize, n: usize) -> usize
-        requires { ⌜ at + 8 * n + 8 ≤ length (now image) ⌝ }
+        requires { ⌜ nodeEnd at n ≤ length (now image) ⌝ }
         ensures { λ x. ⌜ (x ≡ nodeIn (now (image .entry)) at n .item) × (x < 256) ⌝ }
     {
         wide(image[at + Self::NODE_LENGTH * n + 1])
     }
 
     pub fn part_a(image: &[u8], at: usize, n: usize) -> usize
-        requires { ⌜ at + 8 * n + 8 ≤ length (now image) ⌝ }
+        requires { ⌜ nodeEnd at n ≤ length (now image) ⌝ }
         ensures { λ x. ⌜ (x ≡ nodeIn (now (image .entry)) at n .a) × (x < 65536) ⌝ }
     {
         word16(image, at + Self::NODE_LENGTH * n + 2)
     }
 
     pub fn part_b(image: &[u8], at: usize, n: usize) -> usize
-        requires { ⌜ at + 8 * n + 8 ≤ length (now image) ⌝ }
+        requires { ⌜ nodeEnd at n ≤ length (now image) ⌝ }
         ensures { λ x. ⌜ (x ≡ nodeIn (now (image .entry)) at n .b) × (x < 65536) ⌝ }
     {
         word16(image, at + Self::NODE_LENGTH * n + 4)
     }
 
     pub fn part_c(image: &[u8], at: usize, n: usize) -> usize
-        requires { ⌜ at + 8 * n + 8 ≤ length (now image) ⌝ }
+        requires { ⌜ nodeEnd at n ≤ length (now image) ⌝ }
         ensures { λ x. ⌜ (x ≡ nodeIn (now (image .entry)) at n .c) × (x < 65536) ⌝ }
     {
         word16(image, at + Self::NODE_LENGTH * n + 6)
     }
 
     pub fn constant(image: &[u8], at: usize, n: usize) -> u32
-        requires { ⌜ at + 8 * n + 8 ≤ length (now image) ⌝ }
+        requires { ⌜ nodeEnd at n ≤ length (now image) ⌝ }
         ensures { λ x. ⌜ x ≡ constantIn (now (image .entry)) at n ⌝ }
     {
         word32(image, at + Self::NODE_LENGTH * n + 4)

@@ -22,7 +22,7 @@ use Rattle.model.proofs.Laws.Booleans.{true-or-false, or-cases, or-first, or-se
 use Rattle.model.proofs.Laws.Kinds.{kind-skips, kind-falls, kind-goes}
 use Rattle.model.proofs.Laws.Trees.{cmd-skip, cmd-assign, cmd-sequence, cmd-fall, cmd-goto, cmd-branch}
 use Rattle.design.specs.declared.Design.{Design}
-use Rattle.design.specs.Records.{nodeIn}
+use Rattle.design.specs.Records.{nodeIn, nodeEnd}
 use Rattle.design.proofs.Laws.{registers-count, commands-count, expressions-count, command-inside, command-in}
 use Rattle.design.specs.Words.{putWord}
 use Rattle.design.proofs.NodeRules.{command-at, command-place-inside, command-below, command-kind-is, command-kind-of, item-is, a-is, b-is, c-is, command-holds, assigned-register, assigned-expression, condition, sequence-a-below, sequence-b-below, branch-b-below, branch-c-below, lower-command, expression-at}
@@ -91,7 +91,7 @@ module _ {image : List ℕ} {x : Design} (known : FlowKnown image x) {m : ℕ} (
   counted : m < x .commands
   counted = let count = commands-count (known .describes) in omega arith
 
-  counted-inside : x .«commands_at» + 8 * m + 8 ≤ length image
+  counted-inside : nodeEnd (x .«commands_at») m ≤ length image
   counted-inside = command-inside (known .describes) counted
 
   counted-in : nodeIn image (x .«commands_at») m ≡ commandAt (designOf image) m
@@ -100,7 +100,7 @@ module _ {image : List ℕ} {x : Design} (known : FlowKnown image x) {m : ℕ} (
 -- ---- what is known at a command
 module _ {image : List ℕ} {commands expressions : ℕ} {before : List ℕ} {n : ℕ} (here : Performing image commands expressions before n) where
   -- ---- the command that ran last
-  pub last-inside : {l : ℕ} → l < length (designOf image .commands) → commands + 8 * l + 8 ≤ length image
+  pub last-inside : {l : ℕ} → l < length (designOf image .commands) → nodeEnd commands l ≤ length image
   last-inside below = rw (here .command .begins) (counted-inside (here .known) below)
 
   last-kind : {l k : ℕ} → l < length (designOf image .commands) → k ≡ nodeIn image commands l .kind → commandAt (designOf image) l .kind ≡ k
@@ -281,7 +281,7 @@ performing executing area =
     }
 
 module _ {image : List ℕ} {x : Design} {n : ℕ} (executing : Executing image x n) where
-  pub answer-inside : {l : ℕ} → l < length (designOf image .commands) → x .«commands_at» + 8 * l + 8 ≤ length image
+  pub answer-inside : {l : ℕ} → l < length (designOf image .commands) → nodeEnd (x .«commands_at») l ≤ length image
   answer-inside below = counted-inside (executing .known) below
 
   module _ (before after : List ℕ) {l k : ℕ}

@@ -1,5 +1,5 @@
 -- A rule of a register or a state, tested on the fields that the accessors read, is the meaning's rule.
-use Prim.Native.Nat.{ℕ, zero, suc, _+_, _*_, _≤_, _<_}
+use Prim.Native.Nat.{ℕ, zero, suc, _≤_, _<_}
 use mathlib.Core.Path.{_≡_, refl, sym, _∙_, ap}
 use mathlib.Core.Bool.{Bool, true, _&&_}
 use mathlib.Core.List.{List}
@@ -17,7 +17,7 @@ use Rattle.model.specs.Rules.{StateKeeps}
 use Rattle.model.proofs.Laws.Indices.{failing-none}
 use Rattle.model.proofs.Exact.Records.{state-iff}
 use Rattle.design.specs.declared.Design.{Design}
-use Rattle.design.specs.Records.{registerIn, stateIn}
+use Rattle.design.specs.Records.{registerIn, stateIn, stateEnd}
 use Rattle.design.specs.Describes.{Describes}
 use Rattle.design.proofs.Laws.{labels-count, states-count, commands-count, register-in, state-in, state-inside}
 use Rattle.records.proofs.LatticeRules.{label-small}
@@ -86,7 +86,7 @@ module _ {image : List ℕ} {x : Design} (d : Describes image x) where
         omega arith
 
     pub parent-inside : {s p : ℕ} → s < x .states → (s ≡ 0 → ⊥) → p ≡ stateIn image (x .«states_at») s .parent
-        → x .«states_at» + 4 * p + 4 ≤ length image
+        → stateEnd (x .«states_at») p ≤ length image
     parent-inside h n p = state-inside d (parent-state h n p)
 
     -- the label of a state is a label
