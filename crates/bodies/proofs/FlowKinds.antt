@@ -220,7 +220,7 @@ module _ {image : List ℕ} {x : Design} (known : FlowKnown image x) where
       }
 
   -- the context of a body is the row of its state's label
-  state-mask : {s l m : ℕ} → s < x .states → l ≡ stateIn image (x .«states_at») s .label → m ≡ rowIn image 20 l → m < 65536 → MaskOf (designOf image .rows) (stateLabel (designOf image) s ∷ []) m
+  state-mask : {s l m : ℕ} → s < x .states → l ≡ stateIn image (x .«states_at») s .label → m ≡ rowIn image l → m < 65536 → MaskOf (designOf image .rows) (stateLabel (designOf image) s ∷ []) m
   state-mask {s} h e f small =
       let labels = labels-count (known .describes) in
       let below = state-label-below known h in
@@ -231,7 +231,7 @@ module _ {image : List ℕ} {x : Design} (known : FlowKnown image x) where
       → s < x .states
       → l ≡ stateIn image (x .«states_at») s .label
       → n ≡ stateIn image (x .«states_at») s .command
-      → m ≡ rowIn image 20 l
+      → m ≡ rowIn image l
       → m < 65536
       → ((labels : List ℕ) → MaskOf (designOf image .rows) labels m → answerAmong (designOf image) a ≡ nearest (flowFaults (designOf image) s labels (cmdOf (designOf image) n)))
       → answerAmong (designOf image) a ≡ nearest (stateFlowFaults (designOf image) s)

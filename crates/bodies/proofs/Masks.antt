@@ -83,5 +83,5 @@ module _ {image : List ℕ} {place r : ℕ} (here : Labelled image place r) wher
   pub label-inside : {k : ℕ} → k ≡ registerIn image place r .label → rowEnd k ≤ length image
   label-inside e = row-inside (here .known .describes) (rw (label-at e) (register-label (here .known) (here .register)))
 
-  pub register-mask-rule : {k m : ℕ} → k ≡ registerIn image place r .label → m ≡ rowIn image 20 k → m < 65536 → MaskOf (designOf image .rows) (registerLabel (designOf image) r ∷ []) m
+  pub register-mask-rule : {k m : ℕ} → k ≡ registerIn image place r .label → m ≡ rowIn image k → m < 65536 → MaskOf (designOf image .rows) (registerLabel (designOf image) r ∷ []) m
   register-mask-rule e f small = mask-row (f ∙ rw (label-at e) (row-in (here .known .describes) (register-label (here .known) (here .register)))) small

@@ -133,7 +133,7 @@ module _ {image : List ℕ} {x : Design} (d : Describes image x) where
   expression-inside l = omega (arith, d, d .directory)
 
   -- ---- and are the design's
-  pub row-in : {i : ℕ} → i < x .labels → rowIn image 20 i ≡ getD (designOf image .rows) i 0
+  pub row-in : {i : ℕ} → i < x .labels → rowIn image i ≡ getD (designOf image .rows) i 0
   row-in {i} l = rw (← (d .directory .labels-at)) (sym (row-at image i (omega (arith, d .labels))))
 
   pub register-in : {r : ℕ} → r < x .registers → registerIn image (x .«registers_at») r ≡ registerAt (designOf image) r

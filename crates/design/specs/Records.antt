@@ -5,8 +5,9 @@ use mathlib.Core.List.{List}
 use Rattle.model.specs.Limits.{directoryLength, labelLength, registerLength, stateLength, nodeLength}
 use Rattle.model.specs.Image.{byteAt, word16At, word32At, Register, State, Node}
 
-abbrev pub rowIn : List ℕ → ℕ → ℕ → ℕ
-rowIn image at i = word16At image (at + labelLength * i)
+-- the rows begin behind the directory
+abbrev pub rowIn : List ℕ → ℕ → ℕ
+rowIn image i = word16At image (directoryLength + labelLength * i)
 
 abbrev pub registerIn : List ℕ → ℕ → ℕ → Register
 registerIn image at r = record { label = byteAt image (at + registerLength * r); kind = byteAt image (at + registerLength * r + 1); reset = word32At image (at + registerLength * r + 2) }
@@ -28,7 +29,7 @@ nodeIn image at n =
 abbrev pub constantIn : List ℕ → ℕ → ℕ → ℕ
 constantIn image at n = word32At image (at + nodeLength * n + 4)
 
--- where a record ends; the rows begin behind the directory
+-- where a record ends
 abbrev pub rowEnd : ℕ → ℕ
 rowEnd i = directoryLength + labelLength * i + labelLength
 

@@ -62,21 +62,21 @@ fn word32(image: &[u8], at: usize) -> u32
 
 // The offset and the length of section k, and where it ends.
 fn offset(image: &[u8], k: usize) -> usize
-    requires { ⌜ (20 ≤ length (now image)) × (k < 5) ⌝ }
+    requires { ⌜ (directoryLength ≤ length (now image)) × (k < 5) ⌝ }
     ensures { λ r. ⌜ (r ≡ word16At (now (image .entry)) (4 * k)) × (r < 65536) ⌝ }
 {
     word16(image, 4 * k)
 }
 
 fn size(image: &[u8], k: usize) -> usize
-    requires { ⌜ (20 ≤ length (now image)) × (k < 5) ⌝ }
+    requires { ⌜ (directoryLength ≤ length (now image)) × (k < 5) ⌝ }
     ensures { λ r. ⌜ (r ≡ word16At (now (image .entry)) (4 * k + 2)) × (r < 65536) ⌝ }
 {
     word16(image, 4 * k + 2)
 }
 
 fn end(image: &[u8], k: usize) -> usize
-    requires { ⌜ (20 ≤ length (now image)) × (k < 5) ⌝ }
+    requires { ⌜ (directoryLength ≤ length (now image)) × (k < 5) ⌝ }
     ensures { λ r. ⌜ r ≡ word16At (now (image .entry)) (4 * k) + word16At (now (image .entry)) (4 * k + 2) ⌝ }
 {
     offset(image, k) + size(image, k)
@@ -84,7 +84,7 @@ fn end(image: &[u8], k: usize) -> usize
 
 // The sections stand one behind the other, from the directory's end to the image's.
 fn offsets_kept(image: &[u8]) -> bool
-    requires { ⌜ 20 ≤ length (now image) ⌝ }
+    requires { ⌜ directoryLength ≤ length (now image) ⌝ }
     ensures { λ r. ⌜ r ≡ offsetsKept (now (image .entry)) ⌝ }
 {
     (Design::DIRECTORY_LENGTH <= image.len())
@@ -160,7 +160,7 @@ impl Design {
     // The row of label i.
     pub fn row(image: &[u8], i: usize) -> usize
         requires { ⌜ rowEnd i ≤ length (now image) ⌝ }
-        ensures { λ r. ⌜ (r ≡ rowIn (now (image .entry)) 20 i) × (r < 65536) ⌝ }
+        ensures { λ r. ⌜ (r ≡ rowIn (now (image .entry)) i) × (r < 65536) ⌝ }
     {
         word16(image, Self::DIRECTORY_LENGTH + Self::LABEL_LENGTH * i)
     }

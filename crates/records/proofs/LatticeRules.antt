@@ -68,7 +68,7 @@ module _ {image : List ℕ} {x : Design} (d : Describes image x) where
   some-label = omega (arith, d .labels, d .directory .sections Labels)
 
   -- the row of a label, its mask, and whether the two are the same
-  pub row-rule : {i r : ℕ} → i < x .labels → r ≡ rowIn image 20 i → r ≡ getD (designOf image .rows) i 0
+  pub row-rule : {i r : ℕ} → i < x .labels → r ≡ rowIn image i → r ≡ getD (designOf image .rows) i 0
   row-rule l p = p ∙ row-in d l
 
   pub mask-rule : (i : ℕ) {r m : ℕ} → r ≡ getD (designOf image .rows) i 0 → m ≡ 2 ^ x .labels - 1 → bitAnd r m ≡ rowMask (designOf image .rows) i
