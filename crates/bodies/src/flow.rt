@@ -52,7 +52,7 @@ fn reads(image: &[u8], registers_at: usize, expressions_at: usize, e: usize) -> 
     }
 }
 
-// The assignment n, in a context, flows to the register that it writes.
+// The place of assignment n, unless its context and what it reads flow to the register written.
 fn assign_flow(
     image: &[u8],
     registers_at: usize,
