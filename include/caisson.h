@@ -3,7 +3,8 @@
  *
  * A design is a binary image of at most CAISSON_LARGEST_IMAGE bytes. The library keeps no state and
  * allocates nothing: a call works on the slices that it is lent and on its own stack, ends, and
- * relies on no earlier call. Every image check is made again by every call.
+ * relies on no earlier call. Every image check is made again by every call. The stack that a call
+ * takes is measured, not proved: `make stack` shows less than 32 KB on the deepest design.
  *
  * A slice is a pointer and a length in bytes. The pointer may be NULL where the length is 0. The
  * slices of one call must not overlap. Nothing is read or written outside them.
