@@ -9,7 +9,8 @@ use lib.Bits.{bitAnd, and-le-l}
 use lib.ListN.{length}
 use Rattle.model.specs.declared.Refusal.{Refusal}
 use Rattle.model.specs.declared.Answer.{Answer}
-use Rattle.model.specs.Image.{Design as Table, Node, State, designOf, stateAt, commandAt}
+use Rattle.model.specs.Limits.{commandsMax}
+use Rattle.model.specs.Image.{Design as Table, Node, designOf, commandAt}
 use Rattle.model.specs.Lattice.{allFlowTo, stateLabel}
 use Rattle.model.specs.Kinds.{skips, sequences, falls, goes, branches, commandKind}
 use Rattle.model.specs.Trees.{exprOf, cmdOf, bodyOf}
@@ -17,13 +18,12 @@ use Rattle.model.specs.Flow.{refusedUnless, labelsRead, flowFaults, stateFlowFa
 use Rattle.model.specs.Rules.{CommandHolds}
 use Rattle.model.proofs.Laws.Faults.{nearest-append}
 use Rattle.model.proofs.Laws.Trees.{cmd-skip, cmd-sequence, cmd-fall, cmd-goto, cmd-branch}
-use Rattle.model.proofs.Exact.Records.{state-iff}
 use Rattle.model.specs.Indices.{joinBelow}
 use native.Mathlib.Numerals.{add-one}
 use Rattle.design.specs.declared.Design.{Design}
 use Rattle.design.specs.Records.{nodeIn, stateIn, rowIn, rowEnd}
-use Rattle.design.proofs.Laws.{labels-count, states-count, commands-count, expressions-count, row-inside, row-in, state-in}
-use Rattle.design.proofs.NodeRules.{command-at, command-place-inside, command-below, command-kind-is, command-kind-of, item-is, a-is, b-is, c-is, command-holds, named-state, condition, sequence-a-below, sequence-b-below, branch-b-below, branch-c-below, lower-command, expression-at}
+use Rattle.design.proofs.Laws.{labels-count, states-count, expressions-count, row-inside, row-in}
+use Rattle.design.proofs.FieldRules.{body-is, body-below, command-at, command-place-inside, command-below, command-kind-is, command-kind-of, item-is, a-is, b-is, c-is, command-holds, named-state, condition, sequence-a-below, sequence-b-below, branch-b-below, branch-c-below, lower-command, expression-at}
 use Rattle.bodies.specs.Places.{placeUnless}
 use Rattle.bodies.specs.Flows.{MaskOf, FlowKnown, Naming, Gathering, Assigning, Flowing, flowRefusal, answerAmong}
 use Rattle.bodies.proofs.PlaceRules.{commands-few}
@@ -96,10 +96,11 @@ module _ {image : List ℕ} {registersAt statesAt place expressionsAt s n : ℕ}
   goto-naming q p f =
       let count = states-count (flowing .known .describes) in
       let below = named-state (flowing .command) q p f in
-      record { design = flowing .design; known = flowing .known; state = omega arith; begins = flowing .states-begin }
+      record { design = flowing .design; known = flowing .known; state = record { describes = flowing .known .describes; state = omega arith; begins = flowing .states-begin } }
 
   pub fall-naming : Naming image statesAt s
-  fall-naming = record { design = flowing .design; known = flowing .known; state = flowing .state; begins = flowing .states-begin }
+  fall-naming =
+      record { design = flowing .design; known = flowing .known; state = record { describes = flowing .known .describes; state = flowing .state; begins = flowing .states-begin } }
 
   -- ---- what the pass finds
   charged : {r : Refusal} (b : Bool) → flowRefusal (commandKind (commandAt (designOf image) n .kind)) ≡ r → answerAmong (designOf image) (placeUnless b n) ≡ nearest (refusedUnless b r n)
@@ -187,7 +188,7 @@ module _ {image : List ℕ} {registersAt statesAt place expressionsAt s n : ℕ}
       → (k ≡ 4 → ⊥)
       → (k ≡ 5 → ⊥)
       → MaskOf (designOf image .rows) labels context
-      → answerAmong (designOf image) 1024 ≡ nearest (flowFaults (designOf image) s labels (cmdOf (designOf image) n))
+      → answerAmong (designOf image) commandsMax ≡ nearest (flowFaults (designOf image) s labels (cmdOf (designOf image) n))
   unfolding flowFaults nearest
   flow-skip {k} e a b c f g mask =
       let d = designOf image in
@@ -204,16 +205,12 @@ module _ {image : List ℕ} {x : Design} (known : FlowKnown image x) where
       row-inside (known .describes) (rw (state-label-is known h e) (omega arith))
 
   pub state-flowing : {s n : ℕ} → s < x .states → n ≡ stateIn image (x .«states_at») s .command → Flowing image (x .«registers_at») (x .«states_at») (x .«commands_at») (x .«expressions_at») s n
-  state-flowing {s} {n} l e =
-      let states = states-count (known .describes) in
-      let commands = commands-count (known .describes) in
-      let kept = state-iff (designOf image) s .0 (known .states .kept s (omega arith)) .command in
-      let same : n ≡ stateAt (designOf image) s .command = e ∙ ap (λ (y : State). y .command) (state-in (known .describes) l) in
+  state-flowing l e =
       record {
         design = x;
         known = known;
         state = l;
-        command = command-at (known .describes) (known .commands) (omega arith) refl;
+        command = command-at (known .describes) (known .commands) (body-below (known .describes) l e (known .states)) refl;
         registers-begin = refl;
         states-begin = refl;
         expressions-begin = refl;
@@ -236,10 +233,7 @@ module _ {image : List ℕ} {x : Design} (known : FlowKnown image x) where
       → ((labels : List ℕ) → MaskOf (designOf image .rows) labels m → answerAmong (designOf image) a ≡ nearest (flowFaults (designOf image) s labels (cmdOf (designOf image) n)))
       → answerAmong (designOf image) a ≡ nearest (stateFlowFaults (designOf image) s)
   unfolding stateFlowFaults bodyOf
-  state-flow-rule {s} {l} {n} a h fl fn fm small fa =
-      let d = designOf image in
-      let same : n ≡ stateAt d s .command = fn ∙ ap (λ (y : State). y .command) (state-in (known .describes) h) in
-      rw same at (fa (stateLabel d s ∷ []) (state-mask h fl fm small))
+  state-flow-rule {s} a h fl fn fm small fa = rw (body-is (known .describes) h fn) at (fa (stateLabel (designOf image) s ∷ []) (state-mask h fl fm small))
 
 -- the lowest fault of the states before s
 pub record NearestSo (d : Table) (s lowest : ℕ) : Type 0 where
@@ -251,7 +245,7 @@ module _ {d : Table} where
   nearest-one-more {s} {so} here before own r =
       record { is = rw r (answer-lower d so here ∙ rw (before .is, own, add-one s) (sym (nearest-append (joinBelow (stateFlowFaults d) s) (stateFlowFaults d s)))) }
 
-pub nearest-none-yet : {image : List ℕ} {x : Design} → FlowKnown image x → NearestSo (designOf image) 0 1024
+pub nearest-none-yet : {image : List ℕ} {x : Design} → FlowKnown image x → NearestSo (designOf image) 0 commandsMax
 unfolding joinBelow nearest
 nearest-none-yet {image} known = record { is = answer-none (designOf image) (commands-few (known .describes)) }
 

@@ -12,7 +12,7 @@ use borrow.Author.Tests.{lt-ltb, le-ltb, ltb-true, ltb-false}
 use Rattle.model.specs.declared.Refusal.{Refusal}
 use Rattle.model.specs.declared.Refusal.the-variants.{AssignFlow, GotoFlow, FallFlow}
 use Rattle.model.specs.declared.Answer.the-variants.{Accepted, Refused}
-use Rattle.model.specs.Image.{Labels, Design as Table, Node, State, designOf, commandAt, expressionAt}
+use Rattle.model.specs.Image.{Design as Table, Node, State, designOf, commandAt, expressionAt}
 use Rattle.model.specs.Limits.{commandsMax}
 use Rattle.model.specs.Lattice.{allFlowTo, registerLabel, stateLabel}
 use Rattle.model.specs.Kinds.{Operation, less, constants, commandKind, expressionKind}
@@ -22,10 +22,10 @@ use Rattle.model.specs.Rules.{ExpressionHolds}
 use Rattle.model.proofs.Laws.Trees.{expr-constant, expr-register, expr-binary, cmd-assign}
 use Rattle.model.proofs.Exact.Records.{state-iff}
 use Rattle.design.specs.declared.Design.{Design}
-use Rattle.design.specs.Records.{nodeIn, registerIn, stateIn, registerEnd, stateEnd}
+use Rattle.design.specs.Records.{nodeIn, registerIn, stateIn, registerEnd}
 use Rattle.design.specs.Describes.{Describes}
-use Rattle.design.proofs.Laws.{labels-count, registers-count, states-count, commands-count, expressions-count, register-inside, state-inside, state-in, command-in}
-use Rattle.design.proofs.NodeRules.{command-below, same-command, item-is, a-is, assigned-register, assigned-expression, expression-at, expression-place-inside, expression-kind-is, read-is, first-is, second-is, expression-holds, read-register, operation, operand-a-below, operand-b-below, lower-expression}
+use Rattle.design.proofs.Laws.{labels-count, labels-most, registers-count, states-count, commands-count, expressions-count, register-inside, state-in, command-in}
+use Rattle.design.proofs.FieldRules.{label-is as state-label, command-below, same-command, item-is, a-is, assigned-register, assigned-expression, expression-at, expression-place-inside, expression-kind-is, read-is, first-is, second-is, expression-holds, read-register, operation, operand-a-below, operand-b-below, lower-expression}
 use Rattle.bodies.specs.Places.{placeUnless}
 use Rattle.bodies.specs.Flows.{MaskOf, FlowKnown, Labelled, Naming, Gathering, Assigning, flowRefusal, answerAmong}
 use Rattle.bodies.proofs.PlaceRules.{below-or-not, commands-few}
@@ -211,9 +211,6 @@ pub ruleset reads-laws = (expression-place-inside, gathered-register, gathers-re
 
 -- ---- states and their labels
 module _ {image : List ℕ} {x : Design} (known : FlowKnown image x) where
-  labels-few : x .labels ≤ 16
-  labels-few = let is = known .describes .labels in let most = known .describes .directory .sections Labels .at-most in omega arith
-
   pub state-label-is : {s l : ℕ} → s < x .states → l ≡ stateIn image (x .«states_at») s .label → l ≡ stateLabel (designOf image) s
   state-label-is h e = e ∙ ap (λ (y : State). y .label) (state-in (known .describes) h)
 
@@ -223,18 +220,12 @@ module _ {image : List ℕ} {x : Design} (known : FlowKnown image x) where
       state-iff (designOf image) s .0 (known .states .kept s (omega arith)) .label
 
 module _ {image : List ℕ} {place s : ℕ} (here : Naming image place s) where
-  pub state-place-inside : stateEnd place s ≤ length image
-  state-place-inside = rw (here .begins) (state-inside (here .known .describes) (here .state))
-
-  label-at : {l : ℕ} → l ≡ stateIn image place s .label → l ≡ stateLabel (designOf image) s
-  label-at e = state-label-is (here .known) (here .state) (rw (here .begins) at e)
-
   pub state-label-small : {l : ℕ} → l ≡ stateIn image place s .label → l < 64
   state-label-small e =
       let labels = labels-count (here .known .describes) in
-      let below = state-label-below (here .known) (here .state) in
-      let few = labels-few (here .known) in
-      let is = label-at e in
+      let below = state-label-below (here .known) (here .state .state) in
+      let few = labels-most (here .known .describes) in
+      let is = state-label (here .state) e in
       omega arith
 
   pub state-bit :
@@ -243,7 +234,7 @@ module _ {image : List ℕ} {place s : ℕ} (here : Naming image place s) where
       → b ≡ eqb (m / 2 ^ l % 2) 1
       → MaskOf (designOf image .rows) labels m
       → b ≡ allFlowTo (designOf image .rows) labels (stateLabel (designOf image) s)
-  state-bit e f mask = f ∙ rw (label-at e) (mask .bits (stateLabel (designOf image) s) (state-label-below (here .known) (here .state)))
+  state-bit e f mask = f ∙ rw (state-label (here .state) e) (mask .bits (stateLabel (designOf image) s) (state-label-below (here .known) (here .state .state)))
 
 -- ---- an assignment
 module _ {image : List ℕ} {registersAt place expressionsAt n : ℕ} (a : Assigning image registersAt place expressionsAt n) where
@@ -278,7 +269,7 @@ module _ {image : List ℕ} {registersAt place expressionsAt n : ℕ} (a : Assig
   assigned-below = register-label (a .known) (assigned (sym (ap (λ (y : Node). y .item) (same-command (a .command)))))
 
   pub assigned-label-small : {r l : ℕ} → r ≡ nodeIn image place n .item → l ≡ registerIn image registersAt r .label → l < 64
-  assigned-label-small f g = let few = labels-few (a .known) in let below = assigned-below in let is = assigned-label f g in omega arith
+  assigned-label-small f g = let few = labels-most (a .known .describes) in let below = assigned-below in let is = assigned-label f g in omega arith
 
   pub assign-rule :
       {r e l m context : ℕ} {b : Bool} {answer : ℕ} {labels : List ℕ} (s : ℕ)

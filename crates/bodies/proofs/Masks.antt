@@ -10,13 +10,13 @@ use Rattle.model.proofs.Laws.Bits.{bit-and}
 use lib.Dec.{eqb}
 use lib.ListN.{length, getD}
 use Rattle.model.specs.Indices.{allBelow}
-use Rattle.model.specs.Image.{Labels, Register, designOf}
+use Rattle.model.specs.Image.{Register, designOf}
 use Rattle.model.specs.Lattice.{flowsTo, allFlowTo, registerLabel}
 use Rattle.model.proofs.Laws.Indices.{all-at}
 use Rattle.design.specs.declared.Design.{Design}
 use Rattle.design.specs.Records.{rowIn, registerIn, registerEnd, rowEnd}
 use Rattle.design.specs.Describes.{Describes}
-use Rattle.design.proofs.Laws.{labels-count, registers-count, row-inside, register-inside, row-in, register-in}
+use Rattle.design.proofs.Laws.{labels-count, labels-most, registers-count, row-inside, register-inside, row-in, register-in}
 use Rattle.model.proofs.Exact.Records.{register-iff}
 use Rattle.bodies.specs.Flows.{MaskOf, FlowKnown, Labelled}
 
@@ -51,8 +51,7 @@ mask-none {image} {x} d =
       bits =
           λ l h.
           let count = labels-count d in
-          let is = d .labels in
-          let most = d .directory .sections Labels .at-most in
+          let most = labels-most d in
           all-at (λ l. eqb (65535 / 2 ^ l % 2) 1) 16 refl l (omega arith);
     }
 

@@ -11,11 +11,11 @@ use borrow.Author.Tests.{lt-ltb, le-ltb, ltb-true, ltb-false}
 use Rattle.model.specs.declared.Found.the-variants.{At, Nowhere}
 use Rattle.model.specs.Indices.{lower, lowestOf}
 use Rattle.model.specs.Limits.{commandsMax}
-use Rattle.model.specs.Image.{Commands, designOf}
+use Rattle.model.specs.Image.{designOf}
 use Rattle.model.specs.Shape.{chargedUnless}
 use Rattle.design.specs.declared.Design.{Design}
 use Rattle.design.specs.Describes.{Describes}
-use Rattle.design.proofs.Laws.{commands-count}
+use Rattle.design.proofs.Laws.{commands-count, commands-most}
 use Rattle.bodies.specs.Places.{placeUnless, foundAmong}
 
 -- ---- what a place says
@@ -64,7 +64,6 @@ found-charged false l m = found-at l
 -- a design has no more commands than a table can have
 pub commands-few : {image : List ℕ} {x : Design} → Describes image x → length (designOf image .commands) ≤ commandsMax
 commands-few d =
-    let is = d .commands in
     let count = commands-count d in
-    let most = d .directory .sections Commands .at-most in
+    let most = commands-most d in
     omega arith

@@ -20,16 +20,15 @@ use Rattle.model.specs.Shape.{transfers, chargedUnless, shapeFaults, stateShape
 use Rattle.model.specs.Rules.{CommandHolds}
 use Rattle.model.proofs.Laws.Faults.{lowest-append}
 use Rattle.model.proofs.Laws.Trees.{cmd-skip, cmd-assign, cmd-sequence, cmd-fall, cmd-goto, cmd-branch}
-use Rattle.model.proofs.Exact.Records.{state-iff}
 use Rattle.model.proofs.Laws.Passes.{Missed, one-passes, none-pass}
 use native.Mathlib.Numerals.{add-one}
 use Rattle.design.specs.declared.Design.{Design}
-use Rattle.design.specs.Records.{nodeIn, stateIn, stateEnd}
+use Rattle.design.specs.Records.{nodeIn, stateIn}
 use Rattle.design.specs.Describes.{Describes}
-use Rattle.design.proofs.Laws.{states-count, commands-count, state-inside, state-in}
-use Rattle.design.proofs.NodeRules.{command-at, command-place-inside, command-below, command-kind-of, item-is, a-is, b-is, c-is, command-holds, named-state, sequence-a-below, sequence-b-below, branch-b-below, branch-c-below, lower-command}
+use Rattle.design.proofs.Laws.{states-count, commands-count, state-in}
+use Rattle.design.proofs.FieldRules.{parent-is, body-is, body-below, command-at, command-place-inside, command-below, command-kind-of, item-is, a-is, b-is, c-is, command-holds, named-state, sequence-a-below, sequence-b-below, branch-b-below, branch-c-below, lower-command}
 use Rattle.bodies.specs.Places.{placeUnless, foundAmong}
-use Rattle.bodies.specs.Shapes.{Judged, judgedOf, sequencedOf, branchedOf, judgementOf, judgedAmong, sequencedAs, branchedAs, Judging, Going, ShapeKnown}
+use Rattle.bodies.specs.Shapes.{Judged, judgedOf, sequencedOf, branchedOf, judgementOf, judgementMost, judgedAmong, sequencedAs, branchedAs, Judging, Going, ShapeKnown}
 use Rattle.bodies.proofs.PlaceRules.{found-nowhere, found-lower, found-charged, commands-few}
 
 -- ---- siblings
@@ -39,12 +38,6 @@ and-known true false c e = refl
 and-known false b c e = refl
 
 module _ {image : List ℕ} {place s t : ℕ} (here : Going image place s t) where
-  pub state-place-inside : stateEnd place s ≤ length image
-  state-place-inside = rw (here .states-begin) (state-inside (here .describes) (here .state))
-
-  pub target-place-inside : stateEnd place t ≤ length image
-  target-place-inside = rw (here .states-begin) (state-inside (here .describes) (here .target))
-
   pub sibling-rule :
       {p q : ℕ}
       → p ≡ stateIn image place t .parent
@@ -53,11 +46,11 @@ module _ {image : List ℕ} {place s t : ℕ} (here : Going image place s t) whe
   unfolding siblingOrSelf isChild
   sibling-rule {p = y} {q = z} p q =
       let d = designOf image in
-      let count = states-count (here .describes) in
-      let target = here .target in
+      let count = states-count (here .target .describes) in
+      let target = here .target .state in
       let below : t < length (d .states) = omega arith in
-      let first : y ≡ parent d t = (rw (here .states-begin) at p) ∙ ap (λ (y : State). y .parent) (state-in (here .describes) (here .target)) in
-      let second : z ≡ parent d s = (rw (here .states-begin) at q) ∙ ap (λ (y : State). y .parent) (state-in (here .describes) (here .state)) in
+      let first = parent-is (here .target) p in
+      let second = parent-is (here .state) q in
       and-known (not (eqb s 0)) (not (eqb t 0)) (eqb y z) (lt-ltb t (length (d .states)) below) ∙ rw (first, second)
 
 -- ---- the number of a shape
@@ -201,7 +194,11 @@ module _ {image : List ℕ} {states place s n : ℕ} {falling : Bool} (j : Judgi
   goto-going q p f =
       let count = states-count (j .describes) in
       let below = named-state (j .command) q p f in
-      record { design = j .design; describes = j .describes; state = j .state; target = omega arith; states-begin = j .states-begin }
+      record {
+        design = j .design;
+        state = record { describes = j .describes; state = j .state; begins = j .states-begin };
+        target = record { describes = j .describes; state = omega arith; begins = j .states-begin };
+      }
 
   -- ---- what the command comes to
   pub charged-small : {f : ℕ} (b : Bool) → f ≡ placeUnless b n → f ≤ commandsMax
@@ -285,18 +282,18 @@ module _ {image : List ℕ} {states place s n : ℕ} {falling : Bool} (j : Judgi
       (plain-kind d n k (commandAt d n) a b c f (command-holds (j .command) refl e))
 
 -- ---- the numbers stay small: at most twice no place, and one more
-pub judgement-small : {f r : ℕ} (b : Bool) → r ≡ judgementOf b f → f ≤ commandsMax → r ≤ 2049
+pub judgement-small : {f r : ℕ} (b : Bool) → r ≡ judgementOf b f → f ≤ commandsMax → r ≤ judgementMost
 judgement-small true e l = omega arith
 judgement-small false e l = omega arith
 
 -- the lowest place is no higher than that of a part
-parts-small : (own p q : ℕ) → p ≤ 2049 → min own (min (p / 2) (q / 2)) ≤ commandsMax
+parts-small : (own p q : ℕ) → p ≤ judgementMost → min own (min (p / 2) (q / 2)) ≤ commandsMax
 parts-small own p q l = omega arith
 
-pub sequenced-small : {r : ℕ} (n p q : ℕ) → r ≡ sequencedAs n p q → p ≤ 2049 → r ≤ 2049
+pub sequenced-small : {r : ℕ} (n p q : ℕ) → r ≡ sequencedAs n p q → p ≤ judgementMost → r ≤ judgementMost
 sequenced-small n p q e l = judgement-small (eqb (q % 2) 1) e (parts-small (placeUnless (not (eqb (p % 2) 1)) n) p q l)
 
-pub branched-small : {r : ℕ} (n p q : ℕ) → r ≡ branchedAs n p q → p ≤ 2049 → r ≤ 2049
+pub branched-small : {r : ℕ} (n p q : ℕ) → r ≡ branchedAs n p q → p ≤ judgementMost → r ≤ judgementMost
 branched-small n p q e l = judgement-small (eqb (p % 2) 1 && eqb (q % 2) 1) e (parts-small (placeUnless (Bool·beq (eqb (p % 2) 1) (eqb (q % 2) 1)) n) p q l)
 
 -- ---- children
@@ -315,14 +312,6 @@ no-child s d m l = none-pass m l (states-count d)
 
 -- ---- states
 module _ {image : List ℕ} {x : Design} (known : ShapeKnown image x) where
-  body-below : {s n : ℕ} → s < x .states → n ≡ stateIn image (x .«states_at») s .command → n < x .commands
-  body-below {s} {n} l e =
-      let states = states-count (known .describes) in
-      let commands = commands-count (known .describes) in
-      let kept = state-iff (designOf image) s .0 (known .states .kept s (omega arith)) .command in
-      let same : n ≡ stateAt (designOf image) s .command = e ∙ ap (λ (y : State). y .command) (state-in (known .describes) l) in
-      omega arith
-
   pub body-judging : {s n : ℕ} {b : Bool} → s < x .states → n ≡ stateIn image (x .«states_at») s .command → b ≡ hasChild (designOf image) s → Judging image (x .«states_at») (x .«commands_at») s n b
   body-judging l e h =
       record {
@@ -330,7 +319,7 @@ module _ {image : List ℕ} {x : Design} (known : ShapeKnown image x) where
         describes = known .describes;
         commands = known .commands;
         state = l;
-        command = command-at (known .describes) (known .commands) (body-below l e) refl;
+        command = command-at (known .describes) (known .commands) (body-below (known .describes) l e (known .states)) refl;
         children = h;
         states-begin = refl;
       }
@@ -350,9 +339,9 @@ module _ {image : List ℕ} {x : Design} (known : ShapeKnown image x) where
       let d = designOf image in
       let commands = length (d .commands) in
       let count = commands-count (known .describes) in
-      let node = body-below l e in
+      let node = body-below (known .describes) l e (known .states) in
       let below : n < commands = omega arith in
-      let same : n ≡ stateAt d s .command = e ∙ ap (λ (y : State). y .command) (state-in (known .describes) l) in
+      let same = body-is (known .describes) l e in
       let transferring : b ≡ transfers (cmdOf d n) = t ∙ ap (λ (y : Judged). y .transfers) j in
       let first : foundAmong commands own ≡ lowestOf (chargedUnless (transfers (cmdOf d n)) n) = ap (foundAmong commands) o ∙ (found-charged b below (commands-few (known .describes)) ∙ ap (λ (y : Bool). lowestOf (chargedUnless y n)) transferring) in
       let second : foundAmong commands place ≡ lowestOf (shapeFaults d s (cmdOf d n)) = ap (foundAmong commands) p ∙ ap (λ (y : Judged). y .lowest) j in

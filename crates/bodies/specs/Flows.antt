@@ -1,4 +1,4 @@
--- What the pass for refusals 10 to 12 knows at a node, contexts as masks, where bit l of a mask is set where the whole context flows to label l, and what the place of a fault says.
+-- What the pass for refusals 10 to 12 knows at a node, contexts as masks, and what the place of a fault says.
 use Prim.Native.Nat.{ℕ, _/_, _%_, _^_, _<_}
 use mathlib.Core.Path.{_≡_}
 use mathlib.Core.Bool.{cond}
@@ -15,8 +15,9 @@ use Rattle.model.specs.Kinds.{CommandKind, skips, assigns, sequences, falls, go
 use Rattle.design.specs.declared.Design.{Design}
 use Rattle.design.specs.Describes.{Describes}
 use Rattle.design.specs.Kept.{RegistersKept, StatesKept, CommandsKept, ExpressionsKept}
-use Rattle.design.specs.NodesAt.{CommandAt, ExpressionAt}
+use Rattle.design.specs.RecordsAt.{StateAt, CommandAt, ExpressionAt}
 
+-- bit l of a mask is set where the whole context flows to label l
 pub record MaskOf (rows context : List ℕ) (mask : ℕ) : Type 0 where
   pub small : mask < 65536
   pub bits : (l : ℕ) → l < length rows → eqb (mask / 2 ^ l % 2) 1 ≡ allFlowTo rows context l
@@ -53,8 +54,7 @@ pub record Labelled (image : List ℕ) (registersAt r : ℕ) : Type 0 where
 pub record Naming (image : List ℕ) (statesAt s : ℕ) : Type 0 where
   pub design : Design
   pub known : FlowKnown image design
-  pub state : s < design .states
-  pub begins : statesAt ≡ design .«states_at»
+  pub state : StateAt image design statesAt s
 
 pub record Gathering (image : List ℕ) (registersAt expressionsAt e : ℕ) : Type 0 where
   pub design : Design

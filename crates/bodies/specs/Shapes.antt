@@ -1,11 +1,12 @@
 -- What the pass for refusal 8 knows and finds at a command.
 use Prim.Native.Nat.{ℕ, min, _+_, _*_, _/_, _%_, _<_}
 use mathlib.Core.Path.{_≡_}
-use mathlib.Core.Bool.{Bool, cond, _&&_, not, Bool·beq}
+use mathlib.Core.Bool.{Bool, true, cond, _&&_, not, Bool·beq}
 use mathlib.Core.List.{List}
 use lib.Dec.{eqb}
 use Rattle.model.specs.declared.Found.{Found}
 use Rattle.model.specs.Indices.{lower, lowestOf}
+use Rattle.model.specs.Limits.{commandsMax}
 use Rattle.model.specs.Image.{designOf, Design as Table}
 use Rattle.model.specs.States.{hasChild}
 use Rattle.model.specs.Trees.{Cmd}
@@ -13,7 +14,7 @@ use Rattle.model.specs.Shape.{transfers, chargedUnless, shapeFaults}
 use Rattle.design.specs.declared.Design.{Design}
 use Rattle.design.specs.Describes.{Describes}
 use Rattle.design.specs.Kept.{StatesKept, CommandsKept}
-use Rattle.design.specs.NodesAt.{CommandAt}
+use Rattle.design.specs.RecordsAt.{StateAt, CommandAt}
 use Rattle.bodies.specs.Places.{placeUnless, foundAmong}
 
 -- what a command's shape comes to: whether it transfers, and the lowest node that breaks a rule
@@ -43,6 +44,10 @@ judgementOf transfers place = cond transfers (2 * place + 1) (2 * place)
 unfoldable pub judgedAmong : ℕ → ℕ → Judged
 judgedAmong commands r = record { transfers = eqb (r % 2) 1; lowest = foundAmong commands (r / 2) }
 
+-- the greatest such number: no place, and one more
+abbrev pub judgementMost : ℕ
+judgementMost = judgementOf true commandsMax
+
 -- the numbers of a sequence and of an if, from those of their parts
 abbrev pub sequencedAs : ℕ → ℕ → ℕ → ℕ
 sequencedAs n p q = judgementOf (eqb (q % 2) 1) (min (placeUnless (not (eqb (p % 2) 1)) n) (min (p / 2) (q / 2)))
@@ -63,10 +68,8 @@ pub record Judging (image : List ℕ) (statesAt commandsAt s n : ℕ) (falls : B
 -- and where a command of state s goes to state t
 pub record Going (image : List ℕ) (statesAt s t : ℕ) : Type 0 where
   pub design : Design
-  pub describes : Describes image design
-  pub state : s < design .states
-  pub target : t < design .states
-  pub states-begin : statesAt ≡ design .«states_at»
+  pub state : StateAt image design statesAt s
+  pub target : StateAt image design statesAt t
 
 -- what the passes up to refusal 5 have established, and the shape pass needs
 pub record ShapeKnown (image : List ℕ) (x : Design) : Type 0 where

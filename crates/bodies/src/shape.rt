@@ -1,6 +1,6 @@
 // Refusal 8: the shape of commands, by recursion over their parts. What a command's shape comes to
 // is one number, which the recursion hands back in a register of the processor: twice the lowest
-// place that breaks a rule, and one more where the command transfers. It is at most 2049.
+// place that breaks a rule, and one more where the command transfers.
 use crate::places::NOWHERE;
 use crate::places::charged_unless;
 use crate::places::found;
@@ -19,7 +19,7 @@ ghost use Rattle.model.specs.States.{isChild, hasChild, siblingOrSelf};
 ghost use Rattle.model.specs.Shape.{stateShapeFaults, shapeFault};
 ghost use Rattle.design.specs.Describes.{Describes};
 ghost use Rattle.bodies.specs.Places.{foundAmong};
-ghost use Rattle.bodies.specs.Shapes.{judgementOf, judgedAmong, sequencedAs, branchedAs, judgedOf, Going, Judging, ShapeKnown};
+ghost use Rattle.bodies.specs.Shapes.{judgementOf, judgementMost, judgedAmong, sequencedAs, branchedAs, judgedOf, Going, Judging, ShapeKnown};
 
 // What a shape comes to, as a number.
 fn judgement(transfers: bool, lowest: usize) -> usize
@@ -56,7 +56,7 @@ fn sibling_or_self(image: &[u8], at: usize, s: usize, t: usize) -> bool
 
 // What a sequence comes to, from its parts.
 fn sequenced(n: usize, p: usize, q: usize) -> usize
-    requires { ⌜ (p ≤ 2049) × (q ≤ 2049) ⌝ }
+    requires { ⌜ (p ≤ judgementMost) × (q ≤ judgementMost) ⌝ }
     ensures { λ r. ⌜ r ≡ sequencedAs n p q ⌝ }
 {
     let parts = lower(lowest(p), lowest(q));
@@ -66,7 +66,7 @@ fn sequenced(n: usize, p: usize, q: usize) -> usize
 
 // What an if comes to, from its branches.
 fn branched(n: usize, p: usize, q: usize) -> usize
-    requires { ⌜ (p ≤ 2049) × (q ≤ 2049) ⌝ }
+    requires { ⌜ (p ≤ judgementMost) × (q ≤ judgementMost) ⌝ }
     ensures { λ r. ⌜ r ≡ branchedAs n p q ⌝ }
 {
     let parts = lower(lowest(p), lowest(q));
@@ -87,7 +87,7 @@ fn judge(
     n: usize,
 ) -> usize
     requires { ⌜ Judging (now image) «states_at» «commands_at» s n falls ⌝ }
-    ensures { λ r. ⌜ (judgedAmong (length (designOf (now (image .entry)) .commands)) r ≡ judgedOf (designOf (now (image .entry))) s (cmdOf (designOf (now (image .entry))) n)) × (r ≤ 2049) ⌝ }
+    ensures { λ r. ⌜ (judgedAmong (length (designOf (now (image .entry)) .commands)) r ≡ judgedOf (designOf (now (image .entry))) s (cmdOf (designOf (now (image .entry))) n)) × (r ≤ judgementMost) ⌝ }
 {
     let kind = Design::kind(image, commands_at, n);
     match kind {

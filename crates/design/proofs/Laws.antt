@@ -6,7 +6,7 @@ use lib.Dec.{eqb, leb}
 use mathlib.Core.List.{List}
 use native.Mathlib.Omega.{arith}
 use lib.ListN.{length, getD}
-use Rattle.model.specs.Limits.{directoryLength}
+use Rattle.model.specs.Limits.{directoryLength, labelsMax, commandsMax, expressionsMax}
 use Rattle.model.specs.Image.{Section, Labels, Registers, States, Commands, Expressions, recordLength, fewest, most, offset, size, end, offsetsKept, sectionKept, directoryKept, designOf, registerAt, stateAt, commandAt, expressionAt}
 use Rattle.model.proofs.Laws.Images.{row-at, register-is, state-is, command-is, expression-is, label-count, register-count, state-count, command-count, expression-count}
 use Rattle.design.specs.declared.Design.{Design}
@@ -115,6 +115,16 @@ module _ {image : List ℕ} {x : Design} (d : Describes image x) where
 
   pub expressions-count : x .expressions ≡ length (designOf image .expressions)
   expressions-count = d .expressions ∙ sym (expression-count image)
+
+  -- ---- no section has more records than its limit
+  pub labels-most : x .labels ≤ labelsMax
+  labels-most = omega (arith, d .labels, d .directory .sections Labels)
+
+  pub commands-most : x .commands ≤ commandsMax
+  commands-most = omega (arith, d .commands, d .directory .sections Commands)
+
+  pub expressions-most : x .expressions ≤ expressionsMax
+  expressions-most = omega (arith, d .expressions, d .directory .sections Expressions)
 
   -- ---- records stand inside the image
   pub row-inside : {i : ℕ} → i < x .labels → rowEnd i ≤ length image

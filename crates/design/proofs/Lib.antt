@@ -1,5 +1,5 @@
 -- Laws that tie the accessors and the directory to the meaning, and of words and reset. The crates above cite them.
 pub mod Laws
-pub mod NodeRules
+pub mod FieldRules
 pub mod WordRules
 pub mod ResetRules

@@ -1,8 +1,8 @@
--- What the contracts of this crate and of those above it cite: a record by the place of its section, when a `Design` describes an image, its records keep their rules and a node stands at a place, a
--- register area with one word written, and what reset writes.
+-- What the contracts of this crate and of those above it cite: a record by the place of its section, when a `Design` describes an image, its records keep their rules, and one
+-- stands at a place, a register area with one word written, and what reset writes.
 pub mod Records
 pub mod Describes
 pub mod Kept
-pub mod NodesAt
+pub mod RecordsAt
 pub mod Words
 pub mod Resets

@@ -12,7 +12,7 @@ use Rattle.model.specs.declared.Ending.{Ending}
 use Rattle.model.specs.declared.Ending.the-variants.{Goto, Fall}
 use Rattle.model.specs.declared.Outcome.{Outcome}
 use Rattle.model.specs.declared.Outcome.the-variants.{Continued, Transferred}
-use Rattle.model.specs.Image.{Design as Table, State, States, designOf, stateAt}
+use Rattle.model.specs.Image.{Design as Table, States, designOf}
 use Rattle.model.specs.States.{parent, defaultTarget, within}
 use Rattle.model.specs.Lattice.{stateLabel}
 use Rattle.model.specs.Trees.{cmdOf, bodyOf}
@@ -21,11 +21,11 @@ use Rattle.model.specs.Machine.{Executed, Areas, Cycle, exec, goneTo, afterBody
 use Rattle.model.proofs.Laws.States.{sibling-child}
 use Rattle.model.proofs.Laws.Gotos.{length-gone, gone-other, gone-parent}
 use Rattle.model.proofs.Laws.Cycles.{after-first}
-use Rattle.model.proofs.Exact.Records.{state-iff}
 use Rattle.model.proofs.Independence.Endings.{exec-ends}
 use Rattle.design.specs.declared.Design.{Design}
 use Rattle.design.specs.Records.{stateIn}
-use Rattle.design.proofs.Laws.{registers-count, states-count, commands-count, state-in}
+use Rattle.design.proofs.FieldRules.{body-is, body-below}
+use Rattle.design.proofs.Laws.{registers-count, states-count}
 use Rattle.design.proofs.ResetRules.{default-inside, states-few, state-fits}
 use Rattle.bodies.specs.Flows.{FlowKnown}
 use Rattle.machine.specs.Executions.{Executing, executedAs, valuesIn}
@@ -33,21 +33,13 @@ use Rattle.machine.specs.Cycles.{Running, Cycled, areasIn, overwritten}
 
 -- ---- the command of a state
 module _ {image : List ℕ} {x : Design} {s c : ℕ} (known : FlowKnown image x) (l : s < x .states) (e : c ≡ stateIn image (x .«states_at») s .command) where
-  command-is : c ≡ stateAt (designOf image) s .command
-  command-is = e ∙ ap (λ (y : State). y .command) (state-in (known .describes) l)
-
   pub body-executing : Executing image x c
-  body-executing =
-      let states = states-count (known .describes) in
-      let commands = commands-count (known .describes) in
-      let is = command-is in
-      let below = state-iff (designOf image) s .0 (known .states .kept s (omega arith)) .command in
-      record { known = known; node = omega arith }
+  body-executing = record { known = known; node = body-below (known .describes) l e (known .states) }
 
   pub body-rule : (before after : List ℕ) {o : Outcome} → executedAs (wordsOf (x .registers) after) o ≡ exec (wordsOf (x .registers) before) (cmdOf (designOf image) c)
       → executedAs (valuesIn (designOf image) after) o ≡ exec (valuesIn (designOf image) before) (bodyOf (designOf image) s)
   unfolding bodyOf
-  body-rule before after h = rw (← registers-count (known .describes), ← command-is) h
+  body-rule before after h = rw (← registers-count (known .describes), ← body-is (known .describes) l e) h
 
 -- ---- the walk as it is written
 pub put-shown : (shown old : List ℕ) (v : ℕ) → length shown < length old → set (overwritten shown old) (length shown) v ≡ overwritten (shown ++ v ∷ []) old

@@ -15,7 +15,7 @@ use Rattle.model.proofs.Laws.Kinds.{kind-constants, kind-reads, kind-operates, 
 use Rattle.model.proofs.Laws.Trees.{expr-constant, expr-register, expr-binary}
 use Rattle.design.specs.Records.{nodeIn, constantIn}
 use Rattle.design.proofs.Laws.{registers-count}
-use Rattle.design.proofs.NodeRules.{expression-place-inside, same-expression, expression-kind-is, read-is, first-is, second-is, expression-holds, read-register, operand-a-below, operand-b-below, lower-expression}
+use Rattle.design.proofs.FieldRules.{expression-place-inside, same-expression, expression-kind-is, read-is, first-is, second-is, expression-holds, read-register, operand-a-below, operand-b-below, lower-expression}
 use Rattle.design.proofs.WordRules.{words-at}
 use Rattle.machine.specs.Executions.{Evaluating, valuesIn}
 

@@ -25,7 +25,7 @@ use Rattle.design.specs.declared.Design.{Design}
 use Rattle.design.specs.Records.{nodeIn, nodeEnd}
 use Rattle.design.proofs.Laws.{registers-count, commands-count, expressions-count, command-inside, command-in}
 use Rattle.design.specs.Words.{putWord}
-use Rattle.design.proofs.NodeRules.{command-at, command-place-inside, command-below, command-kind-is, command-kind-of, item-is, a-is, b-is, c-is, command-holds, assigned-register, assigned-expression, condition, sequence-a-below, sequence-b-below, branch-b-below, branch-c-below, lower-command, expression-at}
+use Rattle.design.proofs.FieldRules.{command-at, command-place-inside, command-below, command-kind-is, command-kind-of, item-is, a-is, b-is, c-is, command-holds, assigned-register, assigned-expression, condition, sequence-a-below, sequence-b-below, branch-b-below, branch-c-below, lower-command, expression-at}
 use Rattle.bodies.specs.Flows.{FlowKnown}
 use Rattle.design.proofs.WordRules.{words-put, length-put}
 use Rattle.machine.specs.Executions.{Executing, Evaluating, Performing, executedAs, cameTo, cameToBy, valuesIn}

@@ -11,7 +11,7 @@ use Rattle.model.specs.Kinds.{CommandKind, skips, assigns, sequences, falls, go
 use Rattle.model.specs.Values.{wordsOf}
 use Rattle.model.specs.Machine.{Executed}
 use Rattle.design.specs.declared.Design.{Design}
-use Rattle.design.specs.NodesAt.{CommandAt, ExpressionAt}
+use Rattle.design.specs.RecordsAt.{CommandAt, ExpressionAt}
 use Rattle.bodies.specs.Flows.{FlowKnown}
 
 pub record Executing (image : List ℕ) (x : Design) (n : ℕ) : Type 0 where

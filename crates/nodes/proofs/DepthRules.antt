@@ -11,8 +11,8 @@ use borrow.Author.Tests.{leb-true, leb-false, le-leb, lt-leb}
 use Rattle.model.specs.declared.Found.{Found}
 use Rattle.model.specs.declared.Found.the-variants.{Nowhere}
 use Rattle.model.specs.Indices.{lowestFailing}
-use Rattle.model.specs.Limits.{depthMax}
-use Rattle.model.specs.Image.{Commands, Expressions, designOf}
+use Rattle.model.specs.Limits.{commandsMax, expressionsMax, depthMax}
+use Rattle.model.specs.Image.{designOf}
 use Rattle.model.specs.Kinds.{sequences, branches, commandKind, expressionKind, Operation, operates, commandKept, expressionKept}
 use Rattle.model.specs.Trees.{exprOf, cmdOf, exprDepth, cmdDepth}
 use Rattle.model.specs.Nodes.{commandDepthKept, expressionDepthKept}
@@ -24,11 +24,11 @@ use Rattle.design.specs.declared.Design.{Design}
 use Rattle.design.specs.Records.{nodeIn}
 use Rattle.design.specs.Describes.{Describes}
 use Rattle.design.specs.Resets.{Filled}
-use Rattle.design.proofs.Laws.{commands-count, expressions-count}
-use Rattle.design.specs.NodesAt.{CommandAt, ExpressionAt}
-use Rattle.design.proofs.NodeRules.{command-kind-is, command-kind-of, a-is, b-is, c-is, sequence-a-below, sequence-b-below, branch-b-below, branch-c-below, expression-kind-is, first-is, second-is, operation}
+use Rattle.design.proofs.Laws.{commands-count, expressions-count, commands-most, expressions-most}
+use Rattle.design.specs.RecordsAt.{CommandAt, ExpressionAt}
+use Rattle.design.proofs.FieldRules.{command-kind-is, command-kind-of, a-is, b-is, c-is, sequence-a-below, sequence-b-below, branch-b-below, branch-c-below, expression-kind-is, first-is, second-is, operation}
 use Rattle.design.proofs.ResetRules.{filled-none, filled-more, filled-to}
-use Rattle.nodes.specs.Tables.{keptCommands, keptExpressions, depthEntry, Depths, NearWhere}
+use Rattle.nodes.specs.Tables.{keptCommands, keptExpressions, depthEntry, Depths, ShallowWhere}
 use Rattle.nodes.proofs.CountRules.{failing-same}
 use Rattle.nodes.proofs.PartRules.{operation-a, operation-b}
 
@@ -126,17 +126,17 @@ entry-small depth =
     (λ (e : leb depth depthMax ≡ false). let l = leb-false depth depthMax e in lt-leb (depthEntry depth) depthMax (omega arith) ∙ sym e)
     (decide (leb depth depthMax))
 
-pub near-found : {rule : ℕ → Bool} {table : List ℕ} {m n : ℕ} {f : Found} → NearWhere rule table m → m ≡ n → f ≡ lowestFailing (λ k. leb (getD table k 0) depthMax) m → f ≡ lowestFailing rule n
-near-found {rule} {table} {m} so e h = h ∙ failing-same (λ k. leb (getD table k 0) depthMax) rule m (so .entry) ∙ ap (lowestFailing rule) e
+pub shallow-found : {rule : ℕ → Bool} {table : List ℕ} {m n : ℕ} {f : Found} → ShallowWhere rule table m → m ≡ n → f ≡ lowestFailing (λ k. leb (getD table k 0) depthMax) m → f ≡ lowestFailing rule n
+shallow-found {rule} {table} {m} so e h = h ∙ failing-same (λ k. leb (getD table k 0) depthMax) rule m (so .entry) ∙ ap (lowestFailing rule) e
 
 -- ---- refusal 7, where every record keeps its rule
-filled-near :
+filled-shallow :
     (limit : ℕ) (depth : ℕ → ℕ) {m n : ℕ} {t : List ℕ}
     → Filled (λ k. depthEntry (depth k)) (replicate limit 0) n t
     → m ≡ n
     → m ≤ limit
-    → NearWhere (λ k. leb (depth k) depthMax) t m
-filled-near limit depth {m} {n} {t} so e l =
+    → ShallowWhere (λ k. leb (depth k) depthMax) t m
+filled-shallow limit depth {m} {n} {t} so e l =
     let same = so .long in
     let fresh = length-replicate {A = ℕ} limit 0 in
     record { long = omega arith; entry = λ k b. rw (so .done k (omega arith)) (entry-small (depth k)) }
@@ -144,21 +144,19 @@ filled-near limit depth {m} {n} {t} so e l =
 module _ {image : List ℕ} {x : Design} (d : Describes image x) {t : List ℕ} where
   pub command-depths-told :
       lowestFailing (commandKept (designOf image)) (length (designOf image .commands)) ≡ Nowhere
-      → Filled (λ k. depthEntry (cmdDepth (cmdOf (designOf image) k))) (replicate 1024 0) (keptCommands (designOf image)) t
-      → NearWhere (commandDepthKept (designOf image)) t (x .commands)
+      → Filled (λ k. depthEntry (cmdDepth (cmdOf (designOf image) k))) (replicate commandsMax 0) (keptCommands (designOf image)) t
+      → ShallowWhere (commandDepthKept (designOf image)) t (x .commands)
   unfolding commandDepthKept
   command-depths-told commands so =
-      let most = d .directory .sections Commands .at-most in
-      filled-near 1024 (λ k. cmdDepth (cmdOf (designOf image) k)) (rw commands at so) (commands-count d) (omega (arith, d .commands))
+      filled-shallow commandsMax (λ k. cmdDepth (cmdOf (designOf image) k)) (rw commands at so) (commands-count d) (commands-most d)
 
   pub expression-depths-told :
       lowestFailing (expressionKept (designOf image)) (length (designOf image .expressions)) ≡ Nowhere
-      → Filled (λ k. depthEntry (exprDepth (exprOf (designOf image) k))) (replicate 2048 0) (keptExpressions (designOf image)) t
-      → NearWhere (expressionDepthKept (designOf image)) t (x .expressions)
+      → Filled (λ k. depthEntry (exprDepth (exprOf (designOf image) k))) (replicate expressionsMax 0) (keptExpressions (designOf image)) t
+      → ShallowWhere (expressionDepthKept (designOf image)) t (x .expressions)
   unfolding expressionDepthKept
   expression-depths-told expressions so =
-      let most = d .directory .sections Expressions .at-most in
-      filled-near 2048 (λ k. exprDepth (exprOf (designOf image) k)) (rw expressions at so) (expressions-count d) (omega (arith, d .expressions))
+      filled-shallow expressionsMax (λ k. exprDepth (exprOf (designOf image) k)) (rw expressions at so) (expressions-count d) (expressions-most d)
 
 pub ruleset depth-laws = (flat-depth, sequence-depth, branch-depth, low-depth, high-depth, operation-depth)
 

@@ -4,23 +4,24 @@ use mathlib.Core.Path.{_≡_, refl, sym, _∙_}
 use mathlib.Core.Bool.{Bool, false, not}
 use mathlib.Core.List.{List}
 use native.Mathlib.Omega.{arith}
-use Rattle.model.specs.Image.{Commands, Expressions, designOf}
+use Rattle.model.specs.Limits.{commandsMax, expressionsMax}
+use Rattle.model.specs.Image.{designOf}
 use Rattle.model.specs.Kinds.{commandKept, expressionKept}
 use Rattle.model.proofs.Laws.Booleans.{not-false}
 use Rattle.design.specs.declared.Design.{Design}
 use Rattle.design.specs.Records.{nodeIn}
 use Rattle.design.specs.Describes.{Describes}
-use Rattle.design.specs.NodesAt.{CommandAt, ExpressionAt}
-use Rattle.design.proofs.Laws.{states-count, commands-count, expressions-count}
-use Rattle.design.proofs.NodeRules.{sequence-a-below, sequence-b-below, branch-b-below, branch-c-below, operand-a-below, operand-b-below}
+use Rattle.design.specs.RecordsAt.{CommandAt, ExpressionAt}
+use Rattle.design.proofs.Laws.{states-count, commands-count, expressions-count, commands-most, expressions-most}
+use Rattle.design.proofs.FieldRules.{sequence-a-below, sequence-b-below, branch-b-below, branch-c-below, operand-a-below, operand-b-below}
 
 module _ {image : List ℕ} {x : Design} (d : Describes image x) where
   -- a node has an entry in its family's table
-  pub commands-most : {n : ℕ} → n < x .commands → n < 1024
-  commands-most l = let most = d .directory .sections Commands .at-most in omega (arith, d .commands)
+  pub command-entry : {n : ℕ} → n < x .commands → n < commandsMax
+  command-entry l = let most = commands-most d in omega arith
 
-  pub expressions-most : {n : ℕ} → n < x .expressions → n < 2048
-  expressions-most l = let most = d .directory .sections Expressions .at-most in omega (arith, d .expressions)
+  pub expression-entry : {n : ℕ} → n < x .expressions → n < expressionsMax
+  expression-entry l = let most = expressions-most d in omega arith
 
   -- a record that has just been judged
   pub judged-command : {n : ℕ} {b : Bool} → n < x .commands → b ≡ commandKept (designOf image) n → not b ≡ false → CommandAt image x (x .«commands_at») n
@@ -39,30 +40,30 @@ module _ {image : List ℕ} {x : Design} {place n k m : ℕ} (here : ExpressionA
 
 -- a part of a node stands in the table of its family
 module _ {image : List ℕ} {x : Design} {place n : ℕ} (here : CommandAt image x place n) where
-  lower-inside : {m : ℕ} → m < n → m < 1024
-  lower-inside l = let most = commands-most (here .describes) (here .node) in omega arith
+  lower-inside : {m : ℕ} → m < n → m < commandsMax
+  lower-inside l = let most = command-entry (here .describes) (here .node) in omega arith
 
-  pub sequence-a-inside : {k m : ℕ} → k ≡ 2 → k ≡ nodeIn image place n .kind → m ≡ nodeIn image place n .a → m < 1024
+  pub sequence-a-inside : {k m : ℕ} → k ≡ 2 → k ≡ nodeIn image place n .kind → m ≡ nodeIn image place n .a → m < commandsMax
   sequence-a-inside e same p = lower-inside (sequence-a-below here e same p)
 
-  pub sequence-b-inside : {k m : ℕ} → k ≡ 2 → k ≡ nodeIn image place n .kind → m ≡ nodeIn image place n .b → m < 1024
+  pub sequence-b-inside : {k m : ℕ} → k ≡ 2 → k ≡ nodeIn image place n .kind → m ≡ nodeIn image place n .b → m < commandsMax
   sequence-b-inside e same p = lower-inside (sequence-b-below here e same p)
 
-  pub branch-b-inside : {k m : ℕ} → k ≡ 5 → k ≡ nodeIn image place n .kind → m ≡ nodeIn image place n .b → m < 1024
+  pub branch-b-inside : {k m : ℕ} → k ≡ 5 → k ≡ nodeIn image place n .kind → m ≡ nodeIn image place n .b → m < commandsMax
   branch-b-inside e same p = lower-inside (branch-b-below here e same p)
 
-  pub branch-c-inside : {k m : ℕ} → k ≡ 5 → k ≡ nodeIn image place n .kind → m ≡ nodeIn image place n .c → m < 1024
+  pub branch-c-inside : {k m : ℕ} → k ≡ 5 → k ≡ nodeIn image place n .kind → m ≡ nodeIn image place n .c → m < commandsMax
   branch-c-inside e same p = lower-inside (branch-c-below here e same p)
 
 module _ {image : List ℕ} {x : Design} {place n k m : ℕ} (here : ExpressionAt image x place n) where
-  pub operation-a-inside : 2 ≤ k → k < 9 → k ≡ nodeIn image place n .kind → m ≡ nodeIn image place n .a → m < 2048
-  operation-a-inside low high same p = let most = expressions-most (here .describes) (here .node) in let below = operation-a here low high same p in omega arith
+  pub operation-a-inside : 2 ≤ k → k < 9 → k ≡ nodeIn image place n .kind → m ≡ nodeIn image place n .a → m < expressionsMax
+  operation-a-inside low high same p = let most = expression-entry (here .describes) (here .node) in let below = operation-a here low high same p in omega arith
 
-  pub operation-b-inside : 2 ≤ k → k < 9 → k ≡ nodeIn image place n .kind → m ≡ nodeIn image place n .b → m < 2048
-  operation-b-inside low high same p = let most = expressions-most (here .describes) (here .node) in let below = operation-b here low high same p in omega arith
+  pub operation-b-inside : 2 ≤ k → k < 9 → k ≡ nodeIn image place n .kind → m ≡ nodeIn image place n .b → m < expressionsMax
+  operation-b-inside low high same p = let most = expression-entry (here .describes) (here .node) in let below = operation-b here low high same p in omega arith
 
 -- the counts of a design, for `search`
-pub ruleset counts = (states-count, commands-count, expressions-count, commands-most, expressions-most)
+pub ruleset counts = (states-count, commands-count, expressions-count, command-entry, expression-entry)
 
 -- and the parts of a node
 pub ruleset command-part-laws = (sequence-a-inside, sequence-b-inside, branch-b-inside, branch-c-inside)

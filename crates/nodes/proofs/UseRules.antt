@@ -7,21 +7,21 @@ use native.Mathlib.Omega.{arith}
 use lib.ListN.{length, replicate}
 use Rattle.model.specs.declared.Found.the-variants.{Nowhere}
 use Rattle.model.specs.Indices.{lowestFailing, joinBelow}
-use Rattle.model.specs.Image.{Commands, Expressions, State, Node, designOf, stateAt, commandAt, expressionAt}
+use Rattle.model.specs.Limits.{commandsMax, expressionsMax}
+use Rattle.model.specs.Image.{Node, designOf, commandAt, expressionAt}
 use Rattle.model.specs.Kinds.{CommandKind, skips, assigns, sequences, falls, goes, branches, unknownCommand, ExpressionKind, constants, reads, unknownExpression, Operation, operates, commandKind, expressionKind, commandKept, expressionKept}
 use Rattle.model.specs.Nodes.{commandParts, expressionsOf, expressionParts, commandUses, expressionUses, commandUsedOnce, expressionUsedOnce}
 use Rattle.model.proofs.Laws.Indices.{below-suc}
 use Rattle.model.proofs.Laws.Kinds.{kind-assigns, kind-sequences, kind-branches, assigns-number, sequences-number, branches-number, no-operation-zero, no-operation-one, no-operation-above}
-use Rattle.model.proofs.Exact.Records.{state-iff}
 use Rattle.design.specs.declared.Design.{Design}
 use Rattle.design.specs.Records.{stateIn, nodeIn}
 use Rattle.design.specs.Describes.{Describes}
 use Rattle.design.specs.Kept.{StatesKept}
-use Rattle.design.proofs.Laws.{states-count, commands-count, expressions-count, state-in}
-use Rattle.design.specs.NodesAt.{CommandAt, ExpressionAt}
-use Rattle.design.proofs.NodeRules.{command-kind-is, command-kind-of, a-is, b-is, c-is, assigned-expression, condition, expression-kind-is, first-is, second-is, operation}
+use Rattle.design.proofs.Laws.{commands-most, expressions-count, expressions-most}
+use Rattle.design.specs.RecordsAt.{CommandAt, ExpressionAt}
+use Rattle.design.proofs.FieldRules.{body-is, body-below, command-kind-is, command-kind-of, a-is, b-is, c-is, assigned-expression, condition, expression-kind-is, first-is, second-is, operation}
 use Rattle.nodes.specs.Tables.{commandOf, partsOf, expressionOf, operandsOf, keptCommands, keptExpressions, countUse, countUses, OnceWhere}
-use Rattle.nodes.proofs.PartRules.{commands-most, expressions-most}
+use Rattle.nodes.proofs.PartRules.{command-entry, expression-entry}
 use Rattle.nodes.proofs.CountRules.{counted-once}
 
 -- ---- one use, and two
@@ -139,10 +139,10 @@ module _ {image : List ℕ} {x : Design} {place n k : ℕ} (here : CommandAt ima
       (λ e. h (inr (branches-number k (ap commandKind byte ∙ e)))))
 
   -- the expression of a command is one
-  pub expression-inside : {a : ℕ} → (k ≡ 1) ⊎ (k ≡ 5) → a ≡ nodeIn image place n .a → a < 2048
+  pub expression-inside : {a : ℕ} → (k ≡ 1) ⊎ (k ≡ 5) → a ≡ nodeIn image place n .a → a < expressionsMax
   expression-inside e p =
       let below = ⊎-elim (λ (one : k ≡ 1). assigned-expression here one same p) (λ (five : k ≡ 5). condition here five same p) e in
-      expressions-most (here .describes) (omega (arith, expressions-count (here .describes)))
+      expression-entry (here .describes) (omega (arith, expressions-count (here .describes)))
 
 -- ---- an expression's uses, from its kind byte
 module _ {image : List ℕ} {x : Design} {place n k : ℕ} (here : ExpressionAt image x place n) (same : k ≡ nodeIn image place n .kind) where
@@ -176,31 +176,26 @@ module _ {image : List ℕ} {x : Design} {place n k : ℕ} (here : ExpressionAt 
 -- ---- a state's use
 module _ {image : List ℕ} {x : Design} (d : Describes image x) {s m : ℕ} (l : s < x .states) (same : m ≡ stateIn image (x .«states_at») s .command) where
   pub uses-body : (t : List ℕ) {v : List ℕ} → v ≡ countUse t m → v ≡ countUses t (commandOf (designOf image) s)
-  uses-body t h = use-one t refl (same ∙ ap (λ (y : State). y .command) (state-in d l)) h
+  uses-body t h = use-one t refl (body-is d l same) h
 
-  pub body-inside : StatesKept (designOf image) → m < 1024
-  body-inside kept =
-      let command = state-iff (designOf image) s .0 (kept .kept s (omega (arith, states-count d))) .command in
-      let is : m ≡ stateAt (designOf image) s .command = same ∙ ap (λ (y : State). y .command) (state-in d l) in
-      commands-most d (omega (arith, commands-count d))
+  pub body-inside : StatesKept (designOf image) → m < commandsMax
+  body-inside kept = command-entry d (body-below d l same kept)
 
 -- ---- refusal 6, where every record keeps its rule
 module _ {image : List ℕ} {x : Design} (d : Describes image x) {t : List ℕ} (commands : lowestFailing (commandKept (designOf image)) (length (designOf image .commands)) ≡ Nowhere) where
   pub command-uses-told :
-      t ≡ countUses (replicate 1024 0) (joinBelow (commandOf (designOf image)) (length (designOf image .states)) ++ joinBelow (partsOf (designOf image)) (keptCommands (designOf image)))
+      t ≡ countUses (replicate commandsMax 0) (joinBelow (commandOf (designOf image)) (length (designOf image .states)) ++ joinBelow (partsOf (designOf image)) (keptCommands (designOf image)))
       → OnceWhere (commandUsedOnce (designOf image)) t (x .commands)
   unfolding commandUsedOnce commandUses
   command-uses-told p =
-      let most = d .directory .sections Commands .at-most in
-      counted-once 1024 _ (rw commands at p) (omega (arith, d .commands))
+      counted-once commandsMax _ (rw commands at p) (commands-most d)
 
   pub expression-uses-told :
       lowestFailing (expressionKept (designOf image)) (length (designOf image .expressions)) ≡ Nowhere
-      → t ≡ countUses (replicate 2048 0) (joinBelow (expressionOf (designOf image)) (keptCommands (designOf image)) ++ joinBelow (operandsOf (designOf image)) (keptExpressions (designOf image)))
+      → t ≡ countUses (replicate expressionsMax 0) (joinBelow (expressionOf (designOf image)) (keptCommands (designOf image)) ++ joinBelow (operandsOf (designOf image)) (keptExpressions (designOf image)))
       → OnceWhere (expressionUsedOnce (designOf image)) t (x .expressions)
   unfolding expressionUsedOnce expressionUses
   expression-uses-told expressions p =
-      let most = d .directory .sections Expressions .at-most in
-      counted-once 2048 _ (rw (commands, expressions) at p) (omega (arith, d .expressions))
+      counted-once expressionsMax _ (rw (commands, expressions) at p) (expressions-most d)
 
 pub ruleset use-laws = (uses-sequence, uses-branch, uses-no-part, uses-expression, uses-no-expression, expression-inside, uses-operation, uses-low, uses-high, uses-body, body-inside)

@@ -84,7 +84,7 @@ pub record OnceWhere (rule : ℕ → Bool) (table : List ℕ) (n : ℕ) : Type 0
   pub long : n ≤ length table
   pub entry : (k : ℕ) → k < n → eqb (getD table k 0) 1 ≡ rule k
 
-pub record NearWhere (rule : ℕ → Bool) (table : List ℕ) (n : ℕ) : Type 0 where
+pub record ShallowWhere (rule : ℕ → Bool) (table : List ℕ) (n : ℕ) : Type 0 where
   pub long : n ≤ length table
   pub entry : (k : ℕ) → k < n → leb (getD table k 0) depthMax ≡ rule k
 
@@ -92,5 +92,5 @@ pub record NearWhere (rule : ℕ → Bool) (table : List ℕ) (n : ℕ) : Type 0
 pub record NodesTold (image : List ℕ) (x : Described) (commandUses expressionUses commandDepths expressionDepths : List ℕ) : Type 0 where
   pub command-uses : OnceWhere (commandUsedOnce (designOf image)) commandUses (x .commands)
   pub expression-uses : OnceWhere (expressionUsedOnce (designOf image)) expressionUses (x .expressions)
-  pub command-depths : NearWhere (commandDepthKept (designOf image)) commandDepths (x .commands)
-  pub expression-depths : NearWhere (expressionDepthKept (designOf image)) expressionDepths (x .expressions)
+  pub command-depths : ShallowWhere (commandDepthKept (designOf image)) commandDepths (x .commands)
+  pub expression-depths : ShallowWhere (expressionDepthKept (designOf image)) expressionDepths (x .expressions)

@@ -10,7 +10,7 @@ ghost use Rattle.model.specs.Indices.{lowestFailing};
 ghost use Rattle.model.specs.Limits.{depthMax};
 ghost use Rattle.model.specs.Image.{designOf};
 ghost use Rattle.model.specs.Trees.{exprOf, cmdOf, exprDepth, cmdDepth};
-ghost use Rattle.design.specs.NodesAt.{CommandAt, ExpressionAt};
+ghost use Rattle.design.specs.RecordsAt.{CommandAt, ExpressionAt};
 ghost use Rattle.nodes.specs.Tables.{depthEntry, Depths};
 
 // The greatest depth, as an entry of a table.

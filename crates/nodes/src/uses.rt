@@ -10,7 +10,7 @@ ghost use Rattle.model.specs.Indices.{lowestFailing, joinBelow};
 ghost use Rattle.model.specs.Limits.{commandsMax, expressionsMax};
 ghost use Rattle.model.specs.Image.{designOf};
 ghost use Rattle.design.specs.Describes.{Describes};
-ghost use Rattle.design.specs.NodesAt.{CommandAt, ExpressionAt};
+ghost use Rattle.design.specs.RecordsAt.{CommandAt, ExpressionAt};
 ghost use Rattle.design.specs.Kept.{StatesKept};
 ghost use Rattle.nodes.specs.Tables.{commandOf, partsOf, expressionOf, operandsOf, countUse, countUses};
 

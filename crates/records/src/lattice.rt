@@ -3,9 +3,8 @@
 use design::Design;
 use design::rows::bit;
 use model::Found;
-ghost use Prim.Native.Nat.{_-_, _/_, _%_, _^_, _<_};
+ghost use Prim.Native.Nat.{_-_, _^_, _<_};
 ghost use mathlib.Core.Path.{_≡_};
-ghost use lib.Dec.{eqb};
 ghost use lib.ListN.{length, getD};
 ghost use Rattle.model.specs.Indices.{lowestFailing};
 ghost use Rattle.model.specs.Image.{designOf};

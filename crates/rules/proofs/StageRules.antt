@@ -14,7 +14,8 @@ use Rattle.model.specs.declared.Refusal.the-variants.{Directory}
 use Rattle.model.specs.declared.Answer.{Answer}
 use Rattle.model.specs.declared.Answer.the-variants.{Refused}
 use Rattle.model.specs.Indices.{lowestFailing, joinBelow}
-use Rattle.model.specs.Image.{Expressions, Design as Table, directoryKept, designOf}
+use Rattle.model.specs.Limits.{commandsMax, expressionsMax}
+use Rattle.model.specs.Image.{Design as Table, directoryKept, designOf}
 use Rattle.model.specs.States.{registerKept, stateKept}
 use Rattle.model.specs.Kinds.{commandKept, expressionKept}
 use Rattle.model.specs.Rules.{DirectoryKeeps}
@@ -24,7 +25,7 @@ use Rattle.model.proofs.Laws.Indices.{failing-none, lowest-failing-below}
 use Rattle.model.proofs.Exact.Directories.{directory-iff}
 use Rattle.design.specs.declared.Design.{Design}
 use Rattle.design.specs.Describes.{Describes}
-use Rattle.design.proofs.Laws.{expressions-count}
+use Rattle.design.proofs.Laws.{expressions-count, expressions-most}
 use Rattle.design.specs.Kept.{RegistersKept, StatesKept}
 use Rattle.nodes.specs.Tables.{commandOf, countUses, CommandsPassed, ExpressionsPassed, NodesPassed, NodesTold}
 use Rattle.nodes.proofs.CountRules.{count-append}
@@ -59,17 +60,16 @@ both-families d c e p q k = k ∙ rw (p, q)
 
 -- an expression's number is small enough for its place
 module _ {image : List ℕ} {x : Design} (rule : ℕ → Bool) {f : Found} {n : ℕ} (d : Describes image x) where
-  pub expression-few : f ≡ lowestFailing rule (x .expressions) → f ≡ At n → n < 2048
+  pub expression-few : f ≡ lowestFailing rule (x .expressions) → f ≡ At n → n < expressionsMax
   expression-few p h =
       let below = lowest-failing-below rule (x .expressions) n (sym p ∙ h) in
-      let is = d .expressions in
-      let most = d .directory .sections Expressions .at-most in
+      let most = expressions-most d in
       omega arith
 
-  pub expression-small : f ≡ lowestFailing rule (length (designOf image .expressions)) → f ≡ At n → n < 2048
+  pub expression-small : f ≡ lowestFailing rule (length (designOf image .expressions)) → f ≡ At n → n < expressionsMax
   expression-small p h = expression-few (p ∙ ap (lowestFailing rule) (sym (expressions-count d))) h
 
-pub place-fits : {f : Found} {n : ℕ} → ((m : ℕ) → f ≡ At m → m < 2048) → f ≡ At n → Fits w64 (1024 + n)
+pub place-fits : {f : Found} {n : ℕ} → ((m : ℕ) → f ≡ At m → m < expressionsMax) → f ≡ At n → Fits w64 (1024 + n)
 place-fits {n = n} h e = let small = h n e in record { fits = omega arith }
 
 -- ---- what is known once a pass has found nothing
@@ -94,16 +94,16 @@ pub nodes-passed :
     → ExpressionsPassed d g v w q b
     → r ≡ commandsFirst f g
     → t ≡ countUses c (joinBelow (commandOf d) (length (d .states)))
-    → c ≡ replicate 1024 0
-    → s ≡ replicate 2048 0
-    → p ≡ replicate 1024 0
-    → q ≡ replicate 2048 0
+    → c ≡ replicate commandsMax 0
+    → s ≡ replicate expressionsMax 0
+    → p ≡ replicate commandsMax 0
+    → q ≡ replicate expressionsMax 0
     → NodesPassed d r u w a b
 nodes-passed {d} commands expressions first bodies c s p q =
     record {
       found = both-families d (commandKept d) (expressionKept d) (commands .found) (expressions .found) first;
-      commands-counted = rw (← (commands .found), count-append (replicate 1024 0), ← c, ← bodies) (commands .counted);
-      expressions-counted = rw (← (commands .found), ← (expressions .found), count-append (replicate 2048 0), ← s, ← (commands .expressions-counted)) (expressions .counted);
+      commands-counted = rw (← (commands .found), count-append (replicate commandsMax 0), ← c, ← bodies) (commands .counted);
+      expressions-counted = rw (← (commands .found), ← (expressions .found), count-append (replicate expressionsMax 0), ← s, ← (commands .expressions-counted)) (expressions .counted);
       commands-filled = rw (← (commands .found), ← p) (commands .filled);
       expressions-filled = rw (← (expressions .found), ← q) (expressions .filled);
     }

@@ -1,6 +1,4 @@
 -- The verdict from each pass on, in the order of the table: each is the pass's refusal, if it has one, before all that follow.
-use Prim.Native.Nat.{ℕ}
-use mathlib.Core.List.{List}
 use lib.ListN.{length}
 use Rattle.model.specs.declared.Refusal.the-variants.{LabelRow, RegisterRecord, StateRecord, NodeRecord, NodeUse, Depth, Shape, ChildLabel}
 use Rattle.model.specs.declared.Answer.{Answer}

@@ -14,13 +14,13 @@ ghost use Rattle.model.specs.Nodes.{commandUsedOnce, expressionUsedOnce, comman
 ghost use Rattle.model.specs.Verdict.{commandsFirst, lowestNode, verdict as verdictOf};
 ghost use Rattle.design.specs.Describes.{Describes};
 ghost use Rattle.design.specs.Kept.{RegistersKept, StatesKept};
-ghost use Rattle.nodes.specs.Tables.{NodesPassed, OnceWhere, NearWhere, NodesTold};
+ghost use Rattle.nodes.specs.Tables.{NodesPassed, OnceWhere, ShallowWhere, NodesTold};
 ghost use Rattle.bodies.specs.Flows.{FlowKnown};
 ghost use Rattle.rules.specs.Stages.{fromChildren, fromShape, fromDepths, fromUses, fromNodes, fromStates, fromRegisters, fromLabels};
 
 // A command's number, else an expression's place.
 fn commands_first(command: Found, expression: Found) -> Found
-    requires { ⌜ ((n : ℕ) → expression ≡ At n → n < 2048) ⌝ }
+    requires { ⌜ ((n : ℕ) → expression ≡ At n → n < expressionsMax) ⌝ }
     ensures { λ f. ⌜ f ≡ commandsFirst command expression ⌝ }
 {
     if let Found::At(n) = command {
@@ -77,8 +77,8 @@ fn node_uses(image: &[u8], design: Design, commands: &[u8], expressions: &[u8]) 
 // The lowest node that is too deep.
 fn node_depths(image: &[u8], design: Design, commands: &[u8], expressions: &[u8]) -> Found
     requires { ⌜ Describes (now image) design
-        × NearWhere (commandDepthKept (designOf (now image))) (now commands) (design .commands)
-        × NearWhere (expressionDepthKept (designOf (now image))) (now expressions) (design .expressions) ⌝ }
+        × ShallowWhere (commandDepthKept (designOf (now image))) (now commands) (design .commands)
+        × ShallowWhere (expressionDepthKept (designOf (now image))) (now expressions) (design .expressions) ⌝ }
     ensures { λ f. ⌜ f ≡ lowestNode (designOf (now (image .entry))) (commandDepthKept (designOf (now (image .entry)))) (expressionDepthKept (designOf (now (image .entry)))) ⌝ }
 {
     let command = nodes::depths::too_deep(commands, design.commands);
@@ -118,8 +118,8 @@ fn from_depths(
     expression_depths: &[u8],
 ) -> Answer
     requires { ⌜ FlowKnown (now image) design
-        × NearWhere (commandDepthKept (designOf (now image))) (now «command_depths») (design .commands)
-        × NearWhere (expressionDepthKept (designOf (now image))) (now «expression_depths») (design .expressions) ⌝ }
+        × ShallowWhere (commandDepthKept (designOf (now image))) (now «command_depths») (design .commands)
+        × ShallowWhere (expressionDepthKept (designOf (now image))) (now «expression_depths») (design .expressions) ⌝ }
     ensures { λ a. ⌜ a ≡ fromDepths (designOf (now (image .entry))) ⌝ }
 {
     let found = node_depths(image, design, command_depths, expression_depths);

@@ -1,5 +1,5 @@
 use Rattle.design.proofs.Laws.{commands-count, expressions-count}
-use Rattle.nodes.proofs.DepthRules.{near-found}
+use Rattle.nodes.proofs.DepthRules.{shallow-found}
 use Rattle.rules.proofs.StageRules.{both-families, expression-few}
 use borrow.Author.Needs.{needs}
 use Rattle.rules.proofs.node_depths.Statement.{statement}
@@ -15,7 +15,7 @@ commands-first-requires : tie.Need-commands-first-requires
 commands-first-requires c κs = λ n e. search (expression-few, needs)
 
 returns : tie.Need-returns
-returns c = search (both-families, near-found, commands-count, expressions-count, needs)
+returns c = search (both-families, shallow-found, commands-count, expressions-count, needs)
 
 pub node-depths-spec : {M : Type 1} → statement M
 node-depths-spec =

@@ -1,5 +1,5 @@
 use borrow.Author.Needs.{needs}
-use Rattle.design.proofs.NodeRules.{sequence-a-falls, sequence-b-falls, branch-b-falls, branch-c-falls}
+use Rattle.design.proofs.FieldRules.{sequence-a-falls, sequence-b-falls, branch-b-falls, branch-c-falls}
 use Rattle.bodies.proofs.FlowKinds.{flow-laws, mask-small, sequence-a-flowing, sequence-b-flowing, branch-b-flowing, branch-c-flowing}
 use Prim.Native.Nat.{ℕ, _<_}
 use borrow.Fn.Kinds.{In}

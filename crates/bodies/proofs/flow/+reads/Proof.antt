@@ -1,5 +1,5 @@
 use borrow.Author.Needs.{needs}
-use Rattle.design.proofs.NodeRules.{operand-a-falls, operand-b-falls}
+use Rattle.design.proofs.FieldRules.{operand-a-falls, operand-b-falls}
 use Rattle.bodies.proofs.FlowRules.{reads-laws, operand-a-gathering, operand-b-gathering}
 use Prim.Native.Nat.{ℕ, _<_}
 use borrow.Fn.Kinds.{In}

@@ -1,4 +1,4 @@
-use Rattle.design.proofs.NodeRules.{command-place-inside}
+use Rattle.design.proofs.FieldRules.{command-place-inside}
 use Rattle.bodies.proofs.FlowRules.{assigned-inside, assigned-gathering, assigned-label-small, assign-rule}
 use borrow.Author.Needs.{needs}
 use Rattle.bodies.proofs.flow.assign_flow.Statement.{statement}

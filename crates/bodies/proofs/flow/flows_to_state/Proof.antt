@@ -1,4 +1,5 @@
-use Rattle.bodies.proofs.FlowRules.{state-place-inside, state-label-small, state-bit}
+use Rattle.design.proofs.FieldRules.{state-place-inside}
+use Rattle.bodies.proofs.FlowRules.{state-label-small, state-bit}
 use borrow.Author.Needs.{needs}
 use Rattle.bodies.proofs.flow.flows_to_state.Statement.{statement}
 use Rattle.bodies.proofs.flow.flows_to_state.Tie as tie

@@ -1,4 +1,5 @@
-use Rattle.bodies.proofs.ShapeRules.{state-place-inside, target-place-inside, sibling-rule}
+use Rattle.design.proofs.FieldRules.{state-place-inside}
+use Rattle.bodies.proofs.ShapeRules.{sibling-rule}
 use borrow.Author.Needs.{needs}
 use Rattle.bodies.proofs.shape.sibling_or_self.Statement.{statement}
 use Rattle.bodies.proofs.shape.sibling_or_self.Tie as tie
@@ -7,7 +8,7 @@ use Rattle.bodies.proofs.shape.sibling_or_self.Lts as lts
 use Rattle.design.proofs.Design.parent.Reads as parent-reads
 
 parent-requires : tie.Need-parent-requires
-parent-requires c κs = search (target-place-inside, needs)
+parent-requires c κs = search (state-place-inside, needs)
 
 parent-requires-2 : tie.Need-parent-requires-2
 parent-requires-2 c κs = search (state-place-inside, needs)

@@ -1,6 +1,6 @@
 use mathlib.Core.Logic.{⊎-elim}
 use borrow.Author.Needs.{needs}
-use Rattle.design.proofs.NodeRules.{expression-place-inside, operand-a-falls, operand-b-falls}
+use Rattle.design.proofs.FieldRules.{expression-place-inside, operand-a-falls, operand-b-falls}
 use Rattle.machine.proofs.EvaluateRules.{evaluate-laws, operand-a-evaluating, operand-b-evaluating}
 use Prim.Native.Nat.{ℕ, _<_}
 use borrow.Fn.Kinds.{In}

@@ -1,5 +1,5 @@
 use borrow.Author.Needs.{needs}
-use Rattle.design.proofs.NodeRules.{command-place-inside, sequence-a-falls, sequence-b-falls, branch-b-falls, branch-c-falls, command-below}
+use Rattle.design.proofs.FieldRules.{command-place-inside, sequence-a-falls, sequence-b-falls, branch-b-falls, branch-c-falls, command-below}
 use Rattle.machine.proofs.ExecuteRules.{last-run-laws, executes-assign, executes-first, executes-second, last-inside, put-same-length, assigned-evaluating, condition-evaluating, sequence-a-performing, sequence-b-performing, branch-b-performing, branch-c-performing}
 use Prim.Native.Nat.{ℕ, _<_}
 use borrow.Fn.Kinds.{In}

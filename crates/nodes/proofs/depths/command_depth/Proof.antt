@@ -1,6 +1,6 @@
 use Rattle.nodes.proofs.PartRules.{command-part-laws}
 use Rattle.nodes.proofs.DepthRules.{depth-laws}
-use Rattle.design.proofs.NodeRules.{command-place-inside}
+use Rattle.design.proofs.FieldRules.{command-place-inside}
 use borrow.Author.Needs.{needs}
 use Rattle.nodes.proofs.depths.command_depth.Statement.{statement}
 use Rattle.nodes.proofs.depths.command_depth.Tie as tie

@@ -1,6 +1,6 @@
 use Rattle.nodes.proofs.PartRules.{expression-part-laws}
 use Rattle.nodes.proofs.UseRules.{use-laws}
-use Rattle.design.proofs.NodeRules.{expression-place-inside}
+use Rattle.design.proofs.FieldRules.{expression-place-inside}
 use borrow.Author.Needs.{needs}
 use Rattle.nodes.proofs.uses.use_operands.Statement.{statement}
 use Rattle.nodes.proofs.uses.use_operands.Tie as tie

@@ -1,20 +1,48 @@
--- What the fields of a node hold once its record was judged: its kind by the kind byte, and that its parts are nodes of lower numbers.
+-- What the fields of a record by its place hold: those of a state; and, once its record was judged, a node's kind by the kind byte, and that its parts are nodes of lower numbers.
 use Prim.Native.Nat.{ℕ, _≤_, _<_}
 use mathlib.Core.Path.{_≡_, sym, _∙_, ap}
 use mathlib.Core.List.{List}
 use native.Mathlib.Omega.{arith}
 use lib.ListN.{length}
-use Rattle.model.specs.Image.{Node, designOf, commandAt, expressionAt}
+use Rattle.model.specs.Image.{State, Node, designOf, stateAt, commandAt, expressionAt}
 use Rattle.model.specs.Kinds.{CommandKind, commandKind, Operation, operates, expressionKind}
 use Rattle.model.specs.Rules.{CommandHolds, ExpressionHolds}
 use Rattle.model.proofs.Laws.Kinds.{kind-operates}
-use Rattle.model.proofs.Exact.Records.{command-iff, expression-iff}
+use Rattle.model.proofs.Exact.Records.{state-iff, command-iff, expression-iff}
 use Rattle.design.specs.declared.Design.{Design}
-use Rattle.design.specs.Records.{nodeIn, nodeEnd}
+use Rattle.design.specs.Records.{stateIn, nodeIn, stateEnd, nodeEnd}
 use Rattle.design.specs.Describes.{Describes}
-use Rattle.design.specs.Kept.{CommandsKept, ExpressionsKept}
-use Rattle.design.specs.NodesAt.{CommandAt, ExpressionAt}
-use Rattle.design.proofs.Laws.{commands-count, expressions-count, command-inside, expression-inside, command-in, expression-in}
+use Rattle.design.specs.Kept.{StatesKept, CommandsKept, ExpressionsKept}
+use Rattle.design.specs.RecordsAt.{StateAt, CommandAt, ExpressionAt}
+use Rattle.design.proofs.Laws.{states-count, commands-count, expressions-count, state-inside, command-inside, expression-inside, state-in, command-in, expression-in}
+
+-- ---- a state
+module _ {image : List ℕ} {x : Design} {place s : ℕ} (here : StateAt image x place s) where
+  pub state-place-inside : stateEnd place s ≤ length image
+  state-place-inside = rw (here .begins) (state-inside (here .describes) (here .state))
+
+  -- the fields that the accessors read are the state's
+  same-state : stateIn image place s ≡ stateAt (designOf image) s
+  same-state = rw (here .begins) (state-in (here .describes) (here .state))
+
+  pub parent-is : {p : ℕ} → p ≡ stateIn image place s .parent → p ≡ stateAt (designOf image) s .parent
+  parent-is f = f ∙ ap (λ (y : State). y .parent) same-state
+
+  pub label-is : {l : ℕ} → l ≡ stateIn image place s .label → l ≡ stateAt (designOf image) s .label
+  label-is f = f ∙ ap (λ (y : State). y .label) same-state
+
+-- its command, and that it is one
+module _ {image : List ℕ} {x : Design} {s n : ℕ} (d : Describes image x) (l : s < x .states) (body : n ≡ stateIn image (x .«states_at») s .command) where
+  pub body-is : n ≡ stateAt (designOf image) s .command
+  body-is = body ∙ ap (λ (y : State). y .command) (state-in d l)
+
+  pub body-below : StatesKept (designOf image) → n < x .commands
+  body-below kept =
+      let states = states-count d in
+      let commands = commands-count d in
+      let is = body-is in
+      let below = state-iff (designOf image) s .0 (kept .kept s (omega arith)) .command in
+      omega arith
 
 -- ---- a command
 pub command-at : {image : List ℕ} {x : Design} {place n : ℕ} → Describes image x → CommandsKept (designOf image) → n < x .commands → place ≡ x .«commands_at» → CommandAt image x place n

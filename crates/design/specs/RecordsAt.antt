@@ -1,4 +1,4 @@
--- What is known of a node whose record was judged, where the nodes of its family begin at a place.
+-- What is known of a state, and of a node whose record was judged, where the records of its kind begin at a place.
 use Prim.Native.Nat.{ℕ, _<_}
 use mathlib.Core.Path.{_≡_}
 use mathlib.Core.Bool.{true}
@@ -7,6 +7,11 @@ use Rattle.model.specs.Image.{designOf}
 use Rattle.model.specs.Kinds.{commandKept, expressionKept}
 use Rattle.design.specs.declared.Design.{Design}
 use Rattle.design.specs.Describes.{Describes}
+
+pub record StateAt (image : List ℕ) (x : Design) (place s : ℕ) : Type 0 where
+  pub describes : Describes image x
+  pub state : s < x .states
+  pub begins : place ≡ x .«states_at»
 
 pub record CommandAt (image : List ℕ) (x : Design) (place n : ℕ) : Type 0 where
   pub describes : Describes image x
