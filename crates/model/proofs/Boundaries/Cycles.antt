@@ -1,0 +1,1 @@
+-- Cases at the boundaries of 01's section 'A cycle' and of the calls: values, execution, reset, a goto, and refusals 13 to 15.

@@ -1,0 +1,1 @@
+-- Cases at the boundaries of 01's section 'The lease design': what the lister prints.
