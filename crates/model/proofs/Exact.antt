@@ -1,19 +1,17 @@
 -- The verdict accepts exactly the images that keep the rules: each stage of the verdict finds nothing exactly where its rule holds everywhere.
 use Prim.Native.Nat.{ℕ}
-use mathlib.Core.Path.{_≡_, ap}
+use mathlib.Core.Path.{_≡_}
 use mathlib.Core.Logic.{_↔_, Iff·trans}
 use mathlib.Core.List.{List}
-use Rattle.model.specs.declared.Refusal.{Refusal}
-use Rattle.model.specs.declared.Refusal.the-variants.{Directory, LabelRow, RegisterRecord, StateRecord, NodeRecord, NodeUse, Depth, Shape, ChildLabel, AssignFlow, GotoFlow, FallFlow, NoPort, Area, CycleCount}
-use Rattle.model.specs.declared.Answer.{Answer}
-use Rattle.model.specs.declared.Answer.the-variants.{Accepted, Refused}
-use Rattle.model.specs.Answers.{Numbers, numberOf, numbersOf}
+use Rattle.model.specs.declared.Refusal.the-variants.{Directory, LabelRow, RegisterRecord, StateRecord, NodeRecord, NodeUse, Depth, Shape, ChildLabel}
+use Rattle.model.specs.declared.Answer.the-variants.{Accepted}
+use Rattle.model.specs.Answers.{numbersOf}
 use Rattle.model.specs.Calls.{check}
-use native.Mathlib.Omega.{arith}
 use Rattle.model.specs.Image.{Design, designOf}
 use Rattle.model.specs.Verdict.{designVerdict, verdict}
 use Rattle.model.specs.Rules.{DesignKeeps, Keeps}
 use Rattle.model.proofs.Laws.Found.{zero-unless-iff, failing-iff, node-iff}
+use Rattle.model.proofs.Laws.Numbers.{told-accepted}
 use Rattle.model.proofs.Laws.Verdict.{before-iff}
 use Directories.{directory-iff}
 use Labels.{lattice-iff}
@@ -81,28 +79,7 @@ verdict-exact image =
     (before-iff Directory (Iff·trans zero-unless-iff (directory-iff image)) (design-verdict-exact (designOf image)))
     (λ h. record { directory = h .0; design = h .1 }, λ k. (k .directory, k .design))
 
--- ---- the same through the numbers that the host is given
-no-number-zero : (r : Refusal) → numberOf r ≡ 0 → ⊥
-no-number-zero Directory e = omega arith
-no-number-zero LabelRow e = omega arith
-no-number-zero RegisterRecord e = omega arith
-no-number-zero StateRecord e = omega arith
-no-number-zero NodeRecord e = omega arith
-no-number-zero NodeUse e = omega arith
-no-number-zero Depth e = omega arith
-no-number-zero Shape e = omega arith
-no-number-zero ChildLabel e = omega arith
-no-number-zero AssignFlow e = omega arith
-no-number-zero GotoFlow e = omega arith
-no-number-zero FallFlow e = omega arith
-no-number-zero NoPort e = omega arith
-no-number-zero Area e = omega arith
-no-number-zero CycleCount e = omega arith
-
-accepted-numbers : (a : Answer) → (numbersOf a ≡ record { number = 0; place = 0; count = 0 }) ↔ (a ≡ Accepted 0)
-accepted-numbers (Accepted n) = (λ e. ap Accepted (ap (λ (m : Numbers). m .count) e), λ e. ap numbersOf e)
-accepted-numbers (Refused r p) = (λ e. absurd (no-number-zero r (ap (λ (m : Numbers). m .number) e)), λ e. ap numbersOf e)
-
+-- the same through the numbers that the host is given
 pub check-exact : (image : List ℕ) → (numbersOf (check image) ≡ record { number = 0; place = 0; count = 0 }) ↔ Keeps image
 unfolding check
-check-exact image = Iff·trans (accepted-numbers (verdict image)) (verdict-exact image)
+check-exact image = Iff·trans (told-accepted (verdict image) 0) (verdict-exact image)

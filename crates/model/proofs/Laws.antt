@@ -11,6 +11,10 @@ pub mod Gotos
 pub mod Cycles
 pub mod Verdict
 pub mod Passes
+pub mod Numbers
+pub mod Among
+pub mod Broken
+pub mod Finds
 pub mod Faults
 pub mod Kinds
 pub mod Trees

@@ -1,6 +1,7 @@
 -- The theorems about the meaning alone. `Promises` restates those that a reader looks for; the proved cases of document 01, and those that hold its sentences in place, stand last.
 pub mod Laws
 pub mod Exact
+pub mod Refused
 pub mod Independence
 pub mod Promises
 pub mod Designs

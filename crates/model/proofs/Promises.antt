@@ -4,16 +4,41 @@ use mathlib.Core.Path.{_≡_}
 use mathlib.Core.Logic.{_↔_}
 use mathlib.Core.List.{List}
 use Prim.Native.Nat.{ℕ}
-use Rattle.model.specs.Answers.{numbersOf}
+use Rattle.model.specs.declared.Refusal.{Refusal}
+use Rattle.model.specs.Answers.{numberOf, numbersOf}
 use Rattle.model.specs.Rules.{Keeps}
-use Rattle.model.specs.Calls.{check}
+use Rattle.model.specs.Calls.{Lent, check, reset, writePort, run}
+use Rattle.model.specs.Refusals.{AllKept, FirstBroken, imageTable, resetTable, writePortTable, runTable, AnswersBy}
 use Rattle.model.specs.Parties.{Independent}
 use Rattle.model.proofs.Exact.{check-exact}
+use Rattle.model.proofs.Refused.{keeps-table, check-answers, reset-answers, write-port-answers, run-answers}
 use Rattle.model.proofs.Independence.Theorem.{independent}
 
 -- Demand 2, for check: an image is accepted, with number 0, place 0 and count 0, exactly when it keeps the rules.
 pub accepted-exactly : (image : List ℕ) → (numbersOf (check image) ≡ record { number = 0; place = 0; count = 0 }) ↔ Keeps image
 accepted-exactly = check-exact
+
+-- Refusals are as exact: check answers a number and a place exactly when all rules before it in the table are kept everywhere, and the place is the lowest
+-- at which this rule is broken.
+pub refused-exactly :
+    (image : List ℕ) (refusal : Refusal) (place : ℕ)
+    → (numbersOf (check image) ≡ record { number = numberOf refusal; place = place; count = 0 }) ↔ FirstBroken (imageTable image) refusal place
+refused-exactly image = check-answers image .refused
+
+-- An image keeps the rules exactly when no rule of the table is broken.
+pub keeps-exactly : (image : List ℕ) → Keeps image ↔ AllKept (imageTable image)
+keeps-exactly = keeps-table
+
+-- The other calls, each by its own table: accepted exactly when every rule is kept, refused exactly by the first that is broken.
+pub reset-exactly : (image : List ℕ) (lent : Lent) → AnswersBy (resetTable image lent) 0 (numbersOf (reset image lent .answer))
+reset-exactly = reset-answers
+
+pub write-port-exactly :
+    (image registers : List ℕ) (r v : ℕ) → AnswersBy (writePortTable image registers r) 0 (numbersOf (writePort image registers r v .answer))
+write-port-exactly = write-port-answers
+
+pub run-exactly : (image : List ℕ) (lent : Lent) (n : ℕ) → AnswersBy (runTable image lent n) n (numbersOf (run image lent n .answer))
+run-exactly = run-answers
 
 -- Demand 3: "Matching lists have equal views, and equal registers at or below the level at their end."
 pub independent-parties : Independent

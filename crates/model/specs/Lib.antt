@@ -1,5 +1,5 @@
 -- All that a reader has to believe, in the order of document 01. Every definition here computes, but for
--- the propositions of `Rules` and the statement of demand 3 in `Parties`.
+-- the propositions of `Rules`, `Standing` and `Refusals` and the statement of demand 3 in `Parties`.
 -- 'The image'
 pub mod Limits
 pub mod Indices
@@ -20,7 +20,9 @@ pub mod Parties
 -- 'When the box says no'
 pub mod Answers
 pub mod Rules
+pub mod Standing
 pub mod Verdict
 pub mod Calls
+pub mod Refusals
 -- 'The lease design'
 pub mod Listing

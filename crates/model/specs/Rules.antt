@@ -44,6 +44,15 @@ pub record LeastAbove (rows : List ℕ) (i j k : ℕ) : Type 0 where
   pub above-second : FlowsTo rows j k
   pub below-others : (m : ℕ) → m < length rows → FlowsTo rows i m → FlowsTo rows j m → FlowsTo rows k m
 
+-- the rules of label i, with i first
+pub record LabelKeeps (rows : List ℕ) (i : ℕ) : Type 0 where
+  pub inside : getD rows i 0 < 2 ^ length rows
+  pub reflexive : FlowsTo rows i i
+  pub antisymmetric : (j : ℕ) → j < length rows → FlowsTo rows i j → FlowsTo rows j i → i ≡ j
+  pub transitive : (j : ℕ) → j < length rows → (k : ℕ) → k < length rows → FlowsTo rows i j → FlowsTo rows j k → FlowsTo rows i k
+  pub least : i ≡ 0 → (j : ℕ) → j < length rows → FlowsTo rows 0 j
+  pub join : (j : ℕ) → j < length rows → (k : ℕ) × LeastAbove rows i j k
+
 -- "The label rows are a lattice with label 0 least"
 pub record IsLattice (rows : List ℕ) : Type 0 where
   pub inside : (i : ℕ) → i < length rows → getD rows i 0 < 2 ^ length rows
@@ -81,6 +90,29 @@ module _ (d : Design) where
   ExpressionHolds n (operates o) x = (x .item ≡ 0) × (x .a < n) × (x .b < n) × (x .c ≡ 0)
   ExpressionHolds n unknownExpression x = ⊥
 
+  -- a node is kept, used once, and no deeper than allowed
+  abbrev pub CommandKeeps : ℕ → Type 0
+  CommandKeeps n = CommandHolds n (commandKind (commandAt d n .kind)) (commandAt d n)
+
+  abbrev pub ExpressionKeeps : ℕ → Type 0
+  ExpressionKeeps n = ExpressionHolds n (expressionKind (expressionAt d n .kind)) (expressionAt d n)
+
+  abbrev pub CommandUsedOnce : ℕ → Type 0
+  CommandUsedOnce n = occurrences n (commandUses d) ≡ 1
+
+  abbrev pub ExpressionUsedOnce : ℕ → Type 0
+  ExpressionUsedOnce n = occurrences n (expressionUses d) ≡ 1
+
+  abbrev pub CommandDepthKeeps : ℕ → Type 0
+  CommandDepthKeeps n = cmdDepth (cmdOf d n) ≤ depthMax
+
+  abbrev pub ExpressionDepthKeeps : ℕ → Type 0
+  ExpressionDepthKeeps n = exprDepth (exprOf d n) ≤ depthMax
+
+  -- "Every child's label is at or above its parent's." The root is nobody's child.
+  abbrev pub ChildLabelKeeps : ℕ → Type 0
+  ChildLabelKeeps s = (s ≡ 0 → ⊥) → FlowsTo (d .rows) (stateLabel d (parent d s)) (stateLabel d s)
+
   -- the shape rules of a command of state s
   abbrev pub Shaped : ℕ → Cmd → Type 0
   Shaped s (skip n) = Unit {0}
@@ -104,15 +136,15 @@ module _ (d : Design) where
     pub lattice : IsLattice (d .rows)
     pub registers : (r : ℕ) → r < length (d .registers) → RegisterKeeps r
     pub states : (s : ℕ) → s < length (d .states) → StateKeeps s
-    pub commands : (n : ℕ) → n < length (d .commands) → CommandHolds n (commandKind (commandAt d n .kind)) (commandAt d n)
-    pub expressions : (n : ℕ) → n < length (d .expressions) → ExpressionHolds n (expressionKind (expressionAt d n .kind)) (expressionAt d n)
-    pub commands-used : (n : ℕ) → n < length (d .commands) → occurrences n (commandUses d) ≡ 1
-    pub expressions-used : (n : ℕ) → n < length (d .expressions) → occurrences n (expressionUses d) ≡ 1
-    pub commands-depth : (n : ℕ) → n < length (d .commands) → cmdDepth (cmdOf d n) ≤ depthMax
-    pub expressions-depth : (n : ℕ) → n < length (d .expressions) → exprDepth (exprOf d n) ≤ depthMax
+    pub commands : (n : ℕ) → n < length (d .commands) → CommandKeeps n
+    pub expressions : (n : ℕ) → n < length (d .expressions) → ExpressionKeeps n
+    pub commands-used : (n : ℕ) → n < length (d .commands) → CommandUsedOnce n
+    pub expressions-used : (n : ℕ) → n < length (d .expressions) → ExpressionUsedOnce n
+    pub commands-depth : (n : ℕ) → n < length (d .commands) → CommandDepthKeeps n
+    pub expressions-depth : (n : ℕ) → n < length (d .expressions) → ExpressionDepthKeeps n
     pub transferring : (s : ℕ) → s < length (d .states) → transfers (bodyOf d s) ≡ true
     pub shaped : (s : ℕ) → s < length (d .states) → Shaped s (bodyOf d s)
-    pub child-labels : (s : ℕ) → s < length (d .states) → (s ≡ 0 → ⊥) → FlowsTo (d .rows) (stateLabel d (parent d s)) (stateLabel d s)
+    pub child-labels : (s : ℕ) → s < length (d .states) → ChildLabelKeeps s
     pub flowing : (s : ℕ) → s < length (d .states) → Flows s (stateLabel d s ∷ []) (bodyOf d s)
 
 -- an image keeps the rules

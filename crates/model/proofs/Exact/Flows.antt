@@ -5,6 +5,7 @@ use mathlib.Core.Logic.{_↔_}
 use mathlib.Core.List.{List, [], _∷_}
 use lib.ListN.{length}
 use Rattle.model.specs.declared.Answer.the-variants.{Accepted}
+use Rattle.model.specs.Indices.{joinBelow}
 use Rattle.model.specs.Image.{Design}
 use Rattle.model.specs.Lattice.{stateLabel}
 use Rattle.model.specs.Trees.{Cmd, skip, assign, sequence, fall, goto, branch, bodyOf}
@@ -27,6 +28,10 @@ module _ (d : Design) where
     unfolding stateFlowFaults
     state-flow-faults = flow-faults (stateLabel d s ∷ []) (bodyOf d s)
 
+  -- those of all bodies
+  pub all-flow-faults : FaultsOf (joinBelow (stateFlowFaults d) (length (d .states))) ((s : ℕ) → s < length (d .states) → Flows d s (stateLabel d s ∷ []) (bodyOf d s))
+  all-flow-faults = faults-join (length (d .states)) state-flow-faults
+
   pub flow-iff : (flowAnswer d ≡ Accepted 0) ↔ ((s : ℕ) → s < length (d .states) → Flows d s (stateLabel d s ∷ []) (bodyOf d s))
   unfolding flowAnswer
-  flow-iff = nearest-iff (faults-join (length (d .states)) state-flow-faults)
+  flow-iff = nearest-iff all-flow-faults

@@ -1,13 +1,13 @@
 -- What a test says, both ways at once: each law gives, for a way to build a test, the statement that the test is true exactly when it holds.
 use Prim.Native.Nat.{ℕ, _≤_, _<_}
 use mathlib.Core.Path.{_≡_}
-use mathlib.Core.Logic.{_↔_}
-use mathlib.Core.Bool.{Bool, true, false, _&&_, not, Bool·beq}
+use mathlib.Core.Logic.{_↔_, _⊎_, inl, inr, ⊎-elim}
+use mathlib.Core.Bool.{Bool, true, false, _&&_, _||_, not, Bool·beq}
 use lib.Dec.{ltb, leb, eqb}
 use borrow.Author.Tests.{ltb-true, lt-ltb, leb-true, le-leb, eqb-true, eq-eqb}
 use Rattle.model.specs.Indices.{allBelow, someBelow}
 use Rattle.model.specs.Lattice.{implies}
-use Rattle.model.proofs.Laws.Booleans.{and-first, and-second, and-both, not-true, false-not, implies-apply, implies-make, beq-same, beq-make}
+use Rattle.model.proofs.Laws.Booleans.{and-first, and-second, and-both, or-cases, or-first, or-second, not-true, false-not, implies-apply, implies-make, beq-same, beq-make}
 use Rattle.model.proofs.Laws.Indices.{all-at, all-make, some-at, some-make}
 
 pub less-iff : {a b : ℕ} → (ltb a b ≡ true) ↔ (a < b)
@@ -49,6 +49,13 @@ pub and-four-iff :
 and-four-iff f g h k =
     let all = and-iff (and-three-iff f g h) k in
     (λ e. let r = all .0 e in (r .0 .0, r .0 .1, r .0 .2, r .1), λ r. all .1 ((r .0, r .1, r .2), r .3))
+
+-- a disjunction
+pub or-iff : {a b : Bool} {P Q : Type 0} → ((a ≡ true) ↔ P) → ((b ≡ true) ↔ Q) → ((a || b) ≡ true) ↔ (P ⊎ Q)
+or-iff {a} {b} {P} {Q} f g = (
+  λ e. ⊎-elim (λ (h : a ≡ true). inl (f .0 h)) (λ (h : b ≡ true). inr (g .0 h)) (or-cases a b e),
+  ⊎-elim (λ (p : P). or-first a b (f .1 p)) (λ (q : Q). or-second a b (g .1 q)),
+)
 
 pub implies-iff : {a b : Bool} {P Q : Type 0} → ((a ≡ true) ↔ P) → ((b ≡ true) ↔ Q) → (implies a b ≡ true) ↔ (P → Q)
 implies-iff {a} {b} f g = (λ e p. g .0 (implies-apply a b e (f .1 p)), λ h. implies-make a b (λ t. g .1 (h (f .0 t))))

@@ -1,0 +1,142 @@
+-- Refusals are exact: each stage of a call's answer decides its pass of the table, and the stages stand in the table's order.
+use Prim.Native.Nat.{ℕ, _*_, _≤_, _<_}
+use mathlib.Core.Path.{_≡_, refl, sym, _∙_, ap}
+use mathlib.Core.Logic.{_↔_, Iff·trans, Iff·symm, Iff·rfl, _⊎_, inl, inr, ⊎-elim}
+use mathlib.Core.Bool.{Bool, true, false, _&&_}
+use mathlib.Core.List.{List, [], _∷_, _++_}
+use native.Mathlib.Omega.{arith}
+use lib.ListN.{length, getD}
+use Rattle.model.specs.declared.Found.{Found}
+use Rattle.model.specs.declared.Refusal.{Refusal}
+use Rattle.model.specs.declared.Answer.{Answer}
+use Rattle.model.specs.declared.Answer.the-variants.{Accepted, Refused}
+use Rattle.model.specs.Limits.{commandsMax, cyclesMax, wordLength}
+use Rattle.model.specs.Image.{Commands, count, nodeOf, Design, registerAt, designOf}
+use Rattle.model.specs.Machine.{targetSound}
+use Rattle.model.specs.States.{hasChild, isChild}
+use Rattle.model.specs.Answers.{numbersOf}
+use Rattle.model.specs.Verdict.{_before_, refusedAt, designVerdict, verdict}
+use Rattle.model.specs.Rules.{DirectoryKeeps, Keeps}
+use Rattle.model.specs.Calls.{Lent, registerAreaKept, targetAreaKept, registerAreaAnswer, lengthAnswer, targetsAnswer, isWritable, portAnswer, cyclesAnswer, leaves, leavesRegisters, check, resetAnswer, reset, runAnswer, run, writePortAnswer, writePort}
+use Rattle.model.specs.Parties.{RightLengths}
+use Rattle.model.specs.Standing.{ChildOf}
+use Rattle.model.specs.Refusals.{Pass, _asks_, TargetKeeps, AllKept, imageTable, resetTable, writePortTable, runTable, AnswersBy}
+use Rattle.model.proofs.Laws.Booleans.{true-or-false, false-unless-true}
+use Rattle.model.proofs.Laws.Equivalences.{less-iff, at-most-iff, equal-iff, and-iff, or-iff, not-iff}
+use Rattle.model.proofs.Laws.Images.{section-length}
+use Rattle.model.proofs.Laws.Numbers.{told-accepted, told-refused}
+use Rattle.model.proofs.Laws.Broken.{Finds, Decides, decides-one, decides-before, decides-none}
+use Rattle.model.proofs.Laws.Finds.{finds-each, finds-charged, finds-zero, finds-node}
+use Rattle.model.proofs.Exact.Directories.{directory-iff}
+use Rattle.model.proofs.Exact.Labels.{label-iff}
+use Rattle.model.proofs.Exact.Records.{register-iff, state-iff, child-label-iff, command-iff, expression-iff, command-used-iff, expression-used-iff, command-depth-iff, expression-depth-iff}
+use Rattle.model.proofs.Exact.{verdict-exact}
+use Rattle.model.proofs.Refused.Standing.{child-iff, has-child-iff}
+use Rattle.model.proofs.Refused.Shapes.{shape-finds}
+use Rattle.model.proofs.Refused.Flows.{flow-decides}
+pub mod Standing
+pub mod Shapes
+pub mod Kinds
+pub mod Flows
+
+-- a stage that searches, put before those behind it
+stage : {refusal : Refusal} {Kept : ℕ → Type 0} {f : Found} {b : Answer} {count : ℕ} {more : List Pass} → Finds f Kept → Decides b count more → Decides (refusedAt refusal f before b) count ((refusal asks Kept ∷ []) ∷ more)
+stage found next = decides-before (decides-one found) (λ kept. next)
+
+-- ---- the image checks
+-- where the directory is kept, every command's place is below the expressions'
+few-commands : (image : List ℕ) → DirectoryKeeps image → length (designOf image .commands) ≤ commandsMax
+unfolding designOf
+few-commands image k = rw (section-length nodeOf image Commands) (k .sections Commands .at-most)
+
+pub image-decides : (image : List ℕ) → Decides (verdict image) 0 (imageTable image)
+unfolding verdict designVerdict
+image-decides image =
+    let d = designOf image in
+    decides-before
+    (decides-one (finds-zero (directory-iff image)))
+    (λ kept.
+    let few = few-commands image (kept .0 0 .0 refl) in
+    stage (finds-each (label-iff (d .rows)))
+    (stage (finds-each (register-iff d))
+    (stage (finds-each (state-iff d))
+    (stage (finds-node d few (command-iff d) (expression-iff d))
+    (stage (finds-node d few (command-used-iff d) (expression-used-iff d))
+    (stage (finds-node d few (command-depth-iff d) (expression-depth-iff d))
+    (stage (shape-finds d)
+    (stage (finds-each (child-label-iff d))
+    (flow-decides d)))))))))
+
+-- an image keeps the rules exactly where nothing of the table is broken
+pub keeps-table : (image : List ℕ) → Keeps image ↔ AllKept (imageTable image)
+keeps-table image = Iff·trans (Iff·symm (verdict-exact image)) (image-decides image .accepts)
+
+-- ---- the calls
+module _ (d : Design) where
+  lengths-iff : (lent : Lent) → ((registerAreaKept d (lent .registers) && targetAreaKept d (lent .targets)) ≡ true) ↔ RightLengths d lent
+  lengths-iff lent = Iff·trans (and-iff equal-iff equal-iff) (λ h. record { registers = h .0; targets = h .1 }, λ k. (k .registers, k .targets))
+
+  target-iff : (targets : List ℕ) (s : ℕ) → (targetSound d targets s ≡ true) ↔ TargetKeeps d targets s
+  unfolding targetSound
+  target-iff targets s = or-iff (child-iff d s (getD targets s 0)) (and-iff (Iff·trans not-iff childless) equal-iff)
+    where
+      childless : (hasChild d s ≡ false) ↔ ((q : ℕ) → ChildOf d s q → ⊥)
+      childless = (
+        λ e q child. true-or-false (hasChild d s) (has-child-iff d s .1 (q, child)) e,
+        λ none. false-unless-true (hasChild d s) (λ e. let found = has-child-iff d s .0 e in none (found .0) (found .1)),
+      )
+
+  writable-iff : (r : ℕ) → (isWritable d r ≡ true) ↔ ((r < length (d .registers)) × (registerAt d r .kind ≡ 1))
+  unfolding isWritable
+  writable-iff r = and-iff less-iff equal-iff
+
+module _ (image : List ℕ) where
+  pub reset-decides : (lent : Lent) → Decides (resetAnswer image lent) 0 (resetTable image lent)
+  unfolding resetAnswer lengthAnswer
+  reset-decides lent = decides-before (image-decides image) (λ kept. decides-one (finds-zero (lengths-iff (designOf image) lent)))
+
+  pub write-port-decides : (registers : List ℕ) (r v : ℕ) → Decides (writePortAnswer image registers r v) 0 (writePortTable image registers r)
+  unfolding writePortAnswer registerAreaAnswer portAnswer
+  write-port-decides registers r v =
+      decides-before (image-decides image) (λ kept. stage (finds-zero equal-iff) (decides-one (finds-charged r (writable-iff (designOf image) r))))
+
+  pub run-decides : (lent : Lent) (n : ℕ) → Decides (runAnswer image lent n) n (runTable image lent n)
+  unfolding runAnswer lengthAnswer targetsAnswer cyclesAnswer
+  run-decides lent n =
+      decides-before
+      (image-decides image)
+      (λ kept. stage (finds-zero (lengths-iff (designOf image) lent))
+      (stage (finds-each (target-iff (designOf image) (lent .targets)))
+      (stage (finds-zero at-most-iff)
+      (decides-none n))))
+
+-- ---- the same through the numbers that the host is given
+answers-by : {a : Answer} {n : ℕ} {passes : List Pass} → Decides a n passes → AnswersBy passes n (numbersOf a)
+answers-by {a} {n} d =
+    record { accepted = Iff·trans (told-accepted a n) (d .accepts); refused = λ refusal place. Iff·trans (told-refused a refusal place) (d .refuses refusal place) }
+
+-- a call leaves its answer
+left-answer : (a : Answer) (lent made : Lent) → leaves a lent made .answer ≡ a
+left-answer (Accepted n) lent made = refl
+left-answer (Refused r p) lent made = refl
+
+left-registers-answer : (a : Answer) (registers made : List ℕ) → leavesRegisters a registers made .answer ≡ a
+left-registers-answer (Accepted n) registers made = refl
+left-registers-answer (Refused r p) registers made = refl
+
+module _ (image : List ℕ) where
+  pub check-answers : AnswersBy (imageTable image) 0 (numbersOf (check image))
+  unfolding check
+  check-answers = answers-by (image-decides image)
+
+  pub reset-answers : (lent : Lent) → AnswersBy (resetTable image lent) 0 (numbersOf (reset image lent .answer))
+  unfolding reset
+  reset-answers lent = rw (left-answer (resetAnswer image lent)) (answers-by (reset-decides image lent))
+
+  pub write-port-answers : (registers : List ℕ) (r v : ℕ) → AnswersBy (writePortTable image registers r) 0 (numbersOf (writePort image registers r v .answer))
+  unfolding writePort
+  write-port-answers registers r v = rw (left-registers-answer (writePortAnswer image registers r v)) (answers-by (write-port-decides image registers r v))
+
+  pub run-answers : (lent : Lent) (n : ℕ) → AnswersBy (runTable image lent n) n (numbersOf (run image lent n .answer))
+  unfolding run
+  run-answers lent n = rw (left-answer (runAnswer image lent n)) (answers-by (run-decides image lent n))

@@ -1,0 +1,114 @@
+-- 01, 'When the box says no': its table as propositions, the rules in the order in which they are judged. Beside it stand the computations of `Verdict`
+-- and `Calls`; `refused-exactly` and its sisters (proofs/Promises.antt) say that a call answers a refusal exactly where it is the first that this table has.
+use Prim.Native.Nat.{ℕ, _+_, _*_, _≤_, _<_}
+use mathlib.Core.Path.{_≡_}
+use mathlib.Core.Logic.{_↔_, _⊎_}
+use mathlib.Core.List.{List, [], _∷_, _++_}
+use lib.ListN.{length, getD}
+use Rattle.model.specs.declared.Refusal.{Refusal}
+use Rattle.model.specs.declared.Refusal.the-variants.{Directory, LabelRow, RegisterRecord, StateRecord, NodeRecord, NodeUse, Depth, Shape, ChildLabel, AssignFlow, GotoFlow, FallFlow, NoPort, Area, CycleCount}
+use Rattle.model.specs.Limits.{expressionPlace, cyclesMax, wordLength}
+use Rattle.model.specs.Image.{Design, designOf, registerAt}
+use Rattle.model.specs.Rules.{DirectoryKeeps, LabelKeeps, RegisterKeeps, StateKeeps, CommandKeeps, ExpressionKeeps, CommandUsedOnce, ExpressionUsedOnce, CommandDepthKeeps, ExpressionDepthKeeps, ChildLabelKeeps}
+use Rattle.model.specs.Standing.{ChildOf, ShapeKeeps, AssignKeeps, GotoKeeps, FallKeeps}
+use Rattle.model.specs.Answers.{Numbers, numberOf}
+use Rattle.model.specs.Calls.{Lent}
+use Rattle.model.specs.Parties.{RightLengths}
+
+-- ---- what it is to be the first rule that is broken
+-- a rule: the refusal that is answered where it is broken, and what is kept at a place
+pub record Rule : Type 1 where
+  pub refusal : Refusal
+  pub Kept : ℕ → Type 0
+
+infix 80 _asks_
+abbrev pub _asks_ : Refusal → (ℕ → Type 0) → Rule
+refusal asks Kept = record { refusal = refusal; Kept = Kept }
+
+-- rules that are judged together, "one pass where the lowest node counts"
+abbrev pub Pass : Type 1
+Pass = List Rule
+
+abbrev pub KeptAt : Pass → ℕ → Type 0
+KeptAt [] place = Unit {0}
+KeptAt (rule ∷ more) place = rule .Kept place × KeptAt more place
+
+abbrev pub BrokenAt : Pass → Refusal → ℕ → Type 0
+BrokenAt [] refusal place = ⊥
+BrokenAt (rule ∷ more) refusal place = ((rule .refusal ≡ refusal) × (rule .Kept place → ⊥)) ⊎ BrokenAt more refusal place
+
+-- every rule is kept everywhere
+abbrev pub AllKept : List Pass → Type 0
+AllKept [] = Unit {0}
+AllKept (pass ∷ later) = ((place : ℕ) → KeptAt pass place) × AllKept later
+
+-- The refusal is the first: its rule is broken at the place, its pass is kept at every lower place, and the passes before it are kept everywhere.
+abbrev pub FirstBroken : List Pass → Refusal → ℕ → Type 0
+FirstBroken [] refusal place = ⊥
+FirstBroken (pass ∷ later) refusal place =
+    (BrokenAt pass refusal place × ((lower : ℕ) → lower < place → KeptAt pass lower))
+    ⊎ (((lower : ℕ) → KeptAt pass lower) × FirstBroken later refusal place)
+
+-- ---- places
+-- a rule that is charged to one place
+abbrev pub at : ℕ → Type 0 → ℕ → Type 0
+at charged P place = place ≡ charged → P
+
+-- a rule of each of n labels, registers or states
+abbrev pub each : ℕ → (ℕ → Type 0) → ℕ → Type 0
+each n P place = place < n → P place
+
+-- a rule of each command and one of each expression: "an expression's place is 1,024 plus its number"
+pub record eachNode (d : Design) (P Q : ℕ → Type 0) (place : ℕ) : Type 0 where
+  pub command : place < length (d .commands) → P place
+  pub expression : (e : ℕ) → place ≡ expressionPlace + e → e < length (d .expressions) → Q e
+
+-- ---- the table
+-- the image checks 1 to 12: "The lowest number that applies comes first, except that 10 to 12 are one pass"
+abbrev pub imageTable : List ℕ → List Pass
+imageTable image =
+    let d = designOf image in
+    (Directory asks at 0 (DirectoryKeeps image) ∷ [])
+    ∷ (LabelRow asks each (length (d .rows)) (LabelKeeps (d .rows)) ∷ [])
+    ∷ (RegisterRecord asks each (length (d .registers)) (RegisterKeeps d) ∷ [])
+    ∷ (StateRecord asks each (length (d .states)) (StateKeeps d) ∷ [])
+    ∷ (NodeRecord asks eachNode d (CommandKeeps d) (ExpressionKeeps d) ∷ [])
+    ∷ (NodeUse asks eachNode d (CommandUsedOnce d) (ExpressionUsedOnce d) ∷ [])
+    ∷ (Depth asks eachNode d (CommandDepthKeeps d) (ExpressionDepthKeeps d) ∷ [])
+    ∷ (Shape asks ShapeKeeps d ∷ [])
+    ∷ (ChildLabel asks each (length (d .states)) (ChildLabelKeeps d) ∷ [])
+    ∷ (AssignFlow asks AssignKeeps d ∷ GotoFlow asks GotoKeeps d ∷ FallFlow asks FallKeeps d ∷ [])
+    ∷ []
+
+-- "A target is a child of its state; a childless state's is its own number."
+abbrev pub TargetKeeps : Design → List ℕ → ℕ → Type 0
+TargetKeeps d targets s = ChildOf d s (getD targets s 0) ⊎ (((q : ℕ) → ChildOf d s q → ⊥) × (getD targets s 0 ≡ s))
+
+-- "Every call makes the image checks 1 to 12 first."
+module _ (image : List ℕ) where
+  -- reset: lengths only
+  abbrev pub resetTable : Lent → List Pass
+  resetTable lent = imageTable image ++ ((Area asks at 0 (RightLengths (designOf image) lent) ∷ []) ∷ [])
+
+  -- port write: "14 before 13"; "For 13 the place is the register number given."
+  abbrev pub writePortTable : List ℕ → ℕ → List Pass
+  writePortTable registers r =
+      imageTable image
+      ++ ((Area asks at 0 (length registers ≡ wordLength * length (designOf image .registers)) ∷ [])
+      ∷ (NoPort asks at r ((r < length (designOf image .registers)) × (registerAt (designOf image) r .kind ≡ 1)) ∷ [])
+      ∷ [])
+
+  -- run: "In 14 a wrong length comes first, with place 0, .. then an unsound target, at the lowest state."
+  abbrev pub runTable : Lent → ℕ → List Pass
+  runTable lent n =
+      imageTable image
+      ++ ((Area asks at 0 (RightLengths (designOf image) lent) ∷ [])
+      ∷ (Area asks each (length (designOf image .states)) (TargetKeeps (designOf image) (lent .targets)) ∷ [])
+      ∷ (CycleCount asks at 0 (n ≤ cyclesMax) ∷ [])
+      ∷ [])
+
+-- Numbers that a call answers by its table: an acceptance with the count exactly where every rule is kept everywhere, and a refusal's number with a place
+-- exactly where this refusal at this place is the first.
+pub record AnswersBy (passes : List Pass) (n : ℕ) (numbers : Numbers) : Type 0 where
+  pub accepted : (numbers ≡ record { number = 0; place = 0; count = n }) ↔ AllKept passes
+  pub refused : (refusal : Refusal) (place : ℕ) → (numbers ≡ record { number = numberOf refusal; place = place; count = 0 }) ↔ FirstBroken passes refusal place
