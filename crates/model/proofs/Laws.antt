@@ -10,6 +10,7 @@ pub mod States
 pub mod Gotos
 pub mod Cycles
 pub mod Verdict
+pub mod Nearest
 pub mod Passes
 pub mod Numbers
 pub mod Among

@@ -1,19 +1,18 @@
 -- Refusals are exact: each stage of a call's answer decides its pass of the table, and the stages stand in the table's order.
-use Prim.Native.Nat.{ℕ, _*_, _≤_, _<_}
-use mathlib.Core.Path.{_≡_, refl, sym, _∙_, ap}
-use mathlib.Core.Logic.{_↔_, Iff·trans, Iff·symm, Iff·rfl, _⊎_, inl, inr, ⊎-elim}
-use mathlib.Core.Bool.{Bool, true, false, _&&_}
-use mathlib.Core.List.{List, [], _∷_, _++_}
-use native.Mathlib.Omega.{arith}
+use Prim.Native.Nat.{ℕ, _≤_, _<_}
+use mathlib.Core.Path.{_≡_, refl}
+use mathlib.Core.Logic.{_↔_, Iff·trans, Iff·symm}
+use mathlib.Core.Bool.{true, false, _&&_}
+use mathlib.Core.List.{List, [], _∷_}
 use lib.ListN.{length, getD}
 use Rattle.model.specs.declared.Found.{Found}
 use Rattle.model.specs.declared.Refusal.{Refusal}
 use Rattle.model.specs.declared.Answer.{Answer}
 use Rattle.model.specs.declared.Answer.the-variants.{Accepted, Refused}
-use Rattle.model.specs.Limits.{commandsMax, cyclesMax, wordLength}
+use Rattle.model.specs.Limits.{commandsMax}
 use Rattle.model.specs.Image.{Commands, count, nodeOf, Design, registerAt, designOf}
 use Rattle.model.specs.Machine.{targetSound}
-use Rattle.model.specs.States.{hasChild, isChild}
+use Rattle.model.specs.States.{hasChild}
 use Rattle.model.specs.Answers.{numbersOf}
 use Rattle.model.specs.Verdict.{_before_, refusedAt, designVerdict, verdict}
 use Rattle.model.specs.Rules.{DirectoryKeeps, Keeps}

@@ -11,7 +11,7 @@ use Rattle.model.specs.Lattice.{stateLabel}
 use Rattle.model.specs.Trees.{Cmd, skip, assign, sequence, fall, goto, branch, bodyOf}
 use Rattle.model.specs.Flow.{flowFaults, stateFlowFaults, flowAnswer}
 use Rattle.model.specs.Rules.{Flows}
-use Rattle.model.proofs.Laws.Verdict.{FaultsOf, no-faults, faults-unless, faults-append, faults-join, nearest-iff}
+use Rattle.model.proofs.Laws.Nearest.{FaultsOf, no-faults, faults-unless, faults-append, faults-join, nearest-iff}
 
 module _ (d : Design) where
   module _ (s : ℕ) where

@@ -1,11 +1,11 @@
 -- The label rule holds at every label exactly where the rows are a lattice: each of its six tests says its own law of the lattice.
-use Prim.Native.Nat.{ℕ, _<_, _^_}
+use Prim.Native.Nat.{ℕ, _<_}
 use mathlib.Core.Path.{_≡_, refl}
 use mathlib.Core.Logic.{_↔_, Iff·rfl, Iff·trans}
 use mathlib.Core.Bool.{true}
 use mathlib.Core.List.{List}
 use native.Mathlib.Omega.{arith}
-use lib.ListN.{length, getD}
+use lib.ListN.{length}
 use Rattle.model.specs.declared.Found.the-variants.{Nowhere}
 use Rattle.model.specs.Indices.{lowestFailing}
 use Rattle.model.specs.Lattice.{rowInside, reflexive, antisymmetric, transitive, leastFull, leastAbove, joined, labelKept}

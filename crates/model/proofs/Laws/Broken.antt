@@ -1,25 +1,16 @@
 -- Which rule is broken first: an answer that decides one pass, put before one that decides others, decides them all in this order.
-use Prim.Native.Nat.{ℕ, zero, suc, _+_, _≤_, _<_}
+use Prim.Native.Nat.{ℕ, _<_}
 use mathlib.Core.Path.{_≡_, refl, sym, _∙_, ap}
 use mathlib.Core.Logic.{_↔_, Iff·trans, _⊎_, inl, inr, ⊎-elim}
-use mathlib.Core.Bool.{Bool, true, false, not, cond, true≢false, false≢true}
 use mathlib.Core.List.{List, [], _∷_, _++_}
 use native.Mathlib.Omega.{arith}
-use native.Mathlib.Decide.{decLt}
-use lib.ListN.{length}
 use Rattle.model.specs.declared.Found.{Found}
 use Rattle.model.specs.declared.Found.the-variants.{At, Nowhere}
 use Rattle.model.specs.declared.Refusal.{Refusal}
 use Rattle.model.specs.declared.Answer.{Answer}
 use Rattle.model.specs.declared.Answer.the-variants.{Accepted, Refused}
-use Rattle.model.specs.Limits.{commandsMax, expressionPlace}
-use Rattle.model.specs.Indices.{lowestFailing}
-use Rattle.model.specs.Image.{Design}
-use Rattle.model.specs.Verdict.{_before_, refusedAt, atZeroUnless, commandsFirst, lowestNode}
-use Rattle.model.specs.Refusals.{Rule, _asks_, Pass, KeptAt, BrokenAt, AllKept, FirstBroken, at, each, eachNode}
-use Rattle.model.proofs.Laws.Booleans.{not-true, true-or-false, false-unless-true}
-use Rattle.model.proofs.Laws.Indices.{lowest-at, LowestIs, failing-none, failing-nowhere}
-use Rattle.model.proofs.Laws.Found.{at-is-not-nowhere, failing-iff, node-iff, zero-unless-iff}
+use Rattle.model.specs.Verdict.{_before_, refusedAt}
+use Rattle.model.specs.Refusals.{_asks_, Pass, KeptAt, BrokenAt, AllKept, FirstBroken}
 use Rattle.model.proofs.Laws.Verdict.{refused-is-not-accepted, same-refusal}
 
 -- ---- what a search finds, against a rule of places

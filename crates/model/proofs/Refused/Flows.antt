@@ -1,8 +1,7 @@
 -- The nearest flow fault is the first rule of 10 to 12 that is broken: the faults of a body are those of the commands that stand in it.
-use Prim.Native.Nat.{ℕ, _≤_, _<_}
-use mathlib.Core.Path.{_≡_, refl, sym, _∙_, ap}
-use mathlib.Core.Logic.{_↔_, _⊎_, inl, inr, ⊎-elim}
-use mathlib.Core.Bool.{Bool, true, false}
+use Prim.Native.Nat.{ℕ, _<_}
+use mathlib.Core.Path.{_≡_, sym, _∙_}
+use mathlib.Core.Logic.{_⊎_, inl, inr, ⊎-elim}
 use mathlib.Core.List.{List, [], _∷_, _++_, List·Memᴰ, List·Memᴰ·not-nil, List·Memᴰ·append-cases, Memᴰ·append-left, Memᴰ·append-right}
 use native.Mathlib.Omega.{arith}
 use native.Mathlib.Decide.{decLt}
@@ -14,14 +13,15 @@ use Rattle.model.specs.declared.Answer.the-variants.{Accepted, Refused}
 use Rattle.model.specs.Indices.{joinBelow}
 use Rattle.model.specs.Image.{Design}
 use Rattle.model.specs.Lattice.{allFlowTo, registerLabel, stateLabel}
-use Rattle.model.specs.Trees.{Expr, Cmd, skip, assign, sequence, fall, goto, branch, bodyOf}
-use Rattle.model.specs.Flow.{labelsRead, refusedUnless, flowFaults, stateFlowFaults, flowAnswer, nearest}
+use Rattle.model.specs.Trees.{Cmd, skip, assign, sequence, fall, goto, branch, bodyOf}
+use Rattle.model.specs.Flow.{labelsRead, flowFaults, stateFlowFaults, flowAnswer, nearest}
 use Rattle.model.specs.Standing.{Stands, whole, in-first, in-second, in-then, in-else, AssignKeeps, GotoKeeps, FallKeeps}
 use Rattle.model.specs.Refusals.{Pass, _asks_, KeptAt, BrokenAt, AllKept, FirstBroken}
 use Rattle.model.proofs.Laws.Booleans.{true-or-false, true-unless-false}
 use Rattle.model.proofs.Laws.Numbers.{same-unless}
 use Rattle.model.proofs.Laws.Among.{among-join, join-cases, refused-among, refused-cases}
-use Rattle.model.proofs.Laws.Verdict.{AreRefusals, nearest-nil, nearest-either, NearestIs, nearest-is, refused-is-not-accepted, same-refusal}
+use Rattle.model.proofs.Laws.Verdict.{same-refusal}
+use Rattle.model.proofs.Laws.Nearest.{AreRefusals, nearest-nil, nearest-either, NearestIs, nearest-is}
 use Rattle.model.proofs.Laws.Broken.{Decides, broken-or-kept}
 use Rattle.model.proofs.Exact.Flows.{all-flow-faults}
 use Rattle.model.proofs.Refused.Standing.{all-flow-iff}

@@ -1,16 +1,16 @@
 -- A node is charged with a fault of shape exactly where it breaks a rule of shape: the faults of a body are those of the commands that stand in it.
-use Prim.Native.Nat.{ℕ, _<_}
-use mathlib.Core.Path.{_≡_, refl, sym, _∙_}
-use mathlib.Core.Logic.{_↔_, _⊎_, inl, inr, ⊎-elim}
-use mathlib.Core.Bool.{Bool, true, false, not, Bool·beq}
-use mathlib.Core.List.{List, [], _∷_, _++_, List·Memᴰ, List·Memᴰ·not-nil, List·Memᴰ·append-cases, Memᴰ·append-left, Memᴰ·append-right}
+use Prim.Native.Nat.{ℕ}
+use mathlib.Core.Path.{_≡_, sym, _∙_}
+use mathlib.Core.Logic.{_↔_, ⊎-elim}
+use mathlib.Core.Bool.{Bool, false, not, Bool·beq}
+use mathlib.Core.List.{List, _++_, List·Memᴰ, List·Memᴰ·not-nil, List·Memᴰ·append-cases, Memᴰ·append-left, Memᴰ·append-right}
 use lib.ListN.{length}
 use Rattle.model.specs.Indices.{joinBelow}
 use Rattle.model.specs.Image.{Design, stateAt}
 use Rattle.model.specs.States.{hasChild, siblingOrSelf}
-use Rattle.model.specs.Trees.{Expr, Cmd, skip, assign, sequence, fall, goto, branch, bodyOf}
+use Rattle.model.specs.Trees.{Cmd, skip, assign, sequence, fall, goto, branch, bodyOf}
 use Rattle.model.specs.Shape.{transfers, chargedUnless, shapeFaults, stateShapeFaults, shapeFault}
-use Rattle.model.specs.Standing.{Transfers, Stands, whole, in-first, in-second, in-then, in-else, ShapeKeeps}
+use Rattle.model.specs.Standing.{Stands, whole, in-first, in-second, in-then, in-else, ShapeKeeps}
 use Rattle.model.proofs.Laws.Booleans.{not-false, true-not, true-or-false, true-unless-false, beq-same, beq-make}
 use Rattle.model.proofs.Laws.Among.{among-join, join-cases, charged-among, charged-cases}
 use Rattle.model.proofs.Laws.Broken.{Finds}

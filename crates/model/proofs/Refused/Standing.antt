@@ -1,20 +1,18 @@
 -- The tests of shape and flow say what the table's propositions say: which commands transfer, which states are children, which labels flow.
-use Prim.Native.Nat.{ℕ, _<_}
+use Prim.Native.Nat.{ℕ}
 use mathlib.Core.Path.{_≡_, refl, sym, _∙_}
-use mathlib.Core.Logic.{_↔_, Iff·trans, Iff·rfl, _⊎_, inl, inr, ⊎-elim}
+use mathlib.Core.Logic.{_↔_, Iff·trans, Iff·rfl, ⊎-elim}
 use mathlib.Core.Bool.{Bool, true, false, false≢true}
 use mathlib.Core.List.{List, [], _∷_, List·Memᴰ, List·Memᴰ·head, List·Memᴰ·tail, List·Memᴰ·not-nil, List·Memᴰ·cases-cons}
 use lib.Dec.{eqb}
 use borrow.Author.Tests.{eqb-true, eq-eqb}
-use lib.ListN.{length}
 use Rattle.model.specs.Image.{Design}
-use Rattle.model.specs.Lattice.{flowsTo, allFlowTo}
+use Rattle.model.specs.Lattice.{allFlowTo}
 use Rattle.model.specs.States.{parent, isChild, hasChild, siblingOrSelf}
 use Rattle.model.specs.Trees.{Cmd, skip, assign, sequence, fall, goto, branch}
 use Rattle.model.specs.Shape.{transfers}
-use Rattle.model.specs.Rules.{FlowsTo}
 use Rattle.model.specs.Standing.{Transfers, by-fall, by-goto, by-second, by-branches, ChildOf, AllFlow}
-use Rattle.model.proofs.Laws.Booleans.{not-true, false-not, true-or-false, false-unless-true, and-first, and-second, and-both}
+use Rattle.model.proofs.Laws.Booleans.{true-or-false, false-unless-true, and-first, and-second, and-both}
 use Rattle.model.proofs.Laws.Equivalences.{less-iff, equal-iff, not-iff, and-iff, and-three-iff, some-iff}
 
 -- ---- transferring
