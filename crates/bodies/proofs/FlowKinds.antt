@@ -14,7 +14,7 @@ use Rattle.model.specs.Image.{Design as Table, Node, designOf, commandAt}
 use Rattle.model.specs.Lattice.{allFlowTo, stateLabel}
 use Rattle.model.specs.Kinds.{skips, sequences, falls, goes, branches, commandKind}
 use Rattle.model.specs.Trees.{exprOf, cmdOf, bodyOf}
-use Rattle.model.specs.Flow.{refusedUnless, labelsRead, flowFaults, stateFlowFaults, nearest, flowAnswer}
+use Rattle.model.specs.Flow.{refusedUnless, labelsRead, flowFaults, stateFlowFaults, nearest, flowAnswer, flowRefusal}
 use Rattle.model.specs.Rules.{CommandHolds}
 use Rattle.model.proofs.Laws.Faults.{nearest-append}
 use Rattle.model.proofs.Laws.Trees.{cmd-skip, cmd-sequence, cmd-fall, cmd-goto, cmd-branch}
@@ -25,7 +25,7 @@ use Rattle.design.specs.Records.{nodeIn, stateIn, rowIn, rowEnd}
 use Rattle.design.proofs.Laws.{labels-count, states-count, expressions-count, row-inside, row-in}
 use Rattle.design.proofs.FieldRules.{body-is, body-below, command-at, command-place-inside, command-below, command-kind-is, command-kind-of, item-is, a-is, b-is, c-is, command-holds, named-state, condition, sequence-a-below, sequence-b-below, branch-b-below, branch-c-below, lower-command, expression-at}
 use Rattle.bodies.specs.Places.{placeUnless}
-use Rattle.bodies.specs.Flows.{MaskOf, FlowKnown, Naming, Gathering, Assigning, Flowing, flowRefusal, answerAmong}
+use Rattle.bodies.specs.Flows.{MaskOf, FlowKnown, Naming, Gathering, Assigning, Flowing, answerAmong}
 use Rattle.bodies.proofs.PlaceRules.{commands-few}
 use Rattle.bodies.proofs.Masks.{mask-both, mask-row}
 use Rattle.bodies.proofs.FlowRules.{answer-none, answer-lower, answer-charged, state-label-is, state-label-below}

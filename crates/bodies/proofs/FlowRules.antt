@@ -17,7 +17,7 @@ use Rattle.model.specs.Limits.{commandsMax}
 use Rattle.model.specs.Lattice.{allFlowTo, registerLabel, stateLabel}
 use Rattle.model.specs.Kinds.{Operation, less, constants, commandKind, expressionKind}
 use Rattle.model.specs.Trees.{Expr, constant, register, binary, exprOf, cmdOf, registersRead}
-use Rattle.model.specs.Flow.{refusedUnless, labelsRead, flowFaults, nearer, nearest}
+use Rattle.model.specs.Flow.{refusedUnless, labelsRead, flowFaults, nearer, nearest, flowRefusal}
 use Rattle.model.specs.Rules.{ExpressionHolds}
 use Rattle.model.proofs.Laws.Trees.{expr-constant, expr-register, expr-binary, cmd-assign}
 use Rattle.model.proofs.Exact.Records.{state-iff}
@@ -27,7 +27,7 @@ use Rattle.design.specs.Describes.{Describes}
 use Rattle.design.proofs.Laws.{labels-count, labels-most, registers-count, states-count, commands-count, expressions-count, register-inside, state-in, command-in}
 use Rattle.design.proofs.FieldRules.{label-is as state-label, command-below, same-command, item-is, a-is, assigned-register, assigned-expression, expression-at, expression-place-inside, expression-kind-is, read-is, first-is, second-is, expression-holds, read-register, operation, operand-a-below, operand-b-below, lower-expression}
 use Rattle.bodies.specs.Places.{placeUnless}
-use Rattle.bodies.specs.Flows.{MaskOf, FlowKnown, Labelled, Naming, Gathering, Assigning, flowRefusal, answerAmong}
+use Rattle.bodies.specs.Flows.{MaskOf, FlowKnown, Labelled, Naming, Gathering, Assigning, answerAmong}
 use Rattle.bodies.proofs.PlaceRules.{below-or-not, commands-few}
 use Rattle.bodies.proofs.Masks.{mask-both, mask-none, label-is, register-label}
 

@@ -5,13 +5,12 @@ use mathlib.Core.Bool.{cond}
 use mathlib.Core.List.{List}
 use lib.Dec.{ltb, eqb}
 use lib.ListN.{length}
-use Rattle.model.specs.declared.Refusal.{Refusal}
-use Rattle.model.specs.declared.Refusal.the-variants.{AssignFlow, GotoFlow, FallFlow}
 use Rattle.model.specs.declared.Answer.{Answer}
 use Rattle.model.specs.declared.Answer.the-variants.{Accepted, Refused}
 use Rattle.model.specs.Image.{Design as Table, designOf, commandAt}
 use Rattle.model.specs.Lattice.{allFlowTo}
-use Rattle.model.specs.Kinds.{CommandKind, skips, assigns, sequences, falls, goes, branches, unknownCommand, commandKind}
+use Rattle.model.specs.Kinds.{commandKind}
+use Rattle.model.specs.Flow.{flowRefusal}
 use Rattle.design.specs.declared.Design.{Design}
 use Rattle.design.specs.Describes.{Describes}
 use Rattle.design.specs.Kept.{RegistersKept, StatesKept, CommandsKept, ExpressionsKept}
@@ -21,16 +20,6 @@ use Rattle.design.specs.RecordsAt.{StateAt, CommandAt, ExpressionAt}
 pub record MaskOf (rows context : List ℕ) (mask : ℕ) : Type 0 where
   pub small : mask < 65536
   pub bits : (l : ℕ) → l < length rows → eqb (mask / 2 ^ l % 2) 1 ≡ allFlowTo rows context l
-
--- the flow rule that a command of each kind may break; skips, sequences and ifs have none of their own
-unfoldable pub flowRefusal : CommandKind → Refusal
-flowRefusal skips = FallFlow
-flowRefusal assigns = AssignFlow
-flowRefusal sequences = FallFlow
-flowRefusal falls = FallFlow
-flowRefusal goes = GotoFlow
-flowRefusal branches = FallFlow
-flowRefusal unknownCommand = FallFlow
 
 -- what the place of a flow fault says
 unfoldable pub answerAmong : Table → ℕ → Answer

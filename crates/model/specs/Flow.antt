@@ -11,6 +11,7 @@ use Rattle.model.specs.declared.Answer.the-variants.{Accepted, Refused}
 use Rattle.model.specs.Indices.{joinBelow}
 use Rattle.model.specs.Image.{Design}
 use Rattle.model.specs.Lattice.{allFlowTo, registerLabel, stateLabel}
+use Rattle.model.specs.Kinds.{CommandKind, skips, assigns, sequences, falls, goes, branches, unknownCommand}
 use Rattle.model.specs.Trees.{Expr, Cmd, skip, assign, sequence, fall, goto, branch, bodyOf, registersRead}
 
 -- the refusal at a node, unless its rule holds
@@ -40,6 +41,16 @@ module _ (d : Design) where
     -- those of the whole body, whose context is the state's label
     unfoldable pub stateFlowFaults : List Answer
     stateFlowFaults = flowFaults (stateLabel d s ∷ []) (bodyOf d s)
+
+-- the flow rule that a command of each kind may break; skips, sequences and ifs have none of their own
+unfoldable pub flowRefusal : CommandKind → Refusal
+flowRefusal skips = FallFlow
+flowRefusal assigns = AssignFlow
+flowRefusal sequences = FallFlow
+flowRefusal falls = FallFlow
+flowRefusal goes = GotoFlow
+flowRefusal branches = FallFlow
+flowRefusal unknownCommand = FallFlow
 
 -- the refusal at the lower place
 unfoldable pub nearer : Answer → Answer → Answer

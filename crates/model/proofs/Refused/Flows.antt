@@ -14,7 +14,7 @@ use Rattle.model.specs.Indices.{joinBelow}
 use Rattle.model.specs.Image.{Design}
 use Rattle.model.specs.Lattice.{allFlowTo, registerLabel, stateLabel}
 use Rattle.model.specs.Trees.{Cmd, skip, assign, sequence, fall, goto, branch, bodyOf}
-use Rattle.model.specs.Flow.{labelsRead, flowFaults, stateFlowFaults, flowAnswer, nearest}
+use Rattle.model.specs.Flow.{labelsRead, flowFaults, stateFlowFaults, flowAnswer, nearest, flowRefusal}
 use Rattle.model.specs.Standing.{Stands, whole, in-first, in-second, in-then, in-else, AssignKeeps, GotoKeeps, FallKeeps}
 use Rattle.model.specs.Refusals.{Pass, _asks_, KeptAt, BrokenAt, AllKept, FirstBroken}
 use Rattle.model.proofs.Laws.Booleans.{true-or-false, true-unless-false}
@@ -25,7 +25,7 @@ use Rattle.model.proofs.Laws.Nearest.{AreRefusals, nearest-nil, nearest
 use Rattle.model.proofs.Laws.Broken.{Decides, broken-or-kept}
 use Rattle.model.proofs.Exact.Flows.{all-flow-faults}
 use Rattle.model.proofs.Refused.Standing.{all-flow-iff}
-use Rattle.model.proofs.Refused.Kinds.{flowRefusal, kindOf, genuine-body, fault-kind}
+use Rattle.model.proofs.Refused.Kinds.{kindOf, genuine-body, fault-kind}
 
 module _ (d : Design) where
   -- 10 to 12 in one pass, as in the table

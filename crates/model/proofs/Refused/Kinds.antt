@@ -11,19 +11,10 @@ use Rattle.model.specs.Image.{Design, Node, stateAt, commandAt}
 use Rattle.model.specs.Lattice.{allFlowTo, registerLabel, stateLabel}
 use Rattle.model.specs.Kinds.{CommandKind, skips, assigns, sequences, falls, goes, branches, unknownCommand, commandKind}
 use Rattle.model.specs.Trees.{Expr, Cmd, skip, assign, sequence, fall, goto, branch, cmdOfKind, cmdStep, cmdOf, bodyOf}
-use Rattle.model.specs.Flow.{labelsRead, refusedUnless, flowFaults}
+use Rattle.model.specs.Flow.{labelsRead, refusedUnless, flowFaults, flowRefusal}
 use Rattle.model.proofs.Laws.Indices.{recursively-all}
 use Rattle.model.proofs.Laws.Among.{refused-cases}
 use Rattle.model.proofs.Laws.Verdict.{same-refusal}
-
-abbrev pub flowRefusal : CommandKind → Refusal
-flowRefusal skips = AssignFlow
-flowRefusal assigns = AssignFlow
-flowRefusal sequences = AssignFlow
-flowRefusal falls = FallFlow
-flowRefusal goes = GotoFlow
-flowRefusal branches = AssignFlow
-flowRefusal unknownCommand = AssignFlow
 
 module _ (d : Design) where
   -- the kind of a node
@@ -65,7 +56,7 @@ module _ (d : Design) where
     own-kind b q n is h = let same = same-refusal (refused-cases (Refused r k) b q n h .0) in same .0 ∙ sym is ∙ ap (λ (m : ℕ). flowRefusal (kindOf m)) (sym (same .1))
 
     pub fault-kind : (context : List ℕ) (c : Cmd) → Genuine c → List·Memᴰ (Refused r k) (flowFaults d s context c) → r ≡ flowRefusal (kindOf k)
-    unfolding flowFaults
+    unfolding flowFaults flowRefusal
     fault-kind context (skip n) is h = absurd (List·Memᴰ·not-nil h)
     fault-kind context (assign n w e) is h = own-kind (allFlowTo (d .rows) (context ++ labelsRead d e) (registerLabel d w)) AssignFlow n (rw is) h
     fault-kind context (sequence n p q) is h =
