@@ -39,9 +39,9 @@ use Rattle.design.specs.Resets.{Defaults, withDefaults, lends}
 use Rattle.design.proofs.Laws.{registers-count, states-count, register-in}
 use Rattle.design.proofs.WordRules.{words-put, length-put}
 use Rattle.design.proofs.ResetRules.{states-few, defaults-of}
-use Rattle.machine.specs.Executions.{valuesIn}
+use Rattle.machine_commands.specs.Executions.{valuesIn}
 use Rattle.machine.specs.Cycles.{Running, areasIn}
-use Rattle.rules.proofs.Accepted.{accepted-known}
+use Rattle.checker.proofs.Accepted.{accepted-known}
 use Rattle.calls.specs.Stages.{leftAs, leftRegistersAs, resetOn, writePortOn, runOn}
 
 pub registers-few : {image : List ℕ} {x : Design} → Describes image x → x .registers ≤ 64

@@ -16,14 +16,14 @@ ghost use Rattle.calls.specs.Stages.{leftAs, leftRegistersAs};
 pub fn check(image: &[u8]) -> Answer
     ensures { λ a. ⌜ a ≡ checkOf (now (image .entry)) ⌝ }
 {
-    rules::verdict(image)
+    checker::verdict(image)
 }
 
 // Writes the reset values and the default targets.
 pub fn reset(image: &[u8], registers: &mut [u8], targets: &mut [u8]) -> Answer
     ensures { λ a. ⌜ leftAs a (now (registers .exit)) (now (targets .exit)) ≡ resetOf (now (image .entry)) (lends (now (registers .entry)) (now (targets .entry))) ⌝ }
 {
-    let verdict = rules::verdict(image);
+    let verdict = checker::verdict(image);
     match verdict {
         Answer::Refused(refusal, place) => Answer::Refused(refusal, place),
         Answer::Accepted(_) => resets::reset(image, registers, targets),
@@ -34,7 +34,7 @@ pub fn reset(image: &[u8], registers: &mut [u8], targets: &mut [u8]) -> Answer
 pub fn write_port(image: &[u8], registers: &mut [u8], register: u32, value: u32) -> Answer
     ensures { λ a. ⌜ leftRegistersAs a (now (registers .exit)) ≡ writePort (now (image .entry)) (now (registers .entry)) register value ⌝ }
 {
-    let verdict = rules::verdict(image);
+    let verdict = checker::verdict(image);
     match verdict {
         Answer::Refused(refusal, place) => Answer::Refused(refusal, place),
         Answer::Accepted(_) => ports::write_port(image, registers, register, value),
@@ -45,7 +45,7 @@ pub fn write_port(image: &[u8], registers: &mut [u8], register: u32, value: u32)
 pub fn run(image: &[u8], registers: &mut [u8], targets: &mut [u8], count: u32) -> Answer
     ensures { λ a. ⌜ leftAs a (now (registers .exit)) (now (targets .exit)) ≡ runOf (now (image .entry)) (lends (now (registers .entry)) (now (targets .entry))) count ⌝ }
 {
-    let verdict = rules::verdict(image);
+    let verdict = checker::verdict(image);
     match verdict {
         Answer::Refused(refusal, place) => Answer::Refused(refusal, place),
         Answer::Accepted(_) => runs::run(image, registers, targets, count),

@@ -1,5 +1,6 @@
 -- Laws that tie the accessors and the directory to the meaning, and of words and reset. The crates above cite them.
 pub mod Laws
 pub mod FieldRules
+pub mod StateRules
 pub mod WordRules
 pub mod ResetRules

@@ -2,10 +2,13 @@
 use Prim.Native.Nat.{ℕ, _<_}
 use mathlib.Core.Path.{_≡_}
 use mathlib.Core.Bool.{true}
+use mathlib.Core.List.{List}
 use lib.ListN.{length}
-use Rattle.model.specs.Image.{Design as Table}
+use Rattle.model.specs.Image.{Design as Table, designOf}
 use Rattle.model.specs.States.{registerKept, stateKept}
 use Rattle.model.specs.Kinds.{commandKept, expressionKept}
+use Rattle.design.specs.declared.Design.{Design}
+use Rattle.design.specs.Describes.{Describes}
 
 pub record RegistersKept (d : Table) : Type 0 where
   pub kept : (r : ℕ) → r < length (d .registers) → registerKept d r ≡ true
@@ -18,3 +21,11 @@ pub record CommandsKept (d : Table) : Type 0 where
 
 pub record ExpressionsKept (d : Table) : Type 0 where
   pub kept : (n : ℕ) → n < length (d .expressions) → expressionKept d n ≡ true
+
+-- what the passes up to refusal 5 have established: all that the flow pass and the machine need of the records
+pub record RecordsKept (image : List ℕ) (x : Design) : Type 0 where
+  pub describes : Describes image x
+  pub registers : RegistersKept (designOf image)
+  pub states : StatesKept (designOf image)
+  pub commands : CommandsKept (designOf image)
+  pub expressions : ExpressionsKept (designOf image)

@@ -2,6 +2,7 @@
 // another crate knows where a byte stands.
 pub mod reset;
 pub mod rows;
+pub mod states;
 pub mod words;
 
 ghost use Prim.Native.Nat.{_+_, _*_, _/_, _%_, _<_, _≤_};

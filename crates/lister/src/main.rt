@@ -109,7 +109,7 @@ fn list_accepted(image: &[u8], count: u32)
 
 // The listing of an image.
 fn list(image: &[u8], count: u32) {
-    let verdict = rules::verdict(image);
+    let verdict = checker::verdict(image);
     match verdict {
         Answer::Refused(refusal, place) => print_refusal(refusal, place as u32),
         Answer::Accepted(_) => list_accepted(image, count),

@@ -23,7 +23,7 @@ use Rattle.design.specs.Resets.{withDefaults, lends}
 use Rattle.design.proofs.Laws.{registers-count, states-count}
 use Rattle.design.proofs.ResetRules.{default-inside, defaults-of}
 use Rattle.machine.specs.Cycles.{Running, areasIn}
-use Rattle.rules.proofs.Accepted.{accepted-known}
+use Rattle.checker.proofs.Accepted.{accepted-known}
 use Rattle.listing.specs.Lines.{RunningAt}
 
 pub start-kept : {image : List ℕ} → Keeps image → StatesKept (designOf image)

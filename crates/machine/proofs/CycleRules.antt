@@ -27,12 +27,12 @@ use Rattle.design.specs.Records.{stateIn}
 use Rattle.design.proofs.FieldRules.{body-is, body-below}
 use Rattle.design.proofs.Laws.{registers-count, states-count}
 use Rattle.design.proofs.ResetRules.{default-inside, states-few, state-fits}
-use Rattle.bodies.specs.Flows.{FlowKnown}
-use Rattle.machine.specs.Executions.{Executing, executedAs, valuesIn}
+use Rattle.design.specs.Kept.{RecordsKept}
+use Rattle.machine_commands.specs.Executions.{Executing, executedAs, valuesIn}
 use Rattle.machine.specs.Cycles.{Running, Cycled, areasIn, overwritten}
 
 -- ---- the command of a state
-module _ {image : List ℕ} {x : Design} {s c : ℕ} (known : FlowKnown image x) (l : s < x .states) (e : c ≡ stateIn image (x .«states_at») s .command) where
+module _ {image : List ℕ} {x : Design} {s c : ℕ} (known : RecordsKept image x) (l : s < x .states) (e : c ≡ stateIn image (x .«states_at») s .command) where
   pub body-executing : Executing image x c
   body-executing = record { known = known; node = body-below (known .describes) l e (known .states) }
 

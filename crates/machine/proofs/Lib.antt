@@ -1,5 +1,3 @@
--- Laws of the values of expressions, of the effects of commands, of the targets of states, and of cycles.
-pub mod EvaluateRules
-pub mod ExecuteRules
+-- Laws of the targets of states, and of cycles.
 pub mod TargetRules
 pub mod CycleRules

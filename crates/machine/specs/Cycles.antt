@@ -8,12 +8,12 @@ use Rattle.model.specs.Rules.{Keeps}
 use Rattle.model.specs.Machine.{Areas, Cycle}
 use Rattle.design.specs.declared.Design.{Design}
 use Rattle.design.specs.Resets.{Defaults}
-use Rattle.bodies.specs.Flows.{FlowKnown}
-use Rattle.machine.specs.Executions.{valuesIn}
+use Rattle.design.specs.Kept.{RecordsKept}
+use Rattle.machine_commands.specs.Executions.{valuesIn}
 
 -- the image keeps the rules, a table has the default targets, the areas have their lengths, and every target is a state
 pub record Running (image : List ℕ) (x : Design) (table registers targets : List ℕ) : Type 0 where
-  pub known : FlowKnown image x
+  pub known : RecordsKept image x
   pub keeps : Keeps image
   pub defaults : Defaults (designOf image) table
   pub area : length registers ≡ 4 * x .registers

@@ -1,3 +1,2 @@
--- What the contracts of this crate cite: what is known where a command or a cycle runs, and what it leaves.
-pub mod Executions
+-- What the contracts of this crate cite: what is known where a cycle runs, and what it leaves.
 pub mod Cycles

@@ -1,8 +1,8 @@
 // A cycle along the targets, and runs of cycles.
-use crate::execute::execute;
 use crate::targets::go_to;
 use design::Design;
 use design::wide;
+use machine_commands::execute::execute;
 use model::Ending;
 use model::Outcome;
 ghost use Prim.Native.Nat.{_*_, _<_, _≤_};
@@ -11,13 +11,13 @@ ghost use lib.ListN.{length};
 ghost use Rattle.model.specs.Image.{designOf};
 ghost use Rattle.model.specs.Trees.{bodyOf};
 ghost use Rattle.model.specs.Machine.{exec, cycle as cycleOf, afterCycles};
-ghost use Rattle.bodies.specs.Flows.{FlowKnown};
-ghost use Rattle.machine.specs.Executions.{executedAs, valuesIn};
+ghost use Rattle.design.specs.Kept.{RecordsKept};
+ghost use Rattle.machine_commands.specs.Executions.{executedAs, valuesIn};
 ghost use Rattle.machine.specs.Cycles.{Running, Cycled, areasIn};
 
 // The command of state s runs.
 fn body(image: &[u8], design: Design, registers: &mut [u8], s: usize) -> Outcome
-    requires { ⌜ FlowKnown (now image) design × (s < design .states) × (length (now registers) ≡ 4 * design .registers) ⌝ }
+    requires { ⌜ RecordsKept (now image) design × (s < design .states) × (length (now registers) ≡ 4 * design .registers) ⌝ }
     ensures { λ o. ⌜ (executedAs (valuesIn (designOf (now (image .entry))) (now (registers .exit))) o ≡ exec (valuesIn (designOf (now (image .entry))) (now (registers .entry))) (bodyOf (designOf (now (image .entry))) s)) × (length (now (registers .exit)) ≡ length (now (registers .entry))) ⌝ }
 {
     let command = Design::state_command(image, design.states_at, s);

@@ -1,5 +1,3 @@
-// One machine: the values of expressions, the effects of commands, the targets of states, and cycles.
+// The machine along its states: the targets, and cycles.
 pub mod cycle;
-pub mod evaluate;
-pub mod execute;
 pub mod targets;

@@ -1,6 +1,6 @@
 // The target area: one byte for each state.
-use bodies::shape::is_child;
 use design::Design;
+use design::states::is_child;
 use design::wide;
 use model::Found;
 ghost use Prim.Native.Nat.{_<_};

@@ -4,7 +4,7 @@ use Rattle.calls.proofs.check.Statement.{statement}
 use Rattle.calls.proofs.check.Tie as tie
 use Rattle.calls.proofs.check.Reads as reads
 use Rattle.calls.proofs.check.Lts as lts
-use Rattle.rules.proofs.verdict.Reads as verdict-reads
+use Rattle.checker.proofs.verdict.Reads as verdict-reads
 
 verdict-requires : tie.Need-verdict-requires
 verdict-requires c κs = search needs

@@ -1,4 +1,4 @@
-use Rattle.rules.proofs.Accepted.{accepted-keeps}
+use Rattle.checker.proofs.Accepted.{accepted-keeps}
 use Rattle.calls.proofs.CallRules.{refused-reset, accepted-reset}
 use borrow.Author.Needs.{needs}
 use Rattle.calls.proofs.reset.Statement.{statement}
@@ -6,7 +6,7 @@ use Rattle.calls.proofs.reset.Tie as tie
 use Rattle.calls.proofs.reset.Reads as reads
 use Rattle.calls.proofs.reset.Lts as lts
 use Rattle.calls.proofs.resets.reset.Reads as reset-reads
-use Rattle.rules.proofs.verdict.Reads as verdict-reads
+use Rattle.checker.proofs.verdict.Reads as verdict-reads
 
 verdict-requires : tie.Need-verdict-requires
 verdict-requires c κs = search needs

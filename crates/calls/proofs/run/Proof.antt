@@ -1,4 +1,4 @@
-use Rattle.rules.proofs.Accepted.{accepted-keeps}
+use Rattle.checker.proofs.Accepted.{accepted-keeps}
 use Rattle.calls.proofs.CallRules.{refused-run, accepted-run}
 use borrow.Author.Needs.{needs}
 use Rattle.calls.proofs.run.Statement.{statement}
@@ -6,7 +6,7 @@ use Rattle.calls.proofs.run.Tie as tie
 use Rattle.calls.proofs.run.Reads as reads
 use Rattle.calls.proofs.run.Lts as lts
 use Rattle.calls.proofs.runs.run.Reads as run-reads
-use Rattle.rules.proofs.verdict.Reads as verdict-reads
+use Rattle.checker.proofs.verdict.Reads as verdict-reads
 
 verdict-requires : tie.Need-verdict-requires
 verdict-requires c κs = search needs

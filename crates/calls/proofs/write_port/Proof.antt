@@ -1,4 +1,4 @@
-use Rattle.rules.proofs.Accepted.{accepted-keeps}
+use Rattle.checker.proofs.Accepted.{accepted-keeps}
 use Rattle.calls.proofs.CallRules.{refused-write, accepted-write}
 use borrow.Author.Needs.{needs}
 use Rattle.calls.proofs.write_port.Statement.{statement}
@@ -6,7 +6,7 @@ use Rattle.calls.proofs.write_port.Tie as tie
 use Rattle.calls.proofs.write_port.Reads as reads
 use Rattle.calls.proofs.write_port.Lts as lts
 use Rattle.calls.proofs.ports.write_port.Reads as write-port-reads
-use Rattle.rules.proofs.verdict.Reads as verdict-reads
+use Rattle.checker.proofs.verdict.Reads as verdict-reads
 
 verdict-requires : tie.Need-verdict-requires
 verdict-requires c κs = search needs

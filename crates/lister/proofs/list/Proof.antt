@@ -1,4 +1,4 @@
-use Rattle.rules.proofs.Accepted.{accepted-keeps}
+use Rattle.checker.proofs.Accepted.{accepted-keeps}
 use Rattle.lister.proofs.Buffers.{place-word}
 use borrow.Author.Needs.{needs}
 use Rattle.lister.proofs.list.Statement.{statement}

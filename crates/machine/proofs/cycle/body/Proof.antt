@@ -5,7 +5,7 @@ use Rattle.machine.proofs.cycle.body.Tie as tie
 use Rattle.machine.proofs.cycle.body.Reads as reads
 use Rattle.machine.proofs.cycle.body.Lts as lts
 use Rattle.design.proofs.Design.state_command.Reads as state-command-reads
-use Rattle.machine.proofs.execute.execute.Reads as execute-reads
+use Rattle.machine_commands.proofs.execute.execute.Reads as execute-reads
 
 state-command-requires : tie.Need-state-command-requires
 state-command-requires c κs = search needs

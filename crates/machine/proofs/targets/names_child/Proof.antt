@@ -4,7 +4,7 @@ use Rattle.machine.proofs.targets.names_child.Statement.{statement}
 use Rattle.machine.proofs.targets.names_child.Tie as tie
 use Rattle.machine.proofs.targets.names_child.Reads as reads
 use Rattle.machine.proofs.targets.names_child.Lts as lts
-use Rattle.bodies.proofs.shape.is_child.Reads as is-child-reads
+use Rattle.design.proofs.states.is_child.Reads as is-child-reads
 
 is-child-requires : tie.Need-is-child-requires
 is-child-requires c κs = search needs

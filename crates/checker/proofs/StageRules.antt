@@ -1,0 +1,150 @@
+-- The verdict from a pass on: what the pass found, before what follows; and what is known once a pass has found nothing.
+use Prim.Native.Nat.{ℕ, _+_, _<_}
+use mathlib.Core.Path.{_≡_, refl, sym, _∙_, ap}
+use mathlib.Core.Bool.{Bool, true, false, not}
+use mathlib.Core.List.{List}
+use native.Mathlib.Omega.{arith}
+use lib.ListN.{length, replicate, length-replicate}
+use mir.Syntax.{w64}
+use mir.Val.{Fits}
+use Rattle.model.specs.declared.Found.{Found}
+use Rattle.model.specs.declared.Found.the-variants.{At, Nowhere}
+use Rattle.model.specs.declared.Refusal.{Refusal}
+use Rattle.model.specs.declared.Refusal.the-variants.{Directory}
+use Rattle.model.specs.declared.Answer.{Answer}
+use Rattle.model.specs.declared.Answer.the-variants.{Refused}
+use Rattle.model.specs.Indices.{lowestFailing, joinBelow}
+use Rattle.model.specs.Limits.{commandsMax, expressionsMax}
+use Rattle.model.specs.Image.{Design as Table, directoryKept, designOf}
+use Rattle.model.specs.States.{registerKept, stateKept}
+use Rattle.model.specs.Kinds.{commandKept, expressionKept}
+use Rattle.model.specs.Rules.{DirectoryKeeps}
+use Rattle.model.specs.Verdict.{_before_, refusedAt, commandsFirst, lowestNode, designVerdict, verdict}
+use Rattle.model.proofs.Laws.Booleans.{not-true, not-false}
+use Rattle.model.proofs.Laws.Indices.{failing-none, lowest-failing-below}
+use Rattle.model.proofs.Exact.Directories.{directory-iff}
+use Rattle.design.specs.declared.Design.{Design}
+use Rattle.design.specs.Describes.{Describes}
+use Rattle.design.proofs.Laws.{expressions-count, expressions-most}
+use Rattle.design.specs.Kept.{RegistersKept, StatesKept, RecordsKept}
+use Rattle.checker_nodes.specs.Tables.{commandOf, countUses, CommandsPassed, ExpressionsPassed, NodesPassed, NodesTold}
+use Rattle.checker_nodes.proofs.CountRules.{count-append}
+use Rattle.checker_nodes.proofs.UseRules.{command-uses-told, expression-uses-told}
+use Rattle.checker_nodes.proofs.DepthRules.{command-depths-told, expression-depths-told}
+use Rattle.checker_bodies.specs.Shapes.{ShapeKnown}
+use Rattle.checker.specs.Stages.{fromChildren, fromShape, fromDepths, fromUses, fromNodes, fromStates, fromRegisters, fromLabels}
+
+-- ---- a pass, and all that follow
+pub stage-refuses : (r : Refusal) (g : Found) (rest : Answer) {f : Found} {p : ℕ} → f ≡ g → f ≡ At p → Refused r p ≡ (refusedAt r g before rest)
+unfolding refusedAt _before_
+stage-refuses r g rest e h = rw (← e, h)
+
+pub stage-passes : (r : Refusal) (g : Found) (rest : Answer) {f : Found} {a : Answer} → f ≡ g → f ≡ Nowhere → a ≡ rest → a ≡ (refusedAt r g before rest)
+unfolding refusedAt _before_
+stage-passes r g rest e h k = k ∙ rw (← e, h)
+
+-- ---- both families of nodes
+pub first-command : {a : Found} (b : Found) {n : ℕ} → a ≡ At n → At n ≡ commandsFirst a b
+first-command b h = rw h
+
+pub first-expression : {a b : Found} {n : ℕ} → a ≡ Nowhere → b ≡ At n → At (1024 + n) ≡ commandsFirst a b
+first-expression h k = rw (h, k)
+
+pub first-nothing : {a b : Found} → a ≡ Nowhere → b ≡ Nowhere → Nowhere ≡ commandsFirst a b
+first-nothing h k = rw (h, k)
+
+pub both-families : (d : Table) (c e : ℕ → Bool) {f g r : Found} → f ≡ lowestFailing c (length (d .commands)) → g ≡ lowestFailing e (length (d .expressions)) → r ≡ commandsFirst f g → r ≡ lowestNode d c e
+unfolding lowestNode
+both-families d c e p q k = k ∙ rw (p, q)
+
+-- an expression's number is small enough for its place
+module _ {image : List ℕ} {x : Design} (rule : ℕ → Bool) {f : Found} {n : ℕ} (d : Describes image x) where
+  pub expression-few : f ≡ lowestFailing rule (x .expressions) → f ≡ At n → n < expressionsMax
+  expression-few p h =
+      let below = lowest-failing-below rule (x .expressions) n (sym p ∙ h) in
+      let most = expressions-most d in
+      omega arith
+
+  pub expression-small : f ≡ lowestFailing rule (length (designOf image .expressions)) → f ≡ At n → n < expressionsMax
+  expression-small p h = expression-few (p ∙ ap (lowestFailing rule) (sym (expressions-count d))) h
+
+pub place-fits : {f : Found} {n : ℕ} → ((m : ℕ) → f ≡ At m → m < expressionsMax) → f ≡ At n → Fits w64 (1024 + n)
+place-fits {n = n} h e = let small = h n e in record { fits = omega arith }
+
+-- ---- what is known once a pass has found nothing
+pub known-registers : {d : Table} {f : Found} → f ≡ lowestFailing (registerKept d) (length (d .registers)) → f ≡ Nowhere → RegistersKept d
+known-registers {d} p h = record { kept = failing-none (registerKept d) (length (d .registers)) (sym p ∙ h) }
+
+pub known-states : {d : Table} {f : Found} → f ≡ lowestFailing (stateKept d) (length (d .states)) → f ≡ Nowhere → StatesKept d
+known-states {d} p h = record { kept = failing-none (stateKept d) (length (d .states)) (sym p ∙ h) }
+
+node-none : (f g : Found) → commandsFirst f g ≡ Nowhere → (f ≡ Nowhere) × (g ≡ Nowhere)
+node-none (At n) g e = absurd (let z : _≡_ {A = ℕ} 0 1 = cc in omega arith)
+node-none Nowhere (At n) e = absurd (let z : _≡_ {A = ℕ} 0 1 = cc in omega arith)
+node-none Nowhere Nowhere e = (refl, refl)
+
+-- ---- both loops over the nodes, and what is known and told where they found nothing
+pub fresh-length : {t : List ℕ} {limit : ℕ} → t ≡ replicate limit 0 → length t ≡ limit
+fresh-length {limit = limit} e = ap length e ∙ length-replicate {A = ℕ} limit 0
+
+pub nodes-passed :
+    {d : Table} {c t u s v w p a q b : List ℕ} {f g r : Found}
+    → CommandsPassed d f t u s v p a
+    → ExpressionsPassed d g v w q b
+    → r ≡ commandsFirst f g
+    → t ≡ countUses c (joinBelow (commandOf d) (length (d .states)))
+    → c ≡ replicate commandsMax 0
+    → s ≡ replicate expressionsMax 0
+    → p ≡ replicate commandsMax 0
+    → q ≡ replicate expressionsMax 0
+    → NodesPassed d r u w a b
+nodes-passed {d} commands expressions first bodies c s p q =
+    record {
+      found = both-families d (commandKept d) (expressionKept d) (commands .found) (expressions .found) first;
+      commands-counted = rw (← (commands .found), count-append (replicate commandsMax 0), ← c, ← bodies) (commands .counted);
+      expressions-counted = rw (← (commands .found), ← (expressions .found), count-append (replicate expressionsMax 0), ← s, ← (commands .expressions-counted)) (expressions .counted);
+      commands-filled = rw (← (commands .found), ← p) (commands .filled);
+      expressions-filled = rw (← (expressions .found), ← q) (expressions .filled);
+    }
+
+both-none : (d : Table) {f : Found} → f ≡ Nowhere → f ≡ lowestNode d (commandKept d) (expressionKept d) → (lowestFailing (commandKept d) (length (d .commands)) ≡ Nowhere) × (lowestFailing (expressionKept d) (length (d .expressions)) ≡ Nowhere)
+unfolding lowestNode
+both-none d h p = node-none (lowestFailing (commandKept d) (length (d .commands))) (lowestFailing (expressionKept d) (length (d .expressions))) (sym p ∙ h)
+
+pub known-nodes : {image : List ℕ} {x : Design} {f : Found} → f ≡ Nowhere → f ≡ lowestNode (designOf image) (commandKept (designOf image)) (expressionKept (designOf image)) → Describes image x → RegistersKept (designOf image) → StatesKept (designOf image) → RecordsKept image x
+known-nodes {image} h p describes registers states =
+    let d = designOf image in
+    let none = both-none d h p in
+    record {
+      describes = describes;
+      registers = registers;
+      states = states;
+      commands = record { kept = failing-none (commandKept d) (length (d .commands)) (none .0) };
+      expressions = record { kept = failing-none (expressionKept d) (length (d .expressions)) (none .1) };
+    }
+
+pub nodes-told : {image u w a b : List ℕ} {x : Design} {f : Found} → f ≡ Nowhere → NodesPassed (designOf image) f u w a b → Describes image x → NodesTold image x u w a b
+nodes-told {image} h passed describes =
+    let none = both-none (designOf image) h (passed .found) in
+    record {
+      command-uses = command-uses-told describes (none .0) (passed .commands-counted);
+      expression-uses = expression-uses-told describes (none .0) (none .1) (passed .expressions-counted);
+      command-depths = command-depths-told describes (none .0) (passed .commands-filled);
+      expression-depths = expression-depths-told describes (none .1) (passed .expressions-filled);
+    }
+
+-- what the pass of refusal 8 asks, of what is known
+pub shape-known : {image : List ℕ} {x : Design} → RecordsKept image x → ShapeKnown image x
+shape-known known = record { describes = known .describes; states = known .states; commands = known .commands }
+
+-- ---- the whole
+pub directory-refuses : (image : List ℕ) {b : Bool} → b ≡ directoryKept image → not b ≡ true → Refused Directory 0 ≡ verdict image
+unfolding verdict refusedAt _before_
+directory-refuses image {b} e h = rw (← e, not-true b h)
+
+pub directory-passes : (image : List ℕ) {b : Bool} {a : Answer} → b ≡ directoryKept image → not b ≡ false → a ≡ fromLabels (designOf image) → a ≡ verdict image
+unfolding verdict designVerdict refusedAt _before_ fromLabels fromRegisters fromStates fromNodes fromUses fromDepths fromShape fromChildren
+directory-passes image {b} e h k = k ∙ rw (← e, not-false b h)
+
+pub directory-keeps : (image : List ℕ) {b : Bool} → b ≡ directoryKept image → not b ≡ false → DirectoryKeeps image
+directory-keeps image {b} e h = directory-iff image .0 (sym e ∙ not-false b h)

@@ -1,0 +1,231 @@
+// The checker: the passes in the order of the table, to a verdict. Each function judges from its
+// pass on, and knows what the passes before it have established.
+use design::Design;
+use model::Answer;
+use model::Found;
+use model::Refusal;
+ghost use Prim.Native.Nat.{ℕ, _+_, _<_};
+ghost use mathlib.Core.Path.{_≡_};
+ghost use lib.ListN.{replicate};
+ghost use Rattle.model.specs.declared.Found.the-variants.{At};
+ghost use Rattle.model.specs.Limits.{commandsMax, expressionsMax};
+ghost use Rattle.model.specs.Image.{designOf};
+ghost use Rattle.model.specs.Nodes.{commandUsedOnce, expressionUsedOnce, commandDepthKept, expressionDepthKept};
+ghost use Rattle.model.specs.Verdict.{commandsFirst, lowestNode, verdict as verdictOf};
+ghost use Rattle.design.specs.Describes.{Describes};
+ghost use Rattle.design.specs.Kept.{RegistersKept, StatesKept, RecordsKept};
+ghost use Rattle.checker_nodes.specs.Tables.{NodesPassed, OnceWhere, ShallowWhere, NodesTold};
+ghost use Rattle.checker.specs.Stages.{fromChildren, fromShape, fromDepths, fromUses, fromNodes, fromStates, fromRegisters, fromLabels};
+
+// A command's number, else an expression's place.
+fn commands_first(command: Found, expression: Found) -> Found
+    requires { ⌜ ((n : ℕ) → expression ≡ At n → n < expressionsMax) ⌝ }
+    ensures { λ f. ⌜ f ≡ commandsFirst command expression ⌝ }
+{
+    if let Found::At(n) = command {
+        return Found::At(n);
+    }
+    match expression {
+        Found::At(n) => Found::At(Design::EXPRESSION_PLACE + n),
+        Found::Nowhere => Found::Nowhere,
+    }
+}
+
+// The lowest node whose record breaks its rule. The loops that judge the records fill the fresh tables
+// of uses and depths.
+fn node_records(
+    image: &[u8],
+    design: Design,
+    command_uses: &mut [u8; Design::COMMANDS],
+    expression_uses: &mut [u8; Design::EXPRESSIONS],
+    command_depths: &mut [u8; Design::COMMANDS],
+    expression_depths: &mut [u8; Design::EXPRESSIONS],
+) -> Found
+    requires { ⌜ Describes (now image) design
+        × StatesKept (designOf (now image))
+        × (now «command_uses» ≡ replicate commandsMax 0)
+        × (now «expression_uses» ≡ replicate expressionsMax 0)
+        × (now «command_depths» ≡ replicate commandsMax 0)
+        × (now «expression_depths» ≡ replicate expressionsMax 0) ⌝ }
+    ensures { λ f. ⌜ NodesPassed (designOf (now (image .entry))) f (now («command_uses» .exit)) (now («expression_uses» .exit)) (now («command_depths» .exit)) (now («expression_depths» .exit)) ⌝ }
+{
+    checker_nodes::uses::use_bodies(command_uses, image, design);
+    let command = checker_nodes::passes::commands(
+        image,
+        design,
+        command_uses,
+        expression_uses,
+        command_depths,
+    );
+    let expression = checker_nodes::passes::expressions(
+        image,
+        design,
+        expression_uses,
+        expression_depths,
+    );
+    commands_first(command, expression)
+}
+
+// The lowest node that is not used exactly once.
+fn node_uses(image: &[u8], design: Design, commands: &[u8], expressions: &[u8]) -> Found
+    requires { ⌜ Describes (now image) design
+        × OnceWhere (commandUsedOnce (designOf (now image))) (now commands) (design .commands)
+        × OnceWhere (expressionUsedOnce (designOf (now image))) (now expressions) (design .expressions) ⌝ }
+    ensures { λ f. ⌜ f ≡ lowestNode (designOf (now (image .entry))) (commandUsedOnce (designOf (now (image .entry)))) (expressionUsedOnce (designOf (now (image .entry)))) ⌝ }
+{
+    let command = checker_nodes::uses::not_once(commands, design.commands);
+    let expression = checker_nodes::uses::not_once(expressions, design.expressions);
+    commands_first(command, expression)
+}
+
+// The lowest node that is too deep.
+fn node_depths(image: &[u8], design: Design, commands: &[u8], expressions: &[u8]) -> Found
+    requires { ⌜ Describes (now image) design
+        × ShallowWhere (commandDepthKept (designOf (now image))) (now commands) (design .commands)
+        × ShallowWhere (expressionDepthKept (designOf (now image))) (now expressions) (design .expressions) ⌝ }
+    ensures { λ f. ⌜ f ≡ lowestNode (designOf (now (image .entry))) (commandDepthKept (designOf (now (image .entry)))) (expressionDepthKept (designOf (now (image .entry)))) ⌝ }
+{
+    let command = checker_nodes::depths::too_deep(commands, design.commands);
+    let expression = checker_nodes::depths::too_deep(expressions, design.expressions);
+    commands_first(command, expression)
+}
+
+// Refusal 9, and on.
+fn from_children(image: &[u8], design: Design) -> Answer
+    requires { ⌜ RecordsKept (now image) design ⌝ }
+    ensures { λ a. ⌜ a ≡ fromChildren (designOf (now (image .entry))) ⌝ }
+{
+    let found = checker_records::states::child_labels(image, design);
+    match found {
+        Found::At(place) => Answer::Refused(Refusal::ChildLabel, place),
+        Found::Nowhere => checker_bodies::flow::faults(image, design),
+    }
+}
+
+// Refusal 8, and on.
+fn from_shape(image: &[u8], design: Design) -> Answer
+    requires { ⌜ RecordsKept (now image) design ⌝ }
+    ensures { λ a. ⌜ a ≡ fromShape (designOf (now (image .entry))) ⌝ }
+{
+    let found = checker_bodies::shape::shapes(image, design);
+    match found {
+        Found::At(place) => Answer::Refused(Refusal::Shape, place),
+        Found::Nowhere => from_children(image, design),
+    }
+}
+
+// Refusal 7, and on.
+fn from_depths(
+    image: &[u8],
+    design: Design,
+    command_depths: &[u8],
+    expression_depths: &[u8],
+) -> Answer
+    requires { ⌜ RecordsKept (now image) design
+        × ShallowWhere (commandDepthKept (designOf (now image))) (now «command_depths») (design .commands)
+        × ShallowWhere (expressionDepthKept (designOf (now image))) (now «expression_depths») (design .expressions) ⌝ }
+    ensures { λ a. ⌜ a ≡ fromDepths (designOf (now (image .entry))) ⌝ }
+{
+    let found = node_depths(image, design, command_depths, expression_depths);
+    match found {
+        Found::At(place) => Answer::Refused(Refusal::Depth, place),
+        Found::Nowhere => from_shape(image, design),
+    }
+}
+
+// Refusal 6, and on.
+fn from_uses(
+    image: &[u8],
+    design: Design,
+    command_uses: &[u8],
+    expression_uses: &[u8],
+    command_depths: &[u8],
+    expression_depths: &[u8],
+) -> Answer
+    requires { ⌜ RecordsKept (now image) design
+        × NodesTold (now image) design (now «command_uses») (now «expression_uses») (now «command_depths») (now «expression_depths») ⌝ }
+    ensures { λ a. ⌜ a ≡ fromUses (designOf (now (image .entry))) ⌝ }
+{
+    let found = node_uses(image, design, command_uses, expression_uses);
+    match found {
+        Found::At(place) => Answer::Refused(Refusal::NodeUse, place),
+        Found::Nowhere => from_depths(image, design, command_depths, expression_depths),
+    }
+}
+
+// Refusal 5, and on.
+fn from_nodes(image: &[u8], design: Design) -> Answer
+    requires { ⌜ Describes (now image) design × RegistersKept (designOf (now image)) × StatesKept (designOf (now image)) ⌝ }
+    ensures { λ a. ⌜ a ≡ fromNodes (designOf (now (image .entry))) ⌝ }
+{
+    let mut command_uses = [0u8; Design::COMMANDS];
+    let mut expression_uses = [0u8; Design::EXPRESSIONS];
+    let mut command_depths = [0u8; Design::COMMANDS];
+    let mut expression_depths = [0u8; Design::EXPRESSIONS];
+    let found = node_records(
+        image,
+        design,
+        &mut command_uses,
+        &mut expression_uses,
+        &mut command_depths,
+        &mut expression_depths,
+    );
+    match found {
+        Found::At(place) => Answer::Refused(Refusal::NodeRecord, place),
+        Found::Nowhere => from_uses(
+            image,
+            design,
+            &command_uses,
+            &expression_uses,
+            &command_depths,
+            &expression_depths,
+        ),
+    }
+}
+
+// Refusal 4, and on.
+fn from_states(image: &[u8], design: Design) -> Answer
+    requires { ⌜ Describes (now image) design × RegistersKept (designOf (now image)) ⌝ }
+    ensures { λ a. ⌜ a ≡ fromStates (designOf (now (image .entry))) ⌝ }
+{
+    let found = checker_records::states::states(image, design);
+    match found {
+        Found::At(place) => Answer::Refused(Refusal::StateRecord, place),
+        Found::Nowhere => from_nodes(image, design),
+    }
+}
+
+// Refusal 3, and on.
+fn from_registers(image: &[u8], design: Design) -> Answer
+    requires { ⌜ Describes (now image) design ⌝ }
+    ensures { λ a. ⌜ a ≡ fromRegisters (designOf (now (image .entry))) ⌝ }
+{
+    let found = checker_records::registers::registers(image, design);
+    match found {
+        Found::At(place) => Answer::Refused(Refusal::RegisterRecord, place),
+        Found::Nowhere => from_states(image, design),
+    }
+}
+
+// Refusal 2, and on.
+fn from_labels(image: &[u8], design: Design) -> Answer
+    requires { ⌜ Describes (now image) design ⌝ }
+    ensures { λ a. ⌜ a ≡ fromLabels (designOf (now (image .entry))) ⌝ }
+{
+    let found = checker_records::lattice::labels(image, design);
+    match found {
+        Found::At(place) => Answer::Refused(Refusal::LabelRow, place),
+        Found::Nowhere => from_registers(image, design),
+    }
+}
+
+// The image checks 1 to 12.
+pub fn verdict(image: &[u8]) -> Answer
+    ensures { λ a. ⌜ a ≡ verdictOf (now (image .entry)) ⌝ }
+{
+    if !Design::directory_kept(image) {
+        return Answer::Refused(Refusal::Directory, 0);
+    }
+    let design = Design::read(image);
+    from_labels(image, design)
+}

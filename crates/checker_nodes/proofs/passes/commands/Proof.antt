@@ -1,0 +1,75 @@
+use Prim.Native.Nat.{_-_, _≤_}
+use Rattle.model.specs.Image.{designOf}
+use Rattle.model.specs.Kinds.{commandKept}
+use Rattle.model.specs.Trees.{cmdOf, cmdDepth}
+use Rattle.model.proofs.Laws.Passes.{Passed, pass-laws}
+use Rattle.design.specs.Resets.{Filled}
+use Rattle.checker_nodes.specs.Tables.{partsOf, expressionOf, depthEntry}
+use Rattle.checker_nodes.proofs.PartRules.{counts, judged-command}
+use Rattle.checker_nodes.proofs.CountRules.{Counted, count-laws}
+use Rattle.checker_nodes.proofs.DepthRules.{table-laws}
+use borrow.Author.Needs.{needs}
+use Rattle.checker_nodes.proofs.passes.commands.Statement.{statement}
+use Rattle.checker_nodes.proofs.passes.commands.Tie as tie
+
+abbrev Inv-loop : tie.InvT-loop
+Inv-loop image design uses₀ expression-uses₀ depths₀ n₀ uses expression-uses depths n =
+    Passed (commandKept (designOf image)) n
+    × Counted uses₀ (partsOf (designOf image)) uses n
+    × Counted expression-uses₀ (expressionOf (designOf image)) expression-uses n
+    × Filled (λ k. depthEntry (cmdDepth (cmdOf (designOf image) k))) depths₀ n depths
+    × (n ≤ design .commands)
+
+abbrev μ-loop : tie.MeasureT-loop
+μ-loop image design uses₀ expression-uses₀ depths₀ n₀ uses expression-uses depths n = design .commands - n
+
+loop-holds : tie.Need-loop-holds Inv-loop μ-loop
+loop-holds c = search (pass-laws, count-laws, table-laws, counts, needs)
+
+command-kept-requires : tie.Need-command-kept-requires Inv-loop μ-loop
+command-kept-requires c κs = search needs
+
+returns : tie.Need-returns Inv-loop μ-loop
+returns c = search (pass-laws, count-laws, table-laws, counts, needs)
+
+use-parts-requires : tie.Need-use-parts-requires Inv-loop μ-loop
+use-parts-requires c κs = search (judged-command, needs)
+
+use-command-expression-requires : tie.Need-use-command-expression-requires Inv-loop μ-loop
+use-command-expression-requires c κs = search (judged-command, needs)
+
+command-depth-requires : tie.Need-command-depth-requires Inv-loop μ-loop
+command-depth-requires c κs = search (judged-command, table-laws, needs)
+
+element-write-depths : tie.Need-element-write-depths Inv-loop μ-loop
+element-write-depths c = search (counts, needs)
+
+add-n : tie.Need-add-n Inv-loop μ-loop
+add-n c = search (counts, needs)
+
+loop-less : tie.Need-loop-less Inv-loop μ-loop
+loop-less c = search needs
+
+loop-again : tie.Need-loop-again Inv-loop μ-loop
+loop-again c = (search (pass-laws, needs), search (count-laws, needs), search (count-laws, needs), search (table-laws, counts, needs), search needs)
+
+returns-2 : tie.Need-returns-2 Inv-loop μ-loop
+returns-2 c = search (pass-laws, count-laws, table-laws, counts, needs)
+
+pub commands-spec : {M : Type 1} → statement M
+commands-spec =
+    tie.close
+    (tie.spec
+    Inv-loop
+    μ-loop
+    loop-holds
+    command-kept-requires
+    returns
+    use-parts-requires
+    use-command-expression-requires
+    command-depth-requires
+    element-write-depths
+    add-n
+    loop-less
+    loop-again
+    returns-2)

@@ -1,0 +1,34 @@
+use Rattle.checker_records.proofs.RecordRules.{child-laws}
+use Rattle.design.proofs.Laws.{state-inside}
+use borrow.Author.Needs.{needs}
+use Rattle.checker_records.proofs.states.child_label_kept.Statement.{statement}
+use Rattle.checker_records.proofs.states.child_label_kept.Tie as tie
+
+returns : tie.Need-returns
+returns c = search (child-laws, needs)
+
+parent-requires : tie.Need-parent-requires
+parent-requires c κs = search (state-inside, needs)
+
+state-label-requires : tie.Need-state-label-requires
+state-label-requires c κs = search (child-laws, needs)
+
+state-label-requires-2 : tie.Need-state-label-requires-2
+state-label-requires-2 c κs = search (state-inside, needs)
+
+flows-requires : tie.Need-flows-requires
+flows-requires c κs = search (child-laws, needs)
+
+returns-2 : tie.Need-returns-2
+returns-2 c = search (child-laws, needs)
+
+pub child-label-kept-spec : {M : Type 1} → statement M
+child-label-kept-spec =
+    tie.close
+    (tie.spec
+    returns
+    parent-requires
+    state-label-requires
+    state-label-requires-2
+    flows-requires
+    returns-2)

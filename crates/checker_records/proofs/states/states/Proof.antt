@@ -1,0 +1,49 @@
+use Rattle.model.proofs.Laws.Passes.{pass-laws, Passed}
+use Rattle.design.proofs.Laws.{states-count}
+use Rattle.model.specs.States.{stateKept}
+use Rattle.model.specs.Image.{designOf}
+use Prim.Native.Nat.{_-_}
+use borrow.Author.Needs.{needs}
+use Rattle.checker_records.proofs.states.states.Statement.{statement}
+use Rattle.checker_records.proofs.states.states.Tie as tie
+
+abbrev Inv-loop : tie.InvT-loop
+Inv-loop image design s₀ s = Passed (stateKept (designOf image)) s
+
+abbrev μ-loop : tie.MeasureT-loop
+μ-loop image design s₀ s = design .states - s
+
+loop-holds : tie.Need-loop-holds Inv-loop μ-loop
+loop-holds c = search (pass-laws, needs)
+
+state-kept-requires : tie.Need-state-kept-requires Inv-loop μ-loop
+state-kept-requires c κs = search needs
+
+returns : tie.Need-returns Inv-loop μ-loop
+returns c = search (pass-laws, states-count, needs)
+
+add-s : tie.Need-add-s Inv-loop μ-loop
+add-s c = search needs
+
+loop-less : tie.Need-loop-less Inv-loop μ-loop
+loop-less c = search needs
+
+loop-again : tie.Need-loop-again Inv-loop μ-loop
+loop-again c = search (pass-laws, needs)
+
+returns-2 : tie.Need-returns-2 Inv-loop μ-loop
+returns-2 c = search (pass-laws, states-count, needs)
+
+pub states-spec : {M : Type 1} → statement M
+states-spec =
+    tie.close
+    (tie.spec
+    Inv-loop
+    μ-loop
+    loop-holds
+    state-kept-requires
+    returns
+    add-s
+    loop-less
+    loop-again
+    returns-2)

@@ -1,0 +1,154 @@
+-- The operations by the number of their kind, and the value of an expression from the values of its parts: the laws that the recursion over parts cites.
+use Prim.Native.Nat.{ℕ, _+_, _-_, _*_, _%_, _^_, _≤_, _<_}
+use mathlib.Core.Path.{_≡_, refl, sym, _∙_, ap}
+use mathlib.Core.List.{List}
+use native.Mathlib.Omega.{arith}
+use lib.Bits.{bitAnd, bitOr, bitXor}
+use lib.Dec.{ltb, eqb}
+use lib.ListN.{length}
+use Rattle.model.specs.Image.{designOf, expressionAt, word32At, constantOf}
+use Rattle.model.specs.Kinds.{Operation, add, subtract, bitwiseAnd, bitwiseOr, bitwiseXor, equal, less, ExpressionKind, constants, reads, operates, unknownExpression, expressionKind}
+use Rattle.model.specs.Trees.{exprOf}
+use Rattle.model.specs.Values.{apply, oneOrZero}
+use Rattle.model.specs.Machine.{eval}
+use Rattle.model.proofs.Laws.Kinds.{kind-constants, kind-reads, kind-operates, no-expression-kind}
+use Rattle.model.proofs.Laws.Trees.{expr-constant, expr-register, expr-binary}
+use Rattle.design.specs.Records.{nodeIn, constantIn}
+use Rattle.design.proofs.Laws.{registers-count}
+use Rattle.design.proofs.FieldRules.{expression-place-inside, same-expression, expression-kind-is, read-is, first-is, second-is, expression-holds, read-register, operand-a-below, operand-b-below, lower-expression}
+use Rattle.design.proofs.WordRules.{words-at}
+use Rattle.machine_commands.specs.Executions.{Evaluating, valuesIn}
+
+-- ---- operations
+-- the operation of a kind
+abbrev operationOf : ExpressionKind → Operation
+operationOf constants = add
+operationOf reads = add
+operationOf unknownExpression = add
+operationOf (operates o) = o
+
+module _ (k : ℕ) (o : Operation) (x y : ℕ) where
+  -- the value of the operation that a number has
+  same-value : {r : ℕ} (p : Operation) → expressionKind k ≡ operates p → expressionKind k ≡ operates o → r ≡ apply p x y → r ≡ apply o x y
+  same-value p e f h = h ∙ ap (λ (q : Operation). apply q x y) (ap operationOf (sym e ∙ f))
+
+  pub applies-add : {r : ℕ} → k ≡ 2 → r ≡ (x + y) % 2 ^ 32 → expressionKind k ≡ operates o → r ≡ apply o x y
+  unfolding apply expressionKind
+  applies-add n h f = same-value add (ap expressionKind n) f h
+
+  pub applies-and : k ≡ 4 → expressionKind k ≡ operates o → bitAnd x y ≡ apply o x y
+  unfolding apply expressionKind
+  applies-and n f = same-value bitwiseAnd (ap expressionKind n) f refl
+
+  pub applies-or : k ≡ 5 → expressionKind k ≡ operates o → bitOr x y ≡ apply o x y
+  unfolding apply expressionKind
+  applies-or n f = same-value bitwiseOr (ap expressionKind n) f refl
+
+  pub applies-xor : k ≡ 6 → expressionKind k ≡ operates o → bitXor x y ≡ apply o x y
+  unfolding apply expressionKind
+  applies-xor n f = same-value bitwiseXor (ap expressionKind n) f refl
+
+  pub applies-equal : {r : ℕ} → k ≡ 7 → r ≡ oneOrZero (eqb x y) → expressionKind k ≡ operates o → r ≡ apply o x y
+  unfolding apply expressionKind
+  applies-equal n h f = same-value equal (ap expressionKind n) f h
+
+  pub applies-less :
+      {r : ℕ}
+      → (k ≡ 2 → ⊥)
+      → (k ≡ 3 → ⊥)
+      → (k ≡ 4 → ⊥)
+      → (k ≡ 5 → ⊥)
+      → (k ≡ 6 → ⊥)
+      → (k ≡ 7 → ⊥)
+      → 2 ≤ k
+      → k ≤ 8
+      → r ≡ oneOrZero (ltb x y)
+      → expressionKind k ≡ operates o
+      → r ≡ apply o x y
+  unfolding apply expressionKind
+  applies-less a b c d e g l u h f = let n : k ≡ 8 = omega arith in same-value less (ap expressionKind n) f h
+
+  -- a difference that the subtrahend added to wraps back to the minuend
+  difference : {r : ℕ} → r < 2 ^ 32 → y < 2 ^ 32 → (r + y) % 2 ^ 32 ≡ x → r ≡ (x + (2 ^ 32 - y)) % 2 ^ 32
+  difference a b h = omega arith
+
+  pub applies-subtract : {r : ℕ} → k ≡ 3 → r < 2 ^ 32 → y < 2 ^ 32 → (r + y) % 2 ^ 32 ≡ x → expressionKind k ≡ operates o → r ≡ apply o x y
+  unfolding apply expressionKind
+  applies-subtract n a b h f = same-value subtract (ap expressionKind n) f (difference a b h)
+
+pub ruleset apply-laws = (applies-add, applies-subtract, applies-and, applies-or, applies-xor, applies-equal, applies-less)
+
+-- ---- expressions
+module _ {image : List ℕ} {place : ℕ} {registers : List ℕ} {e : ℕ} (here : Evaluating image place registers e) where
+  -- ---- a register
+  read-below : {k r : ℕ} → k ≡ 1 → k ≡ nodeIn image place e .kind → r ≡ nodeIn image place e .item → r < here .design .registers
+  read-below q p f = let below = read-register (here .expression) q p f in let count = registers-count (here .known .describes) in omega arith
+
+  pub read-inside : {k r : ℕ} → k ≡ 1 → k ≡ nodeIn image place e .kind → r ≡ nodeIn image place e .item → 4 * r + 4 ≤ length registers
+  read-inside q p f = let area = here .area in let below = read-below q p f in omega arith
+
+  pub evaluates-register :
+      {k r v : ℕ}
+      → k ≡ 1
+      → k ≡ nodeIn image place e .kind
+      → r ≡ nodeIn image place e .item
+      → v ≡ word32At registers (4 * r)
+      → v ≡ eval (valuesIn (designOf image) registers) (exprOf (designOf image) e)
+  unfolding eval
+  evaluates-register q p f h =
+      let d = designOf image in
+      let named = sym (read-is (here .expression) f) in
+      let count = registers-count (here .known .describes) in
+      rw (expr-register d e (kind-reads (expression-kind-is (here .expression) p ∙ q)), named, ← count) (h ∙ sym (words-at registers (read-below q p f) (here .area)))
+
+  -- ---- the parts of an operation
+  lower-evaluating : (m : ℕ) → m < e → Evaluating image place registers m
+  lower-evaluating m l = record { design = here .design; known = here .known; expression = lower-expression (here .expression) (here .known .expressions) l; area = here .area }
+
+  pub operand-a-evaluating : {k a : ℕ} → k < 9 → 1 ≤ k → (k ≡ 1 → ⊥) → k ≡ nodeIn image place e .kind → a ≡ nodeIn image place e .a → Evaluating image place registers a
+  operand-a-evaluating {a = a} u l other p f = lower-evaluating a (operand-a-below (here .expression) u l other p f)
+
+  pub operand-b-evaluating : {k b : ℕ} → k < 9 → 1 ≤ k → (k ≡ 1 → ⊥) → k ≡ nodeIn image place e .kind → b ≡ nodeIn image place e .b → Evaluating image place registers b
+  operand-b-evaluating {b = b} u l other p f = lower-evaluating b (operand-b-below (here .expression) u l other p f)
+
+  pub evaluates-operation :
+      {k a b m n v : ℕ}
+      → k < 9
+      → 1 ≤ k
+      → (k ≡ 1 → ⊥)
+      → k ≡ nodeIn image place e .kind
+      → a ≡ nodeIn image place e .a
+      → b ≡ nodeIn image place e .b
+      → m ≡ eval (valuesIn (designOf image) registers) (exprOf (designOf image) a)
+      → n ≡ eval (valuesIn (designOf image) registers) (exprOf (designOf image) b)
+      → ((o : Operation) → expressionKind k ≡ operates o → v ≡ apply o m n)
+      → v ≡ eval (valuesIn (designOf image) registers) (exprOf (designOf image) e)
+  unfolding eval
+  evaluates-operation {k} {a} {b} u l other p f g first second applied =
+      let d = designOf image in
+      let found = kind-operates (λ z. omega arith) other u in
+      let left : a ≡ expressionAt d e .a = first-is (here .expression) f in
+      let right : b ≡ expressionAt d e .b = second-is (here .expression) g in
+      let lower = rw left at (operand-a-below (here .expression) u l other p f) in
+      let lower′ = rw right at (operand-b-below (here .expression) u l other p g) in
+      let tree = expr-binary d e (ap expressionKind (expression-kind-is (here .expression) p) ∙ found .1) lower lower′ in
+      rw tree (applied (found .0) (found .1) ∙ rw (first, second, left, right))
+
+  -- ---- a constant
+  constant-is : {v : ℕ} → expressionKind (expressionAt (designOf image) e .kind) ≡ constants → v ≡ constantIn image place e → v ≡ eval (valuesIn (designOf image) registers) (exprOf (designOf image) e)
+  unfolding eval
+  constant-is {v} kind h =
+      let d = designOf image in
+      let at = place + 8 * e in
+      let behind : at + 4 + 2 ≡ at + 6 = omega arith in
+      let fields : v ≡ constantOf (nodeIn image place e) = h ∙ rw behind in
+      rw (expr-constant d e kind) (fields ∙ ap constantOf (same-expression (here .expression)))
+
+  pub evaluates-low : {k v : ℕ} → k ≡ nodeIn image place e .kind → k < 1 → v ≡ constantIn image place e → v ≡ eval (valuesIn (designOf image) registers) (exprOf (designOf image) e)
+  evaluates-low p l h = let none = expression-kind-is (here .expression) p in constant-is (kind-constants (omega arith)) h
+
+  -- no number from 9 on is a kind
+  pub evaluates-high : {k v : ℕ} → k ≡ nodeIn image place e .kind → 9 ≤ k → v ≡ constantIn image place e → v ≡ eval (valuesIn (designOf image) registers) (exprOf (designOf image) e)
+  evaluates-high p l h = absurd (rw (no-expression-kind l) at (expression-holds (here .expression) p))
+
+pub ruleset evaluate-laws = (expression-place-inside, read-inside, evaluates-register, evaluates-operation, evaluates-low, evaluates-high)

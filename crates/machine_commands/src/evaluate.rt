@@ -1,0 +1,58 @@
+// The value of an expression, by recursion over parts.
+use design::Design;
+use design::words::word;
+ghost use Prim.Native.Nat.{_≤_};
+ghost use mathlib.Core.Path.{_≡_};
+ghost use Rattle.model.specs.Image.{designOf};
+ghost use Rattle.model.specs.Kinds.{Operation, operates, expressionKind};
+ghost use Rattle.model.specs.Trees.{exprOf};
+ghost use Rattle.model.specs.Values.{apply as applyOf, oneOrZero};
+ghost use Rattle.model.specs.Machine.{eval};
+ghost use Rattle.machine_commands.specs.Executions.{Evaluating, valuesIn};
+
+// 1 where a test holds, and 0 where it does not.
+fn one_or_zero(test: bool) -> u32
+    ensures { λ r. ⌜ r ≡ oneOrZero test ⌝ }
+{
+    if test { 1 } else { 0 }
+}
+
+// The operation of a kind, on two values.
+fn apply(kind: u8, x: u32, y: u32) -> u32
+    requires { ⌜ (2 ≤ kind) × (kind ≤ 8) ⌝ }
+    ensures { λ r. ⌜ ((o : Operation) → expressionKind kind ≡ operates o → r ≡ applyOf o x y) ⌝ }
+{
+    match kind {
+        2 => std::num::wrapping_add_u32(x, y),
+        3 => std::num::wrapping_sub_u32(x, y),
+        4 => x & y,
+        5 => x | y,
+        6 => x ^ y,
+        7 => one_or_zero(x == y),
+        _ => one_or_zero(x < y),
+    }
+}
+
+// The value of expression e over the registers. The place is where the expressions begin: the whole
+// design would be copied at every call.
+// A reborrow keeps the slice in registers of the processor; image itself would go through memory.
+pub fn evaluate(image: &[u8], at: usize, registers: &[u8], e: usize) -> u32
+    requires { ⌜ Evaluating (now image) at (now registers) e ⌝ }
+    ensures { λ v. ⌜ v ≡ eval (valuesIn (designOf (now (image .entry))) (now (registers .entry))) (exprOf (designOf (now (image .entry))) e) ⌝ }
+{
+    let kind = Design::kind(image, at, e);
+    match kind {
+        1 => {
+            let r = Design::item(image, at, e);
+            word(registers, r)
+        }
+        2..=8 => {
+            let a = Design::part_a(image, at, e);
+            let b = Design::part_b(image, at, e);
+            let x = evaluate(&*image, at, &*registers, a);
+            let y = evaluate(&*image, at, &*registers, b);
+            apply(kind, x, y)
+        }
+        _ => Design::constant(image, at, e),
+    }
+}

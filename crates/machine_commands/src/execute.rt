@@ -1,0 +1,83 @@
+// What a command does to the registers, and what it comes to, by recursion over parts.
+use crate::evaluate::evaluate;
+use design::Design;
+use design::words::put_word;
+use model::Ending;
+use model::Outcome;
+ghost use Prim.Native.Nat.{_*_, _<_};
+ghost use mathlib.Core.Bool.{_||_};
+ghost use mathlib.Core.Path.{_≡_};
+ghost use lib.Dec.{eqb};
+ghost use lib.ListN.{length};
+ghost use Rattle.model.specs.Image.{designOf, commandAt};
+ghost use Rattle.model.specs.Trees.{cmdOf};
+ghost use Rattle.model.specs.Values.{wordsOf};
+ghost use Rattle.model.specs.Machine.{exec};
+ghost use Rattle.machine_commands.specs.Executions.{Executing, Performing, executedAs, cameTo, valuesIn};
+
+// A fall or a goto, by the number of its kind.
+fn transfers(kind: u8) -> bool
+    ensures { λ r. ⌜ r ≡ (eqb kind 3 || eqb kind 4) ⌝ }
+{
+    (kind == 3) | (kind == 4)
+}
+
+// Command n runs: the registers are what it leaves, and the answer is the command that ran last,
+// which holds no other.
+// A reborrow keeps the slice in registers of the processor; image itself would go through memory.
+fn last_run(
+    image: &[u8],
+    commands_at: usize,
+    expressions_at: usize,
+    registers: &mut [u8],
+    n: usize,
+) -> usize
+    requires { ⌜ Performing (now image) «commands_at» «expressions_at» (now registers) n ⌝ }
+    ensures { λ l. ⌜ (executedAs (valuesIn (designOf (now (image .entry))) (now (registers .exit))) (cameTo (commandAt (designOf (now (image .entry))) l)) ≡ exec (valuesIn (designOf (now (image .entry))) (now (registers .entry))) (cmdOf (designOf (now (image .entry))) n)) × (l < length (designOf (now (image .entry)) .commands)) × (length (now (registers .exit)) ≡ length (now (registers .entry))) ⌝ }
+{
+    let a = Design::part_a(image, commands_at, n);
+    let b = Design::part_b(image, commands_at, n);
+    match Design::kind(image, commands_at, n) {
+        1 => {
+            let r = Design::item(image, commands_at, n);
+            let v = evaluate(&*image, expressions_at, &*registers, a);
+            put_word(registers, r, v);
+            n
+        }
+        2 => {
+            let first = last_run(&*image, commands_at, expressions_at, registers, a);
+            if transfers(Design::kind(image, commands_at, first)) {
+                return first;
+            }
+            last_run(&*image, commands_at, expressions_at, registers, b)
+        }
+        5 => {
+            let c = Design::part_c(image, commands_at, n);
+            if evaluate(&*image, expressions_at, &*registers, a) == 0 {
+                return last_run(&*image, commands_at, expressions_at, registers, c);
+            }
+            last_run(&*image, commands_at, expressions_at, registers, b)
+        }
+        _ => n,
+    }
+}
+
+// Command n runs: the registers are what it leaves, and the answer is what it came to.
+pub fn execute(image: &[u8], design: Design, registers: &mut [u8], n: usize) -> Outcome
+    requires { ⌜ Executing (now image) design n × (length (now registers) ≡ 4 * design .registers) ⌝ }
+    ensures { λ o. ⌜ (executedAs (wordsOf (design .registers) (now (registers .exit))) o ≡ exec (wordsOf (design .registers) (now (registers .entry))) (cmdOf (designOf (now (image .entry))) n)) × (length (now (registers .exit)) ≡ length (now (registers .entry))) ⌝ }
+{
+    let at = design.commands_at;
+    let last = last_run(
+        image,
+        design.commands_at,
+        design.expressions_at,
+        registers,
+        n,
+    );
+    match Design::kind(image, at, last) {
+        3 => Outcome::Transferred(Ending::Fall),
+        4 => Outcome::Transferred(Ending::Goto(Design::item(image, at, last))),
+        _ => Outcome::Continued,
+    }
+}
