@@ -3,6 +3,9 @@ pub mod Laws
 pub mod Exact
 pub mod Refused
 pub mod Independence
+pub mod Unchanged
+pub mod Grouping
+pub mod Writing
 pub mod Promises
 pub mod Designs
 pub mod Opened

@@ -3,16 +3,21 @@
 use mathlib.Core.Path.{_≡_}
 use mathlib.Core.Logic.{_↔_}
 use mathlib.Core.List.{List}
-use Prim.Native.Nat.{ℕ}
+use Prim.Native.Nat.{ℕ, _+_, _≤_}
 use Rattle.model.specs.declared.Refusal.{Refusal}
+use Rattle.model.specs.Limits.{cyclesMax}
+use Rattle.model.specs.Image.{AreBytes}
 use Rattle.model.specs.Answers.{numberOf, numbersOf}
 use Rattle.model.specs.Rules.{Keeps}
 use Rattle.model.specs.Calls.{Lent, check, reset, writePort, run}
 use Rattle.model.specs.Refusals.{AllKept, FirstBroken, imageTable, resetTable, writePortTable, runTable, AnswersBy}
-use Rattle.model.specs.Parties.{Independent}
+use Rattle.model.specs.Parties.{Call, perform, Independent}
 use Rattle.model.proofs.Exact.{check-exact}
 use Rattle.model.proofs.Refused.{keeps-table, check-answers, reset-answers, write-port-answers, run-answers}
 use Rattle.model.proofs.Independence.Theorem.{independent}
+use Rattle.model.proofs.Unchanged.{refused-lent}
+use Rattle.model.proofs.Grouping.{Grouped, grouped, none-left}
+use Rattle.model.proofs.Writing.{ChangesOnly, changes-only}
 
 -- Demand 2, for check: an image is accepted, with number 0, place 0 and count 0, exactly when it keeps the rules.
 pub accepted-exactly : (image : List ℕ) → (numbersOf (check image) ≡ record { number = 0; place = 0; count = 0 }) ↔ Keeps image
@@ -40,6 +45,27 @@ write-port-exactly = write-port-answers
 pub run-exactly : (image : List ℕ) (lent : Lent) (n : ℕ) → AnswersBy (runTable image lent n) n (numbersOf (run image lent n .answer))
 run-exactly = run-answers
 
+-- Demand 1: "No lent byte changes" on a refusal.
+pub refused-leaves : (image : List ℕ) (lent : Lent) (call : Call) → (numbersOf (perform image lent call .answer) .number ≡ 0 → ⊥) → perform image lent call .lent ≡ lent
+refused-leaves = refused-lent
+
 -- Demand 3: "Matching lists have equal views, and equal registers at or below the level at their end."
 pub independent-parties : Independent
 independent-parties = independent
+
+-- "An accepted run of n counts as n cycles": so a run may be cut. A run of n and then one of m leave what one of n + m leaves; all three are accepted, each
+-- with its count, or all are refused alike.
+pub runs-grouped : (image : List ℕ) → AreBytes image → (lent : Lent) → AreBytes (lent .registers) → (n m : ℕ) → n + m ≤ cyclesMax
+    → (run image (run image lent n .lent) m .lent ≡ run image lent (n + m) .lent)
+    × Grouped n m (numbersOf (run image lent n .answer)) (numbersOf (run image (run image lent n .lent) m .answer)) (numbersOf (run image lent (n + m) .answer))
+runs-grouped = grouped
+
+-- "with 0 it changes nothing", accepted or refused
+pub run-of-none : (image : List ℕ) (lent : Lent) → AreBytes (lent .registers) → run image lent 0 .lent ≡ lent
+run-of-none = none-left
+
+-- "An accepted port write sets its register to its value and changes nothing else": whatever it answers, no byte outside its register's four changes, and
+-- where it is accepted these four are those of the value.
+pub write-changes-only : (image registers : List ℕ) → AreBytes registers → (r v : ℕ)
+    → ChangesOnly r v registers (numbersOf (writePort image registers r v .answer)) (writePort image registers r v .registers)
+write-changes-only = changes-only

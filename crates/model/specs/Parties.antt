@@ -115,13 +115,16 @@ pub record Use (d : Design) : Type 0 where
   pub given : ℕ → ℕ
   pub calls : List Call
 
+-- "then the registers not at or below the level are given any values", of the areas that a reset left
+unfoldable pub withUnseen : List ℕ → ℕ → (ℕ → ℕ) → Lent → Lent
+withUnseen image level given left =
+    let d = designOf image in
+    record { registers = bytesOf (givenUnseen d level given (wordsOf (length (d .registers)) (left .registers))); targets = left .targets }
+
 module _ (image : List ℕ) (level : ℕ) (u : Use (designOf image)) where
   -- "Each starts with a reset; then the registers not at or below the level are given any values"
   unfoldable pub start : Lent
-  start =
-      let d = designOf image in
-      let left = reset image (u .lent) .lent in
-      record { registers = bytesOf (givenUnseen d level (u .given) (wordsOf (length (d .registers)) (left .registers))); targets = left .targets }
+  start = withUnseen image level (u .given) (reset image (u .lent) .lent)
 
   -- "then come the calls of the list"
   unfoldable pub history : List Event

@@ -3,7 +3,7 @@ use Prim.Native.Nat.{ℕ}
 use mathlib.Core.Path.{_≡_, refl}
 use mathlib.Core.List.{List, [], _∷_}
 use Rattle.model.specs.Image.{designOf}
-use Rattle.model.specs.Parties.{Seen, Use, runs, writes, aWrite, aCycle, givenUnseen, valuesSeen, walkSeen, view, remaining, start, history, remains, views, seenAtEnd}
+use Rattle.model.specs.Parties.{Seen, Use, runs, writes, aWrite, aCycle, givenUnseen, valuesSeen, walkSeen, view, remaining, withUnseen, start, history, remains, views, seenAtEnd}
 use Rattle.model.proofs.Opened.{everything, anyLent}
 use Rattle.model.proofs.Designs.{lease}
 
@@ -14,7 +14,7 @@ abbrev seen : List ℕ → List ℕ → Seen
 seen values walk = record { values = values; walk = walk }
 
 unfoldable whole : ℕ
-unfolding everything givenUnseen valuesSeen walkSeen view remaining start history remains views seenAtEnd
+unfolding everything givenUnseen valuesSeen walkSeen view remaining withUnseen start history remains views seenAtEnd
 whole = 0
 
 shows-views-0 : views lease 0 aUse ≡ seen (3 ∷ []) (0 ∷ 1 ∷ []) ∷ seen (2 ∷ []) (0 ∷ 2 ∷ []) ∷ seen (1 ∷ []) (0 ∷ 2 ∷ []) ∷ []

@@ -17,7 +17,7 @@ use Rattle.model.specs.Verdict.{verdict}
 use Rattle.model.specs.Values.{wordsOf}
 use Rattle.model.specs.Machine.{Areas, Cycle, resetAreas, cycle, cycles, afterLast, afterCycles}
 use Rattle.model.specs.Calls.{Lent, Left, isWritable, areasOf, lentOf}
-use Rattle.model.specs.Parties.{Call, resets, writes, runs, perform, Event, wasReset, wasWritten, cycled, eventsOf, events, atEnd, Seen, Remaining, aReset, aWrite, aCycle, registerSeen, valuesSeen, walkSeen, view, remaining, givenUnseen, RightLengths, Use, start, history, remains, views, seenAtEnd}
+use Rattle.model.specs.Parties.{Call, resets, writes, runs, perform, Event, wasReset, wasWritten, cycled, eventsOf, events, atEnd, Seen, Remaining, aReset, aWrite, aCycle, registerSeen, valuesSeen, walkSeen, view, remaining, givenUnseen, RightLengths, Use, withUnseen, start, history, remains, views, seenAtEnd}
 use Rattle.model.proofs.Laws.Indices.{length-tabulate, map-tabulate}
 use Rattle.model.proofs.Laws.Words.{wrapped, wrapped-bounded, length-bytesOf, words-of-bytes}
 use Rattle.model.proofs.Independence.Relation.{Good, withRegister, startAreas, Bisimulation}
@@ -226,7 +226,7 @@ module _
     reset-good = same .good (resetAreas (designOf image)) (resetAreas d₂) (same .resets)
 
     start-lent : start image level u ≡ lentOf (startAreas (designOf image) level (u .given))
-    unfolding start areasOf lentOf
+    unfolding start withUnseen areasOf lentOf
     start-lent =
         let back = areas-of-lent (designOf image) (resetAreas (designOf image)) reset-good in
         rw (reset-leaves image accepted (u .lent) (u .lengths), ap (λ (a : Areas). a .registers) back)

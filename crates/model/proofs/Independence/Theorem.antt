@@ -18,7 +18,7 @@ use Rattle.model.proofs.Independence.Runs.{Related, related-bisimulatio
 use Rattle.model.proofs.Independence.Lists.{lists-independent}
 
 -- an image that keeps the rules has a state
-rooted : (image : List ℕ) → DirectoryKeeps image → 0 < length (designOf image .states)
+pub rooted : (image : List ℕ) → DirectoryKeeps image → 0 < length (designOf image .states)
 unfolding designOf sectionOf
 rooted image kept =
     let some : 1 ≤ count image States = kept .sections States .at-least in

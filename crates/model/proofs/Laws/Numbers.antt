@@ -68,7 +68,7 @@ same-unless r q h = go (eqb (numberOf r) (numberOf q)) refl
     go false e = absurd (h (λ same. true-or-false (eqb (numberOf r) (numberOf q)) (eq-eqb (numberOf r) (numberOf q) (ap numberOf same)) e))
 
 -- no refusal has number 0: the table's first entry has number 1
-no-number-zero : (r : Refusal) → numberOf r ≡ 0 → ⊥
+pub no-number-zero : (r : Refusal) → numberOf r ≡ 0 → ⊥
 no-number-zero r e = let one : numberOf r ≡ 1 = ap numberOf (sym (numbered-back r) ∙ ap numbered e) in omega arith
 
 pub told-accepted : (a : Answer) (n : ℕ) → (numbersOf a ≡ record { number = 0; place = 0; count = n }) ↔ (a ≡ Accepted n)

@@ -27,3 +27,19 @@ unfolding _before_ refusedAt
 before-iff refusal {f = At place} p q =
     (λ e. absurd (refused-is-not-accepted refusal place 0 e), λ h. absurd (at-is-not-nowhere place (p .1 (h .0))))
 before-iff refusal {f = Nowhere} p q = (λ e. (p .0 refl, q .0 e), λ h. q .1 (h .1))
+
+-- where answers in order accept, each of them does, and one that searches found nothing
+pub first-accepts : (first later : Answer) {n : ℕ} → (first before later) ≡ Accepted n → (c : ℕ) × (first ≡ Accepted c)
+unfolding _before_
+first-accepts (Refused r p) later e = absurd (refused-is-not-accepted _ _ _ e)
+first-accepts (Accepted c) later e = (c, refl)
+
+pub later-accepts : (first later : Answer) {n : ℕ} → (first before later) ≡ Accepted n → later ≡ Accepted n
+unfolding _before_
+later-accepts (Refused r p) later e = absurd (refused-is-not-accepted _ _ _ e)
+later-accepts (Accepted c) later e = e
+
+pub found-nothing : (refusal : Refusal) (f : Found) {n : ℕ} → refusedAt refusal f ≡ Accepted n → f ≡ Nowhere
+unfolding refusedAt
+found-nothing refusal (At place) e = absurd (refused-is-not-accepted _ _ _ e)
+found-nothing refusal Nowhere e = refl

@@ -1,6 +1,7 @@
 -- Laws of records that stand one behind the other, and of the words of a register area: the bytes of a value are its digits to the base 256.
-use Prim.Native.Nat.{ℕ, zero, suc, _+_, _*_, _/_, _%_, _<_}
+use Prim.Native.Nat.{ℕ, zero, suc, _+_, _*_, _/_, _%_, _≤_, _<_}
 use mathlib.Core.Path.{_≡_, refl, _∙_, ap}
+use mathlib.Core.Logic.{_⊎_, inl, inr}
 use mathlib.Core.List.{List, [], _∷_, map}
 use native.Mathlib.Omega.{arith}
 use native.Mathlib.Nat.{mod-eq-of-lt}
@@ -8,7 +9,7 @@ use lib.Arith.{mod-mul}
 use lib.ListN.{length, getD, drop, set, length-map, List·getD-map}
 use lib.Seq.{getD-drop, ext-getD}
 use Rattle.model.specs.Limits.{valueCount, wordLength}
-use Rattle.model.specs.Image.{AreBytes, word16At, word32At, recordsOf}
+use Rattle.model.specs.Image.{byteAt, AreBytes, word16At, word32At, recordsOf}
 use Rattle.model.specs.Values.{wordsOf, bytesOf}
 
 -- bytes behind bytes are bytes
@@ -120,3 +121,37 @@ bytes-of-words (suc n) (a ∷ b ∷ c ∷ []) h l = absurd (omega arith)
 bytes-of-words (suc n) (a ∷ b ∷ c ∷ e ∷ more) h l =
     let digits = digit-of a b c e (h 0) (h 1) (h 2) (h 3) in
     rw (digits .0, digits .1, digits .2, digits .3, bytes-of-words n more (λ i. h (suc (suc (suc (suc i))))) (omega arith))
+
+-- ---- a value among values: no byte of another changes, and its four bytes are its digits
+pub other-bytes : (values : List ℕ) (r v i : ℕ) → (i < wordLength * r) ⊎ (wordLength * r + wordLength ≤ i)
+    → byteAt (bytesOf (set values r v)) i ≡ byteAt (bytesOf values) i
+unfolding bytesOf
+other-bytes [] r v i h = refl
+other-bytes (x ∷ values) zero v i (inl l) = absurd (omega arith)
+other-bytes (x ∷ values) zero v zero (inr l) = absurd (omega arith)
+other-bytes (x ∷ values) zero v (suc zero) (inr l) = absurd (omega arith)
+other-bytes (x ∷ values) zero v (suc (suc zero)) (inr l) = absurd (omega arith)
+other-bytes (x ∷ values) zero v (suc (suc (suc zero))) (inr l) = absurd (omega arith)
+other-bytes (x ∷ values) zero v (suc (suc (suc (suc i)))) (inr l) = refl
+other-bytes (x ∷ values) (suc r) v zero h = refl
+other-bytes (x ∷ values) (suc r) v (suc zero) h = refl
+other-bytes (x ∷ values) (suc r) v (suc (suc zero)) h = refl
+other-bytes (x ∷ values) (suc r) v (suc (suc (suc zero))) h = refl
+other-bytes (x ∷ values) (suc r) v (suc (suc (suc (suc i)))) (inl l) = other-bytes values r v i (inl (omega arith))
+other-bytes (x ∷ values) (suc r) v (suc (suc (suc (suc i)))) (inr l) = other-bytes values r v i (inr (omega arith))
+
+pub own-bytes : (values : List ℕ) (r v k : ℕ) → r < length values → k < wordLength
+    → byteAt (bytesOf (set values r v)) (wordLength * r + k) ≡ byteAt (bytesOf (v ∷ [])) k
+unfolding bytesOf
+own-bytes [] r v k l h = absurd (omega arith)
+own-bytes (x ∷ values) zero v k l h = let first : wordLength * 0 + k ≡ k = omega arith in rw first (within k h)
+  where
+    within : (k : ℕ) → k < wordLength → byteAt (bytesOf (v ∷ values)) k ≡ byteAt (bytesOf (v ∷ [])) k
+    within zero h = refl
+    within (suc zero) h = refl
+    within (suc (suc zero)) h = refl
+    within (suc (suc (suc zero))) h = refl
+    within (suc (suc (suc (suc k)))) h = absurd (omega arith)
+own-bytes (x ∷ values) (suc r) v k l h =
+    let next : wordLength * suc r + k ≡ suc (suc (suc (suc (wordLength * r + k)))) = omega arith in
+    rw next (own-bytes values r v k (omega arith) h)
