@@ -1,3 +1,4 @@
 -- Laws of answers in numbers, and the promises as a host has them.
 pub mod Answered
+pub mod Contracts
 pub mod Promises

@@ -1,90 +1,143 @@
--- The promises as a C host has them. Each takes what the contracts of the exported functions say, and no more.
-use Prim.Native.Nat.{ℕ, _<_}
+-- The promises as a C host has them. Each takes the postconditions of the exported functions (`Contracts.antt`), and no more.
+use Prim.Native.Nat.{ℕ, _+_, _≤_, _<_}
 use mathlib.Core.Path.{_≡_, refl, sym, _∙_, ap}
 use mathlib.Core.Logic.{_↔_}
 use mathlib.Core.List.{List, [], _∷_}
 use lib.ListN.{length}
-use Rattle.model.specs.declared.Answer.{Answer}
-use Rattle.model.specs.declared.Answer.the-variants.{Accepted, Refused}
-use Rattle.model.specs.Answers.{numbersOf}
+use Rattle.model.specs.Limits.{cyclesMax}
 use Rattle.model.specs.Image.{AreBytes, designOf}
+use Rattle.model.specs.Answers.{Numbers, numbersOf}
 use Rattle.model.specs.Rules.{Keeps}
 use Rattle.model.specs.Values.{wordsOf}
-use Rattle.model.specs.Calls.{Lent, Left, check, leaves, leavesRegisters, resetAnswer, reset, runAnswer, run, writePortAnswer, writePort}
-use Rattle.model.specs.Parties.{Call, resets, writes, runs, perform, atEnd, Use, start, remains, views, valuesSeen, seenAtEnd}
+use Rattle.model.specs.Calls.{Lent}
+use Rattle.model.specs.Parties.{Call, resets, writes, runs, perform, Event, events, atEnd, Use, withUnseen, start, history, remains, views, valuesSeen, view, remaining, seenAtEnd}
 use Rattle.model.proofs.Exact.{verdict-exact}
-use Rattle.model.proofs.Promises.{accepted-exactly, independent-parties}
+use Rattle.model.proofs.Grouping.{Grouped}
+use Rattle.model.proofs.Writing.{ChangesOnly}
+use Rattle.model.proofs.Promises as meaning
 use Rattle.caisson.specs.declared.HostAnswer.{HostAnswer}
-use Rattle.caisson.specs.Told.{told, NumbersLeft, NumbersLeftRegisters, toldLeft, inNumbers}
-use Rattle.caisson.specs.Hosted.{Made, AllMade}
+use Rattle.caisson.specs.Told.{told, NumbersLeft}
+use Rattle.caisson.proofs.Contracts.{Checked, Called, AllCalled, Hosted, checked-told, called-made}
 
 -- Demand 2, of check: a host is told 0, 0, 0 exactly when the image keeps the rules.
-pub told-accepted-exactly : (image : List ℕ) (h : HostAnswer) → told h ≡ numbersOf (check image) → (told h ≡ record { number = 0; place = 0; count = 0 }) ↔ Keeps image
-told-accepted-exactly image h e = rw e (accepted-exactly image)
+pub told-accepted-exactly : (image : List ℕ) (h : HostAnswer) → Checked image h → (told h ≡ record { number = 0; place = 0; count = 0 }) ↔ Keeps image
+told-accepted-exactly image h checked = rw (checked-told image h checked) (meaning.accepted-exactly image)
+
+-- ---- what a call told and left
+called-told : (image : List ℕ) (before after : Lent) (call : Call) (h : HostAnswer) → Called image before call h after → told h ≡ numbersOf (perform image before call .answer)
+called-told image before after call h called = ap (λ (x : NumbersLeft). x .numbers) (called-made image before after call h called)
+
+called-leaves : (image : List ℕ) (before after : Lent) (call : Call) (h : HostAnswer) → Called image before call h after → after ≡ perform image before call .lent
+called-leaves image before after call h called = ap (λ (x : NumbersLeft). x .lent) (called-made image before after call h called)
 
 -- ---- demand 1: a refusal changes no lent byte
--- no refusal has number 0, so a number that is not 0 is a refusal's
-refused-leaves : (a : Answer) (lent made : Lent) → (numbersOf (leaves a lent made .answer) .number ≡ 0 → ⊥) → leaves a lent made .lent ≡ lent
-refused-leaves (Accepted count) lent made h = absurd (h refl)
-refused-leaves (Refused refusal place) lent made h = refl
-
-refused-leaves-registers : (a : Answer) (registers made : List ℕ) → (numbersOf (leavesRegisters a registers made .answer) .number ≡ 0 → ⊥) → leavesRegisters a registers made .registers ≡ registers
-refused-leaves-registers (Accepted count) registers made h = absurd (h refl)
-refused-leaves-registers (Refused refusal place) registers made h = refl
-
-number-left : (h : HostAnswer) (after : Lent) (left : Left) → toldLeft h (after .registers) (after .targets) ≡ inNumbers left → (h .number ≡ numbersOf (left .answer) .number) × (after ≡ left .lent)
-number-left h after left e = (ap (λ (x : NumbersLeft). x .numbers .number) e, ap (λ (x : NumbersLeft). x .lent) e)
-
-pub refused-keeps : (image : List ℕ) (before after : Lent) (call : Call) (h : HostAnswer) → Made image before call h after → (h .number ≡ 0 → ⊥) → after ≡ before
-unfolding reset writePort run
-refused-keeps image before after resets h made refused =
-    let both = number-left h after (reset image before) made in
-    both .1 ∙ refused-leaves (resetAnswer image before) before _ (λ z. refused (both .0 ∙ z))
-refused-keeps image before after (writes r v) h made refused =
-    let number = ap (λ (x : NumbersLeftRegisters). x .numbers .number) (made .0) in
-    let area = ap (λ (x : NumbersLeftRegisters). x .registers) (made .0) ∙ refused-leaves-registers (writePortAnswer image (before .registers) r v) (before .registers) _ (λ z. refused (number ∙ z)) in
-    λ i. record { registers = area i; targets = made .1 i }
-refused-keeps image before after (runs n) h made refused =
-    let both = number-left h after (run image before n) made in
-    both .1 ∙ refused-leaves (runAnswer image before n) before _ (λ z. refused (both .0 ∙ z))
+pub refused-keeps : (image : List ℕ) (before after : Lent) (call : Call) (h : HostAnswer) → Called image before call h after → (h .number ≡ 0 → ⊥) → after ≡ before
+refused-keeps image before after call h called refused =
+    let number = ap (λ (x : Numbers). x .number) (called-told image before after call h called) in
+    called-leaves image before after call h called ∙ meaning.refused-leaves image before call (λ z. refused (number ∙ z))
 
 -- ---- demand 3, of lists of exported calls
-made-performs : (image : List ℕ) (before after : Lent) (call : Call) (h : HostAnswer) → Made image before call h after → after ≡ perform image before call .lent
-unfolding perform
-made-performs image before after resets h made = number-left h after (reset image before) made .1
-made-performs image before after (writes r v) h made =
-    λ i. record { registers = made .0 i .registers; targets = made .1 i }
-made-performs image before after (runs n) h made = number-left h after (run image before n) made .1
-
-pub all-made-ends : (image : List ℕ) (calls : List Call) (before after : Lent) → AllMade image before calls after → after ≡ atEnd image before calls
+all-called-ends : (image : List ℕ) (calls : List Call) (before after : Lent) → AllCalled image before calls after → after ≡ atEnd image before calls
 unfolding atEnd
-all-made-ends image [] before after made = sym made
-all-made-ends image (call ∷ more) before after made =
-    all-made-ends image more (made .1) after (made .3) ∙ ap (λ (lent : Lent). atEnd image lent more) (made-performs image before (made .1) call (made .0) (made .2))
+all-called-ends image [] before after same = sym same
+all-called-ends image (call ∷ more) before after (h, between, called, others) =
+    all-called-ends image more between after others ∙ ap (λ (lent : Lent). atEnd image lent more) (called-leaves image before between call h called)
 
--- Two hosts use one image that the library accepts, each from a start of demand 3, and make their calls through the exported functions. Where the same
--- remains of both lists at a level, the registers at or below it agree at the end. The views are equal too; they are of cycles, which are `cycles` of
--- the same areas.
+module _ (image : List ℕ) (level : ℕ) where
+  -- the values seen in a register area
+  abbrev seenIn : Lent → List ℕ
+  seenIn lent = valuesSeen (designOf image) level (wordsOf (length (designOf image .registers)) (lent .registers))
+
+  module _ (host : Hosted image level) where
+    -- the areas from which the calls of the list start, and what these do
+    abbrev started : Lent
+    started = withUnseen image level (host .given) (host .left)
+
+    abbrev happened : List Event
+    happened = events image started (host .calls)
+
+    abbrev used : Use (designOf image)
+    used = record { lent = host .lent; lengths = host .lengths; given = host .given; calls = host .calls }
+
+    started-so : started ≡ start image level used
+    unfolding start perform
+    started-so = ap (withUnseen image level (host .given)) (called-leaves image (host .lent) (host .left) resets (host .answer) (host .reset))
+
+    happened-so : happened ≡ history image level used
+    unfolding history
+    happened-so = ap (λ (lent : Lent). events image lent (host .calls)) started-so
+
+    remains-so : remaining (designOf image) level happened ≡ remains image level used
+    unfolding remains
+    remains-so = ap (remaining (designOf image) level) happened-so
+
+    views-so : view (designOf image) level happened ≡ views image level used
+    unfolding views
+    views-so = ap (view (designOf image) level) happened-so
+
+    end-so : seenIn (host .end) ≡ seenAtEnd image level used
+    unfolding seenAtEnd
+    end-so = ap seenIn (all-called-ends image (host .calls) started (host .end) (host .called) ∙ ap (λ (lent : Lent). atEnd image lent (host .calls)) started-so)
+
+-- Two hosts use one image that the library accepts. Where the same remains of both lists at a level, the views are equal, and the registers at or below
+-- it agree at the end.
 pub hosts-independent :
     (image : List ℕ)
     → AreBytes image
     → (h : HostAnswer)
-    → told h ≡ numbersOf (check image)
+    → Checked image h
     → told h ≡ record { number = 0; place = 0; count = 0 }
     → (level : ℕ)
     → level < length (designOf image .rows)
-    → (one other : Use (designOf image))
-    → (end end′ : Lent)
-    → AllMade image (start image level one) (one .calls) end
-    → AllMade image (start image level other) (other .calls) end′
-    → remains image level one ≡ remains image level other
-    → (views image level one ≡ views image level other)
-    × (valuesSeen (designOf image) level (wordsOf (length (designOf image .registers)) (end .registers))
-    ≡ valuesSeen (designOf image) level (wordsOf (length (designOf image .registers)) (end′ .registers)))
-unfolding seenAtEnd
-hosts-independent image bytes h e accepted level label one other end end′ made made′ same =
-    let d = designOf image in
-    let verdict-accepts = verdict-exact image .1 (told-accepted-exactly image h e .0 accepted) in
-    let both = independent-parties image bytes verdict-accepts level label one other same in
-    let seen : Lent → List ℕ = λ lent. valuesSeen d level (wordsOf (length (d .registers)) (lent .registers)) in
-    (both .0, ap seen (all-made-ends image (one .calls) (start image level one) end made) ∙ both .1 ∙ sym (ap seen (all-made-ends image (other .calls) (start image level other) end′ made′)))
+    → (one other : Hosted image level)
+    → remaining (designOf image) level (happened image level one) ≡ remaining (designOf image) level (happened image level other)
+    → (view (designOf image) level (happened image level one) ≡ view (designOf image) level (happened image level other))
+    × (seenIn image level (one .end) ≡ seenIn image level (other .end))
+hosts-independent image bytes h checked accepted level label one other same =
+    let verdict-accepts = verdict-exact image .1 (told-accepted-exactly image h checked .0 accepted) in
+    let matching = sym (remains-so image level one) ∙ same ∙ remains-so image level other in
+    let both = meaning.independent-parties image bytes verdict-accepts level label (used image level one) (used image level other) matching in
+    (views-so image level one ∙ both .0 ∙ sym (views-so image level other), end-so image level one ∙ both .1 ∙ sym (end-so image level other))
+
+-- ---- what else a host may rely on
+-- A run may be cut: one of n and then one of m leave what one of n + m leaves. All three are accepted, each with its count, or all are refused alike.
+pub runs-grouped :
+    (image : List ℕ)
+    → AreBytes image
+    → (before between after whole : Lent)
+    → AreBytes (before .registers)
+    → (n m : ℕ)
+    → n + m ≤ cyclesMax
+    → (first second both : HostAnswer)
+    → Called image before (runs n) first between
+    → Called image between (runs m) second after
+    → Called image before (runs (n + m)) both whole
+    → (after ≡ whole) × Grouped n m (told first) (told second) (told both)
+unfolding perform
+runs-grouped image image-bytes before between after whole bytes n m few first second both one other all =
+    rw
+    (called-leaves image between after (runs m) second other,
+    called-told image between after (runs m) second other,
+    called-leaves image before between (runs n) first one,
+    called-told image before between (runs n) first one,
+    called-leaves image before whole (runs (n + m)) both all,
+    called-told image before whole (runs (n + m)) both all)
+    (meaning.runs-grouped image image-bytes before bytes n m few)
+
+-- A run of 0 changes nothing, whatever it answers.
+pub run-of-none : (image : List ℕ) (before after : Lent) → AreBytes (before .registers) → (h : HostAnswer) → Called image before (runs 0) h after → after ≡ before
+unfolding perform
+run-of-none image before after bytes h called = called-leaves image before after (runs 0) h called ∙ meaning.run-of-none image before bytes
+
+-- A port write changes the four bytes of its register, to those of the value, where it is accepted; and nothing else, whatever it answers.
+pub write-changes-only :
+    (image : List ℕ) (before after : Lent)
+    → AreBytes (before .registers)
+    → (r v : ℕ)
+    → (h : HostAnswer)
+    → Called image before (writes r v) h after
+    → ChangesOnly r v (before .registers) (told h) (after .registers) × (after .targets ≡ before .targets)
+unfolding perform
+write-changes-only image before after bytes r v h called =
+    let left = called-leaves image before after (writes r v) h called in
+    rw (left, called-told image before after (writes r v) h called) (meaning.write-changes-only image (before .registers) bytes r v, refl)

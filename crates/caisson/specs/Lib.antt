@@ -1,3 +1,2 @@
--- What the exported functions' contracts cite, and what a host does with them.
+-- What the contracts of the exported functions cite.
 pub mod Told
-pub mod Hosted
