@@ -45,15 +45,15 @@ all-called-ends image (call ∷ more) before after (h, between, called, others) 
 
 module _ (image : List ℕ) (level : ℕ) where
   -- the values seen in a register area
-  abbrev seenIn : Lent → List ℕ
+  abbrev pub seenIn : Lent → List ℕ
   seenIn lent = valuesSeen (designOf image) level (wordsOf (length (designOf image .registers)) (lent .registers))
 
   module _ (host : Hosted image level) where
     -- the areas from which the calls of the list start, and what these do
-    abbrev started : Lent
+    abbrev pub started : Lent
     started = withUnseen image level (host .given) (host .left)
 
-    abbrev happened : List Event
+    abbrev pub happened : List Event
     happened = events image started (host .calls)
 
     abbrev used : Use (designOf image)
@@ -115,13 +115,14 @@ pub runs-grouped :
     → (after ≡ whole) × Grouped n m (told first) (told second) (told both)
 unfolding perform
 runs-grouped image image-bytes before between after whole bytes n m few first second both one other all =
-    rw
-    (called-leaves image between after (runs m) second other,
-    called-told image between after (runs m) second other,
-    called-leaves image before between (runs n) first one,
-    called-told image before between (runs n) first one,
-    called-leaves image before whole (runs (n + m)) both all,
-    called-told image before whole (runs (n + m)) both all)
+    rw (
+      called-leaves image between after (runs m) second other,
+      called-told image between after (runs m) second other,
+      called-leaves image before between (runs n) first one,
+      called-told image before between (runs n) first one,
+      called-leaves image before whole (runs (n + m)) both all,
+      called-told image before whole (runs (n + m)) both all,
+    )
     (meaning.runs-grouped image image-bytes before bytes n m few)
 
 -- A run of 0 changes nothing, whatever it answers.
