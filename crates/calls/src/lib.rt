@@ -7,7 +7,7 @@ mod runs;
 
 use model::Answer;
 ghost use mathlib.Core.Path.{_≡_};
-ghost use Rattle.model.specs.Calls.{check as checkOf, reset as resetOf, writePort, run as runOf};
+ghost use Rattle.model.specs.Calls.{check as checkOf, registersLength, targetsLength, reset as resetOf, writePort, run as runOf};
 ghost use Rattle.design.specs.Resets.{lends};
 ghost use Rattle.calls.specs.Stages.{leftAs, leftRegistersAs};
 
@@ -17,6 +17,28 @@ pub fn check(image: &[u8]) -> Answer
     ensures { λ a. ⌜ a ≡ checkOf (now (image .entry)) ⌝ }
 {
     checker::verdict(image)
+}
+
+// The length in bytes of the register area that an image asks for.
+pub fn registers_length(image: &[u8]) -> Answer
+    ensures { λ a. ⌜ a ≡ registersLength (now (image .entry)) ⌝ }
+{
+    let verdict = checker::verdict(image);
+    match verdict {
+        Answer::Refused(refusal, place) => Answer::Refused(refusal, place),
+        Answer::Accepted(_) => areas::registers_length(image),
+    }
+}
+
+// The length in bytes of the target area that an image asks for.
+pub fn targets_length(image: &[u8]) -> Answer
+    ensures { λ a. ⌜ a ≡ targetsLength (now (image .entry)) ⌝ }
+{
+    let verdict = checker::verdict(image);
+    match verdict {
+        Answer::Refused(refusal, place) => Answer::Refused(refusal, place),
+        Answer::Accepted(_) => areas::targets_length(image),
+    }
 }
 
 // Writes the reset values and the default targets.

@@ -3,17 +3,18 @@
 use mathlib.Core.Path.{_≡_}
 use mathlib.Core.Logic.{_↔_}
 use mathlib.Core.List.{List}
-use Prim.Native.Nat.{ℕ, _+_, _≤_}
+use Prim.Native.Nat.{ℕ, _+_, _*_, _≤_}
+use lib.ListN.{length}
 use Rattle.model.specs.declared.Refusal.{Refusal}
-use Rattle.model.specs.Limits.{cyclesMax}
-use Rattle.model.specs.Image.{AreBytes}
+use Rattle.model.specs.Limits.{cyclesMax, wordLength}
+use Rattle.model.specs.Image.{AreBytes, designOf}
 use Rattle.model.specs.Answers.{numberOf, numbersOf}
 use Rattle.model.specs.Rules.{Keeps}
-use Rattle.model.specs.Calls.{Lent, check, reset, writePort, run}
-use Rattle.model.specs.Refusals.{AllKept, FirstBroken, imageTable, resetTable, writePortTable, runTable, AnswersBy}
+use Rattle.model.specs.Calls.{Lent, check, registersLength, targetsLength, writePort, run}
+use Rattle.model.specs.Refusals.{AllKept, FirstBroken, imageTable, callTable, callCount, AnswersBy}
 use Rattle.model.specs.Parties.{Call, perform, Independent}
 use Rattle.model.proofs.Exact.{check-exact}
-use Rattle.model.proofs.Refused.{keeps-table, check-answers, reset-answers, write-port-answers, run-answers}
+use Rattle.model.proofs.Refused.{keeps-table, check-answers, registers-length-answers, targets-length-answers, call-answers}
 use Rattle.model.proofs.Independence.Theorem.{independent}
 use Rattle.model.proofs.Unchanged.{refused-lent}
 use Rattle.model.proofs.Grouping.{Grouped, grouped, none-left}
@@ -34,16 +35,16 @@ refused-exactly image = check-answers image .refused
 pub keeps-exactly : (image : List ℕ) → Keeps image ↔ AllKept (imageTable image)
 keeps-exactly = keeps-table
 
--- The other calls, each by its own table: accepted exactly when every rule is kept, refused exactly by the first that is broken.
-pub reset-exactly : (image : List ℕ) (lent : Lent) → AnswersBy (resetTable image lent) 0 (numbersOf (reset image lent .answer))
-reset-exactly = reset-answers
+-- The other calls, each by its own table: accepted with its count exactly when every rule is kept, refused exactly by the first that is broken.
+pub calls-exactly : (image : List ℕ) (lent : Lent) (call : Call) → AnswersBy (callTable image lent call) (callCount call) (numbersOf (perform image lent call .answer))
+calls-exactly = call-answers
 
-pub write-port-exactly :
-    (image registers : List ℕ) (r v : ℕ) → AnswersBy (writePortTable image registers r) 0 (numbersOf (writePort image registers r v .answer))
-write-port-exactly = write-port-answers
+-- The lengths of the areas: an accepted image's, as the count, and else the image's refusal.
+pub registers-length-exactly : (image : List ℕ) → AnswersBy (imageTable image) (wordLength * length (designOf image .registers)) (numbersOf (registersLength image))
+registers-length-exactly = registers-length-answers
 
-pub run-exactly : (image : List ℕ) (lent : Lent) (n : ℕ) → AnswersBy (runTable image lent n) n (numbersOf (run image lent n .answer))
-run-exactly = run-answers
+pub targets-length-exactly : (image : List ℕ) → AnswersBy (imageTable image) (length (designOf image .states)) (numbersOf (targetsLength image))
+targets-length-exactly = targets-length-answers
 
 -- Demand 1: "No lent byte changes" on a refusal.
 pub refused-leaves : (image : List ℕ) (lent : Lent) (call : Call) → (numbersOf (perform image lent call .answer) .number ≡ 0 → ⊥) → perform image lent call .lent ≡ lent

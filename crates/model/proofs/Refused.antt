@@ -1,7 +1,7 @@
 -- Refusals are exact: each stage of a call's answer decides its pass of the table, and the stages stand in the table's order.
-use Prim.Native.Nat.{ℕ, _≤_, _<_}
-use mathlib.Core.Path.{_≡_, refl}
-use mathlib.Core.Logic.{_↔_, Iff·trans, Iff·symm}
+use Prim.Native.Nat.{ℕ, _*_, _≤_, _<_}
+use mathlib.Core.Path.{_≡_, refl, sym, _∙_}
+use mathlib.Core.Logic.{_↔_, Iff·trans, Iff·symm, _⊎_, inl, inr}
 use mathlib.Core.Bool.{true, false, _&&_}
 use mathlib.Core.List.{List, [], _∷_}
 use lib.ListN.{length, getD}
@@ -9,21 +9,22 @@ use Rattle.model.specs.declared.Found.{Found}
 use Rattle.model.specs.declared.Refusal.{Refusal}
 use Rattle.model.specs.declared.Answer.{Answer}
 use Rattle.model.specs.declared.Answer.the-variants.{Accepted, Refused}
-use Rattle.model.specs.Limits.{commandsMax}
+use Rattle.model.specs.Limits.{commandsMax, wordLength}
 use Rattle.model.specs.Image.{Commands, count, nodeOf, Design, registerAt, designOf}
 use Rattle.model.specs.Machine.{targetSound}
 use Rattle.model.specs.States.{hasChild}
 use Rattle.model.specs.Answers.{numbersOf}
 use Rattle.model.specs.Verdict.{_before_, refusedAt, designVerdict, verdict}
 use Rattle.model.specs.Rules.{DirectoryKeeps, Keeps}
-use Rattle.model.specs.Calls.{Lent, registerAreaKept, targetAreaKept, registerAreaAnswer, lengthAnswer, targetsAnswer, isWritable, portAnswer, cyclesAnswer, leaves, leavesRegisters, check, resetAnswer, reset, runAnswer, run, writePortAnswer, writePort}
-use Rattle.model.specs.Parties.{RightLengths}
+use Rattle.model.specs.Calls.{Lent, registerAreaKept, targetAreaKept, registerAreaAnswer, lengthAnswer, targetsAnswer, isWritable, portAnswer, cyclesAnswer, leaves, leavesRegisters, check, registersLength, targetsLength, resetAnswer, reset, runAnswer, run, writePortAnswer, writePort}
+use Rattle.model.specs.Parties.{RightLengths, Call, resets, writes, runs, perform}
 use Rattle.model.specs.Standing.{ChildOf}
-use Rattle.model.specs.Refusals.{Pass, _asks_, TargetKeeps, AllKept, imageTable, resetTable, writePortTable, runTable, AnswersBy}
+use Rattle.model.specs.Refusals.{Pass, _asks_, TargetKeeps, AllKept, imageTable, resetTable, writePortTable, runTable, callTable, callCount, AnswersBy}
 use Rattle.model.proofs.Laws.Booleans.{true-or-false, false-unless-true}
 use Rattle.model.proofs.Laws.Equivalences.{less-iff, at-most-iff, equal-iff, and-iff, or-iff, not-iff}
 use Rattle.model.proofs.Laws.Images.{section-length}
 use Rattle.model.proofs.Laws.Numbers.{told-accepted, told-refused}
+use Rattle.model.proofs.Laws.Verdict.{refused-is-not-accepted}
 use Rattle.model.proofs.Laws.Broken.{Finds, Decides, decides-one, decides-before, decides-none}
 use Rattle.model.proofs.Laws.Finds.{finds-each, finds-charged, finds-zero, finds-node}
 use Rattle.model.proofs.Exact.Directories.{directory-iff}
@@ -128,14 +129,28 @@ module _ (image : List ℕ) where
   unfolding check
   check-answers = answers-by (image-decides image)
 
-  pub reset-answers : (lent : Lent) → AnswersBy (resetTable image lent) 0 (numbersOf (reset image lent .answer))
-  unfolding reset
-  reset-answers lent = rw (left-answer (resetAnswer image lent)) (answers-by (reset-decides image lent))
+  -- an area's length is answered where the image is accepted
+  length-decides : (n : ℕ) → Decides (verdict image before Accepted n) n (imageTable image)
+  length-decides n = decides-before (image-decides image) (λ kept. decides-none n)
 
-  pub write-port-answers : (registers : List ℕ) (r v : ℕ) → AnswersBy (writePortTable image registers r) 0 (numbersOf (writePort image registers r v .answer))
-  unfolding writePort
-  write-port-answers registers r v = rw (left-registers-answer (writePortAnswer image registers r v)) (answers-by (write-port-decides image registers r v))
+  pub registers-length-answers : AnswersBy (imageTable image) (wordLength * length (designOf image .registers)) (numbersOf (registersLength image))
+  unfolding registersLength
+  registers-length-answers = answers-by (length-decides (wordLength * length (designOf image .registers)))
 
-  pub run-answers : (lent : Lent) (n : ℕ) → AnswersBy (runTable image lent n) n (numbersOf (run image lent n .answer))
-  unfolding run
-  run-answers lent n = rw (left-answer (runAnswer image lent n)) (answers-by (run-decides image lent n))
+  pub targets-length-answers : AnswersBy (imageTable image) (length (designOf image .states)) (numbersOf (targetsLength image))
+  unfolding targetsLength
+  targets-length-answers = answers-by (length-decides (length (designOf image .states)))
+
+  pub call-answers : (lent : Lent) (call : Call) → AnswersBy (callTable image lent call) (callCount call) (numbersOf (perform image lent call .answer))
+  unfolding perform reset writePort run
+  call-answers lent resets = rw (left-answer (resetAnswer image lent)) (answers-by (reset-decides image lent))
+  call-answers lent (writes r v) = rw (left-registers-answer (writePortAnswer image (lent .registers) r v)) (answers-by (write-port-decides image (lent .registers) r v))
+  call-answers lent (runs n) = rw (left-answer (runAnswer image lent n)) (answers-by (run-decides image lent n))
+
+-- an acceptance of the image checks has count 0
+pub accepted-count : (image : List ℕ) {n : ℕ} → verdict image ≡ Accepted n → n ≡ 0
+accepted-count image {n} e = go (image-decides image .either)
+  where
+    go : (verdict image ≡ Accepted 0) ⊎ ((refusal : Refusal) × (place : ℕ) × (verdict image ≡ Refused refusal place)) → n ≡ 0
+    go (inl h) = let same : Accepted n ≡ Accepted 0 = sym e ∙ h in cc
+    go (inr (refusal, place, h)) = absurd (refused-is-not-accepted refusal place n (sym h ∙ e))

@@ -72,6 +72,13 @@ cyclesAnswer n = refusedAt CycleCount (atZeroUnless (leb n cyclesMax))
 unfoldable pub check : List ℕ → Answer
 check image = verdict image
 
+-- Two calls of ours beside 01's: the length in bytes of each area that an image asks for, as the count, so that no host has to decode an image.
+unfoldable pub registersLength : List ℕ → Answer
+registersLength image = verdict image before Accepted (wordLength * length (designOf image .registers))
+
+unfoldable pub targetsLength : List ℕ → Answer
+targetsLength image = verdict image before Accepted (length (designOf image .states))
+
 module _ (image : List ℕ) (lent : Lent) where
   -- "A call that overwrites whole areas .. judges only their lengths."
   unfoldable pub resetAnswer : Answer

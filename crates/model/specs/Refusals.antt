@@ -13,7 +13,7 @@ use Rattle.model.specs.Rules.{DirectoryKeeps, LabelKeeps, RegisterKeeps,
 use Rattle.model.specs.Standing.{ChildOf, ShapeKeeps, AssignKeeps, GotoKeeps, FallKeeps}
 use Rattle.model.specs.Answers.{Numbers, numberOf}
 use Rattle.model.specs.Calls.{Lent}
-use Rattle.model.specs.Parties.{RightLengths}
+use Rattle.model.specs.Parties.{RightLengths, Call, resets, writes, runs}
 
 -- ---- what it is to be the first rule that is broken
 -- a rule: the refusal that is answered where it is broken, and what is kept at a place
@@ -106,6 +106,17 @@ module _ (image : List ℕ) where
       ∷ (Area asks each (length (designOf image .states)) (TargetKeeps (designOf image) (lent .targets)) ∷ [])
       ∷ (CycleCount asks at 0 (n ≤ cyclesMax) ∷ [])
       ∷ [])
+
+-- the table of a call of a list, and the count that it answers where it is accepted
+abbrev pub callTable : List ℕ → Lent → Call → List Pass
+callTable image lent resets = resetTable image lent
+callTable image lent (writes r v) = writePortTable image (lent .registers) r
+callTable image lent (runs n) = runTable image lent n
+
+abbrev pub callCount : Call → ℕ
+callCount resets = 0
+callCount (writes r v) = 0
+callCount (runs n) = n
 
 -- Numbers that a call answers by its table: an acceptance with the count exactly where every rule is kept everywhere, and a refusal's number with a place
 -- exactly where this refusal at this place is the first.
