@@ -1,7 +1,11 @@
 -- Cases that each hold one sentence of document 01 in place: at its boundary the definition gives what the sentence says, and a definition that is off by
 -- one, or leaves a part out, does not. They are named for what they show. `tests/definitions` has the wrong definitions that they refuse.
 pub mod Images
+pub mod Lattices
+pub mod Records
+pub mod Nodes
 pub mod Bodies
+pub mod Flows
 pub mod Cycles
 pub mod Lists
 pub mod Listings

@@ -1,114 +1,153 @@
--- Cases at the boundaries of 01's section 'The image': the directory, the records, the lattice, the nodes, and refusals 1 to 7 in their order.
-use Prim.Native.Nat.{ℕ, zero, suc, _+_, _*_}
+-- Cases at the boundaries of 01's section 'The image': the directory, the counts, the fields of records, and refusal 1.
+use Prim.Native.Nat.{ℕ, _+_}
 use mathlib.Core.Path.{_≡_, refl}
-use mathlib.Core.Bool.{false, true}
+use mathlib.Core.Bool.{Bool, false, true}
 use mathlib.Core.List.{List, [], _∷_, _++_, map}
 use lib.ListN.{replicate}
-use Rattle.model.specs.declared.Found.the-variants.{At}
-use Rattle.model.specs.Image.{designOf, directoryKept}
-use Rattle.model.specs.Kinds.{ExpressionKind, constants, unknownExpression, operates, add, subtract, bitwiseAnd, bitwiseOr, bitwiseXor, equal, less, expressionKind}
+use Rattle.model.specs.Image.{Section, Commands, Expressions, sectionKept, directoryKept, designOf}
 use Rattle.model.specs.Trees.{exprOf}
 use Rattle.model.specs.Machine.{eval, resetAreas}
-use Rattle.model.proofs.Opened.{checks, everything, refused, accepted, judged, faultOfRows}
-use Rattle.model.proofs.Designs.{assemble, fromSections, word16, oneState, chain, node, registerRecord, stateRecord, skips, assigns, sequences, falls, goesTo, branches, constant, reads, adds}
+use Rattle.model.proofs.Opened.{checks, everything, refused, accepted, judged}
+use Rattle.model.proofs.Designs.{joined, rows, fromSections, lease, ofRows, oneState, node, registerRecord, stateRecord, skips, sequences, falls, goesTo, branches, constant}
 
-shows-rows : faultOfRows (1 ∷ 3 ∷ []) ≡ At 0
-shows-rows = unfold checks in refl
+-- one register; root: fall; state 1: skip; if 1 then goto 1 else goto 1. Its sections have 2, 6, 8, 48 and 8 bytes.
+abbrev labels : List ℕ
+labels = 1 ∷ 0 ∷ []
 
-shows-own-part : judged (oneState (1 ∷ []) [] 2 (goesTo 1 ∷ sequences 2 1 ∷ []) []) ≡ refused 5 2
-shows-own-part = unfold checks in refl
+abbrev registers : List ℕ
+registers = registerRecord 0 0 0
 
-shows-unused-goto : judged (oneState (1 ∷ []) [] 1 (node 4 1 1 0 0 ∷ []) []) ≡ refused 5 1
-shows-unused-goto = unfold checks in refl
+abbrev states : List ℕ
+states = stateRecord 0 0 1 ++ stateRecord 0 0 5
 
-shows-unused-constant : judged (oneState (1 ∷ []) [] 3 (goesTo 1 ∷ goesTo 1 ∷ branches 0 1 2 ∷ []) (node 0 0 1 0 0 ∷ [])) ≡ refused 5 1024
-shows-unused-constant = unfold checks in refl
+abbrev commands : List ℕ
+commands = joined (skips ∷ falls ∷ goesTo 1 ∷ goesTo 1 ∷ branches 0 2 3 ∷ sequences 0 4 ∷ [])
 
-shows-goto-state : judged (oneState (1 ∷ []) [] 1 (goesTo 2 ∷ []) []) ≡ refused 5 1
-shows-goto-state = unfold checks in refl
+-- its directory with these offsets, the bytes before its commands, and those from them on
+abbrev laid : ℕ → ℕ → ℕ → ℕ → ℕ → List ℕ → List ℕ
+laid l r s c e bytes = joined (rows (l ∷ 2 ∷ r ∷ 6 ∷ s ∷ 8 ∷ c ∷ 48 ∷ e ∷ 8 ∷ [])) ++ bytes
 
-shows-assign-register : judged (oneState (1 ∷ []) [] 3 (assigns 0 0 ∷ goesTo 1 ∷ sequences 1 2 ∷ []) (constant 1 ∷ [])) ≡ refused 5 1
-shows-assign-register = unfold checks in refl
+abbrev records : List ℕ
+records = registers ++ states ++ commands ++ constant 1
 
-shows-read-register : judged (oneState (1 ∷ []) [] 3 (goesTo 1 ∷ goesTo 1 ∷ branches 0 1 2 ∷ []) (reads 0 ∷ [])) ≡ refused 5 1024
-shows-read-register = unfold checks in refl
+-- "Bytes 0 to 19 are five pairs of offset and length, 16 bits each, sorted by offset"
+shows-five-pairs : judged (laid 20 22 28 36 84 (labels ++ records)) ≡ accepted 0
+shows-five-pairs = unfold checks in refl
 
-shows-expression : judged (oneState (1 ∷ []) (registerRecord 0 0 0 ∷ []) 3 (assigns 0 1 ∷ goesTo 1 ∷ sequences 1 2 ∷ []) (constant 1 ∷ [])) ≡ refused 5 1
-shows-expression = unfold checks in refl
+-- "The first offset is 20; each later one is the sum of offset and length before it; the last section ends at the image's end": a byte before each
+-- section, and one behind the last
+shows-byte-between
+    : map
+    judged
+    (laid 21 23 29 37 85 (0 ∷ labels ++ records)
+    ∷ laid 20 23 29 37 85 (labels ++ (0 ∷ records))
+    ∷ laid 20 22 29 37 85 (labels ++ registers ++ (0 ∷ states) ++ commands ++ constant 1)
+    ∷ laid 20 22 28 37 85 (labels ++ registers ++ states ++ (0 ∷ commands) ++ constant 1)
+    ∷ laid 20 22 28 36 85 (labels ++ registers ++ states ++ commands ++ (0 ∷ constant 1))
+    ∷ laid 20 22 28 36 84 (labels ++ records ++ (0 ∷ []))
+    ∷ [])
+    ≡ replicate 6 (refused 1 0)
+shows-byte-between = unfold checks in refl
 
-shows-shared-expression
-    : judged (oneState (1 ∷ []) (registerRecord 0 0 0 ∷ []) 5 (assigns 0 0 ∷ assigns 0 0 ∷ sequences 1 2 ∷ goesTo 1 ∷ sequences 3 4 ∷ []) (constant 1 ∷ []))
-    ≡ refused 6 1024
-shows-shared-expression = unfold checks in refl
+-- and each section begun a byte too early, in what stands before it; and the last byte left out
+shows-byte-shared
+    : map
+    judged
+    (laid 19 21 27 35 83 (0 ∷ records)
+    ∷ laid 20 21 27 35 83 (1 ∷ records)
+    ∷ laid 20 22 27 35 83 (labels ++ replicate 5 0 ++ states ++ commands ++ constant 1)
+    ∷ laid 20 22 28 35 83 (labels ++ registers ++ (0 ∷ 0 ∷ 1 ∷ 0 ∷ 0 ∷ 0 ∷ 5 ∷ []) ++ commands ++ constant 1)
+    ∷ laid 20 22 28 36 83 (labels ++ registers ++ states ++ commands ++ replicate 7 0)
+    ∷ laid 20 22 28 36 84 (labels ++ registers ++ states ++ commands ++ replicate 7 0)
+    ∷ [])
+    ≡ replicate 6 (refused 1 0)
+shows-byte-shared = unfold checks in refl
 
-shows-3-before-4
-    : judged (assemble (1 ∷ []) (registerRecord 0 2 0 ∷ []) (stateRecord 0 0 0 ∷ stateRecord 1 0 1 ∷ []) (falls ∷ goesTo 1 ∷ []) []) ≡ refused 3 0
-shows-3-before-4 = unfold checks in refl
-
--- n ifs, one in the else of the other
-abbrev nestedIfs : ℕ → ℕ → ℕ → List (List ℕ)
-nestedIfs zero k e = []
-nestedIfs (suc n) k e = goesTo 1 ∷ branches e (suc k) k ∷ nestedIfs n (suc (suc k)) (suc e)
-
-abbrev ifs : ℕ → List ℕ
-ifs n = oneState (1 ∷ []) [] (1 + 2 * n) (goesTo 1 ∷ nestedIfs n 1 0) (replicate n (constant 1))
-
-shows-ifs-63 : judged (ifs 63) ≡ accepted 0
-shows-ifs-63 = unfold checks in refl
-
-shows-ifs-64 : judged (ifs 64) ≡ refused 7 129
-shows-ifs-64 = unfold checks in refl
-
--- n sums, one in the second part of the other
-abbrev rightSums : ℕ → ℕ → List (List ℕ)
-rightSums zero k = []
-rightSums (suc n) k = constant 1 ∷ adds (suc k) k ∷ rightSums n (suc (suc k))
-
-abbrev sums : ℕ → List ℕ
-sums n = oneState (1 ∷ []) (registerRecord 0 0 0 ∷ []) 3 (assigns 0 (2 * n) ∷ goesTo 1 ∷ sequences 1 2 ∷ []) (constant 1 ∷ rightSums n 0)
-
-shows-sums-64 : judged (sums 64) ≡ refused 7 (1024 + 128)
-shows-sums-64 = unfold checks in refl
-
--- sequences, one in the first part of the other
-abbrev leftSequences : ℕ → ℕ → List (List ℕ)
-leftSequences zero k = []
-leftSequences (suc n) k = skips ∷ sequences k (suc k) ∷ leftSequences n (suc (suc k))
-
-abbrev seqs : ℕ → List ℕ
-seqs n = oneState (1 ∷ []) [] (3 + 2 * n) (skips ∷ leftSequences n 1 ++ (goesTo 1 ∷ sequences (1 + 2 * n) (2 + 2 * n) ∷ [])) []
-
-shows-seqs-62 : judged (seqs 62) ≡ accepted 0
-shows-seqs-62 = unfold checks in refl
-
-shows-seqs-63 : judged (seqs 63) ≡ refused 7 129
-shows-seqs-63 = unfold checks in refl
-
--- limits
-shows-labels-17 : directoryKept (fromSections (replicate 34 0) [] (replicate 4 0) [] []) ∷ directoryKept (fromSections (replicate 32 0) [] (replicate 4 0) [] []) ∷ directoryKept (fromSections [] [] (replicate 4 0) [] []) ∷ [] ≡ false ∷ true ∷ false ∷ []
-shows-labels-17 = unfold checks in refl
-
-shows-registers-65 : directoryKept (fromSections (1 ∷ 0 ∷ []) (replicate 390 0) (replicate 4 0) [] []) ∷ directoryKept (fromSections (1 ∷ 0 ∷ []) (replicate 384 0) (replicate 4 0) [] []) ∷ [] ≡ false ∷ true ∷ []
-shows-registers-65 = unfold checks in refl
-
-shows-states-65 : directoryKept (fromSections (1 ∷ 0 ∷ []) [] (replicate 260 0) [] []) ∷ directoryKept (fromSections (1 ∷ 0 ∷ []) [] (replicate 256 0) [] []) ∷ [] ≡ false ∷ true ∷ []
-shows-states-65 = unfold checks in refl
-
-shows-piece : directoryKept (fromSections (1 ∷ 0 ∷ 0 ∷ []) [] (replicate 4 0) [] []) ≡ false
-shows-piece = unfold checks in refl
-
+-- "The first offset is 20"
 shows-first-offset
-    : directoryKept (word16 21 ++ word16 2 ++ word16 23 ++ word16 0 ++ word16 23 ++ word16 4 ++ word16 27 ++ word16 0 ++ word16 27 ++ word16 0 ++ replicate 7 0) ≡ false
+    : directoryKept (joined (rows (21 ∷ 2 ∷ 23 ∷ 0 ∷ 23 ∷ 4 ∷ 27 ∷ 0 ∷ 27 ∷ 0 ∷ [])) ++ replicate 7 0) ≡ false
 shows-first-offset = unfold checks in refl
 
--- kinds and constants
-shows-kinds
-    : map expressionKind (0 ∷ 1 ∷ 2 ∷ 3 ∷ 4 ∷ 5 ∷ 6 ∷ 7 ∷ 8 ∷ 9 ∷ [])
-    ≡ constants ∷ ExpressionKind.reads ∷ operates add ∷ operates subtract ∷ operates bitwiseAnd ∷ operates bitwiseOr ∷ operates bitwiseXor ∷ operates equal ∷ operates less ∷ unknownExpression ∷ []
-shows-kinds = unfold checks in refl
+-- refusal 1, "section length": a section is a whole number of records
+shows-piece
+    : map
+    judged
+    (fromSections (labels ++ (0 ∷ [])) registers states commands (constant 1)
+    ∷ fromSections labels (registers ++ (0 ∷ [])) states commands (constant 1)
+    ∷ fromSections labels registers (states ++ (0 ∷ [])) commands (constant 1)
+    ∷ fromSections labels registers states (commands ++ (0 ∷ [])) (constant 1)
+    ∷ fromSections labels registers states commands (constant 1 ++ (0 ∷ []))
+    ∷ fromSections labels registers states commands (constant 1)
+    ∷ [])
+    ≡ replicate 5 (refused 1 0) ++ (accepted 0 ∷ [])
+shows-piece = unfold checks in refl
 
+-- labels, "1 to 16"
+shows-labels-17
+    : directoryKept (fromSections (replicate 34 0) [] (replicate 4 0) [] [])
+    ∷ directoryKept (fromSections (replicate 32 0) [] (replicate 4 0) [] [])
+    ∷ directoryKept (fromSections [] [] (replicate 4 0) [] [])
+    ∷ []
+    ≡ false ∷ true ∷ false ∷ []
+shows-labels-17 = unfold checks in refl
+
+-- registers, "0 to 64"
+shows-registers-65
+    : directoryKept (fromSections (1 ∷ 0 ∷ []) (replicate 390 0) (replicate 4 0) [] [])
+    ∷ directoryKept (fromSections (1 ∷ 0 ∷ []) (replicate 384 0) (replicate 4 0) [] [])
+    ∷ directoryKept (fromSections (1 ∷ 0 ∷ []) [] (replicate 4 0) [] [])
+    ∷ []
+    ≡ false ∷ true ∷ true ∷ []
+shows-registers-65 = unfold checks in refl
+
+-- states, "1 to 64"
+shows-states-65
+    : directoryKept (fromSections (1 ∷ 0 ∷ []) [] (replicate 260 0) [] [])
+    ∷ directoryKept (fromSections (1 ∷ 0 ∷ []) [] (replicate 256 0) [] [])
+    ∷ directoryKept (fromSections (1 ∷ 0 ∷ []) [] (replicate 4 0) [] [])
+    ∷ directoryKept (fromSections (1 ∷ 0 ∷ []) [] [] [] [])
+    ∷ []
+    ≡ false ∷ true ∷ true ∷ false ∷ []
+shows-states-65 = unfold checks in refl
+
+-- a directory that gives the commands and the expressions these lengths
+abbrev lengths : ℕ → ℕ → List ℕ
+lengths c e = joined (rows (20 ∷ 2 ∷ 22 ∷ 0 ∷ 22 ∷ 4 ∷ 26 ∷ c ∷ (26 + c) ∷ e ∷ []))
+
+-- commands, "0 to 1,024", of 8 bytes
+shows-commands-1025
+    : map (λ (c : ℕ). sectionKept (lengths c 0) Commands) (0 ∷ 8184 ∷ 8192 ∷ 8200 ∷ []) ≡ true ∷ true ∷ true ∷ false ∷ []
+shows-commands-1025 = unfold checks in refl
+
+-- expressions, "0 to 2,048", of 8 bytes
+shows-expressions-2049
+    : map (λ (e : ℕ). sectionKept (lengths 0 e) Expressions) (0 ∷ 16376 ∷ 16384 ∷ 16392 ∷ []) ≡ true ∷ true ∷ true ∷ false ∷ []
+shows-expressions-2049 = unfold checks in refl
+
+-- labels, "2 bytes: row": bit 8 of a row stands in its second byte, and is at or above the label count
+shows-row-16-bits : judged (ofRows (257 ∷ [])) ≡ refused 2 0
+shows-row-16-bits = unfold checks in refl
+
+-- states, "16-bit command number": command 256 + 1
+shows-command-16-bits : judged (oneState (1 ∷ []) [] 257 (goesTo 1 ∷ []) []) ≡ refused 4 1
+shows-command-16-bits = unfold checks in refl
+
+-- "byte 0 kind, byte 1 a register or state, then 16-bit fields a, b, c": a second byte of each field is not 0
+shows-fields-16-bits
+    : map
+    (λ (x : List ℕ). judged (oneState (1 ∷ []) [] 3 (goesTo 1 ∷ goesTo 1 ∷ x ∷ []) (constant 1 ∷ [])))
+    (node 5 0 256 1 2 ∷ node 5 0 0 257 2 ∷ node 5 0 0 1 258 ∷ node 5 0 0 1 2 ∷ [])
+    ≡ refused 5 3 ∷ refused 5 3 ∷ refused 5 3 ∷ accepted 0 ∷ []
+shows-fields-16-bits = unfold checks in refl
+
+-- "fields little-endian"; "0 constant, 32 bits in bytes 4 to 7"
 shows-constant : eval [] (exprOf (designOf (oneState (1 ∷ []) [] 1 (goesTo 1 ∷ []) (constant 4275878552 ∷ []))) 0) ≡ 4275878552
 shows-constant = unfold everything in refl
 
+-- "32-bit reset value"
 shows-reset-value : resetAreas (designOf (oneState (1 ∷ []) (registerRecord 0 0 4275878552 ∷ []) 1 (goesTo 1 ∷ []) [])) .registers ≡ 4275878552 ∷ []
 shows-reset-value = unfold everything in refl
+
+-- "The lowest number that applies comes first": 1 before 2
+shows-1-before-2 : judged (ofRows (1 ∷ 2 ∷ []) ++ (0 ∷ [])) ≡ refused 1 0
+shows-1-before-2 = unfold checks in refl
