@@ -4,6 +4,7 @@ pub mod Images
 pub mod Lattices
 pub mod Records
 pub mod Nodes
+pub mod Depths
 pub mod Bodies
 pub mod Flows
 pub mod Cycles
