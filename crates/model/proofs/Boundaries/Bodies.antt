@@ -59,18 +59,21 @@ shows-first-part
     ≡ refused 8 5 ∷ refused 8 3 ∷ refused 8 3 ∷ accepted 0 ∷ []
 shows-first-part = unfold checks in refl
 
--- "An if has two transferring branches or none.": then alone, else alone, both, none; and an if in the then and in the else of another
+-- "An if has two transferring branches or none.": then alone and else alone, as a body and before a goto; both, none; and an if in the then and in the else
+-- of another
 shows-branches
     : map
     judged
     (shaped 3 (goesTo 1 ∷ skips ∷ branches 0 1 2 ∷ [])
     ∷ shaped 3 (skips ∷ goesTo 1 ∷ branches 0 1 2 ∷ [])
+    ∷ shaped 5 (goesTo 1 ∷ skips ∷ branches 0 1 2 ∷ goesTo 1 ∷ sequences 3 4 ∷ [])
+    ∷ shaped 5 (skips ∷ goesTo 1 ∷ branches 0 1 2 ∷ goesTo 1 ∷ sequences 3 4 ∷ [])
     ∷ shaped 3 (goesTo 1 ∷ goesTo 1 ∷ branches 0 1 2 ∷ [])
     ∷ shaped 5 (skips ∷ skips ∷ branches 0 1 2 ∷ goesTo 1 ∷ sequences 3 4 ∷ [])
     ∷ oneState (1 ∷ []) [] 5 (goesTo 1 ∷ skips ∷ branches 0 1 2 ∷ goesTo 1 ∷ branches 1 3 4 ∷ []) (constant 1 ∷ constant 1 ∷ [])
     ∷ oneState (1 ∷ []) [] 5 (goesTo 1 ∷ skips ∷ branches 0 1 2 ∷ goesTo 1 ∷ branches 1 4 3 ∷ []) (constant 1 ∷ constant 1 ∷ [])
     ∷ [])
-    ≡ refused 8 3 ∷ refused 8 3 ∷ accepted 0 ∷ accepted 0 ∷ refused 8 3 ∷ refused 8 3 ∷ []
+    ≡ refused 8 3 ∷ refused 8 3 ∷ refused 8 3 ∷ refused 8 3 ∷ accepted 0 ∷ accepted 0 ∷ refused 8 3 ∷ refused 8 3 ∷ []
 shows-branches = unfold checks in refl
 
 -- "A fall needs a child.": state 1 has none, and then state 2 is its child

@@ -1,5 +1,5 @@
 -- Cases at the boundaries of 01's flow rules: refusals 10 to 12, their places and their order.
-use Prim.Native.Nat.{ℕ}
+use Prim.Native.Nat.{ℕ, _-_}
 use mathlib.Core.Path.{_≡_, refl}
 use mathlib.Core.List.{List, [], _∷_, map}
 use Rattle.model.proofs.Opened.{checks, refused, accepted, judged}
@@ -191,3 +191,22 @@ shows-flow-lowest-of-states = unfold checks in refl
 shows-flow-of-last-state
     : judged (assemble chain [] (stateRecord 0 0 0 ∷ stateRecord 0 0 1 ∷ stateRecord 0 1 2 ∷ []) (falls ∷ goesTo 1 ∷ goesTo 1 ∷ []) []) ≡ refused 11 2
 shows-flow-of-last-state = unfold checks in refl
+
+-- the root's body is judged too: r0 := r1; fall, and if r1 then fall else fall
+shows-flow-of-root
+    : map
+    (λ (commands : List (List ℕ)).
+    judged (assemble chain lowAndHigh (stateRecord 0 0 2 ∷ stateRecord 0 0 3 ∷ []) commands (reads 1 ∷ [])))
+    ((assigns 0 0 ∷ falls ∷ sequences 0 1 ∷ goesTo 1 ∷ []) ∷ (falls ∷ falls ∷ branches 0 0 1 ∷ goesTo 1 ∷ []) ∷ [])
+    ≡ refused 10 0 ∷ refused 12 0 ∷ []
+shows-flow-of-root = unfold checks in refl
+
+-- a register's label is not its number: r0 has label 1 and r1 label 0; r := the other
+shows-labels-of-registers
+    : map
+    (λ (r : ℕ).
+    judged
+    (oneState chain (registerRecord 1 0 0 ∷ registerRecord 0 0 0 ∷ []) 3 (assigns r 0 ∷ goesTo 1 ∷ sequences 1 2 ∷ []) (reads (1 - r) ∷ [])))
+    (0 ∷ 1 ∷ [])
+    ≡ accepted 0 ∷ refused 10 1 ∷ []
+shows-labels-of-registers = unfold checks in refl

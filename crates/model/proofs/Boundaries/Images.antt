@@ -1,10 +1,10 @@
 -- Cases at the boundaries of 01's section 'The image': the directory, the counts, the fields of records, and refusal 1.
-use Prim.Native.Nat.{ℕ, _+_}
+use Prim.Native.Nat.{ℕ}
 use mathlib.Core.Path.{_≡_, refl}
-use mathlib.Core.Bool.{Bool, false, true}
+use mathlib.Core.Bool.{false, true}
 use mathlib.Core.List.{List, [], _∷_, _++_, map}
 use lib.ListN.{replicate}
-use Rattle.model.specs.Image.{Section, Commands, Expressions, sectionKept, directoryKept, designOf}
+use Rattle.model.specs.Image.{directoryKept, designOf}
 use Rattle.model.specs.Trees.{exprOf}
 use Rattle.model.specs.Machine.{eval, resetAreas}
 use Rattle.model.proofs.Opened.{checks, everything, refused, accepted, judged}
@@ -110,18 +110,20 @@ shows-states-65
     ≡ false ∷ true ∷ true ∷ false ∷ []
 shows-states-65 = unfold checks in refl
 
--- a directory that gives the commands and the expressions these lengths
-abbrev lengths : ℕ → ℕ → List ℕ
-lengths c e = joined (rows (20 ∷ 2 ∷ 22 ∷ 0 ∷ 22 ∷ 4 ∷ 26 ∷ c ∷ (26 + c) ∷ e ∷ []))
-
 -- commands, "0 to 1,024", of 8 bytes
 shows-commands-1025
-    : map (λ (c : ℕ). sectionKept (lengths c 0) Commands) (0 ∷ 8184 ∷ 8192 ∷ 8200 ∷ []) ≡ true ∷ true ∷ true ∷ false ∷ []
+    : map
+    (λ (bytes : ℕ). directoryKept (fromSections (1 ∷ 0 ∷ []) [] (replicate 4 0) (replicate bytes 0) []))
+    (8200 ∷ 8192 ∷ 0 ∷ [])
+    ≡ false ∷ true ∷ true ∷ []
 shows-commands-1025 = unfold checks in refl
 
 -- expressions, "0 to 2,048", of 8 bytes
 shows-expressions-2049
-    : map (λ (e : ℕ). sectionKept (lengths 0 e) Expressions) (0 ∷ 16376 ∷ 16384 ∷ 16392 ∷ []) ≡ true ∷ true ∷ true ∷ false ∷ []
+    : map
+    (λ (bytes : ℕ). directoryKept (fromSections (1 ∷ 0 ∷ []) [] (replicate 4 0) [] (replicate bytes 0)))
+    (16392 ∷ 16384 ∷ 0 ∷ [])
+    ≡ false ∷ true ∷ true ∷ []
 shows-expressions-2049 = unfold checks in refl
 
 -- labels, "2 bytes: row": bit 8 of a row stands in its second byte, and is at or above the label count
