@@ -76,14 +76,15 @@ shows-branches
     ≡ refused 8 3 ∷ refused 8 3 ∷ refused 8 3 ∷ refused 8 3 ∷ accepted 0 ∷ accepted 0 ∷ refused 8 3 ∷ refused 8 3 ∷ []
 shows-branches = unfold checks in refl
 
--- "A fall needs a child.": state 1 has none, and then state 2 is its child
+-- "A fall needs a child.": state 1 has none, first as its body and then behind a skip; and then state 2 is its child
 shows-fall-child
     : map
     judged
     (oneState (1 ∷ []) [] 1 (falls ∷ []) []
+    ∷ oneState (1 ∷ []) [] 3 (skips ∷ falls ∷ sequences 1 2 ∷ []) []
     ∷ assemble (1 ∷ []) [] (stateRecord 0 0 0 ∷ stateRecord 0 0 1 ∷ stateRecord 1 0 2 ∷ []) (falls ∷ falls ∷ goesTo 2 ∷ []) []
     ∷ [])
-    ≡ refused 8 1 ∷ accepted 0 ∷ []
+    ≡ refused 8 1 ∷ refused 8 2 ∷ accepted 0 ∷ []
 shows-fall-child = unfold checks in refl
 
 -- States 1 and 2 below the root, 3 and 4 below 1, 5 below 2. State 3 goes to t.
