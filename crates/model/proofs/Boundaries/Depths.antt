@@ -14,9 +14,11 @@ nestedIfs (suc n) k e = goesTo 1 ∷ branches e (suc k) k ∷ nestedIfs n (suc (
 abbrev ifs : ℕ → List ℕ
 ifs n = oneState (1 ∷ []) [] (1 + 2 * n) (goesTo 1 ∷ nestedIfs n 1 0) (replicate n (constant 1))
 
+-- the innermost command of 63 ifs has depth 1, the outermost 64
 shows-ifs-63 : judged (ifs 63) ≡ accepted 0
 shows-ifs-63 = unfold checks in refl
 
+-- "depth above 64", at the if that is too deep
 shows-ifs-64 : judged (ifs 64) ≡ refused 7 129
 shows-ifs-64 = unfold checks in refl
 
@@ -25,6 +27,7 @@ abbrev thenIfs : ℕ → ℕ → ℕ → List (List ℕ)
 thenIfs zero k e = []
 thenIfs (suc n) k e = goesTo 1 ∷ branches e k (suc k) ∷ thenIfs n (suc (suc k)) (suc e)
 
+-- at the lower of two ifs that are too deep
 shows-then-ifs-65 : judged (oneState (1 ∷ []) [] 131 (goesTo 1 ∷ thenIfs 65 1 0) (replicate 65 (constant 1))) ≡ refused 7 129
 shows-then-ifs-65 = unfold checks in refl
 
@@ -36,9 +39,11 @@ leftSequences (suc n) k = skips ∷ sequences k (suc k) ∷ leftSequences n (suc
 abbrev seqs : ℕ → List ℕ
 seqs n = oneState (1 ∷ []) [] (3 + 2 * n) (skips ∷ leftSequences n 1 ++ (goesTo 1 ∷ sequences (1 + 2 * n) (2 + 2 * n) ∷ [])) []
 
+-- 62 sequences inside the body, a sequence: depth 64
 shows-seqs-62 : judged (seqs 62) ≡ accepted 0
 shows-seqs-62 = unfold checks in refl
 
+-- and 65
 shows-seqs-63 : judged (seqs 63) ≡ refused 7 129
 shows-seqs-63 = unfold checks in refl
 
@@ -47,6 +52,7 @@ abbrev rightSequences : ℕ → ℕ → List (List ℕ)
 rightSequences zero k = []
 rightSequences (suc n) k = skips ∷ sequences (suc k) k ∷ rightSequences n (suc (suc k))
 
+-- 64 sequences: depth 65
 shows-right-seqs-64 : judged (oneState (1 ∷ []) [] 129 (goesTo 1 ∷ rightSequences 64 1) []) ≡ refused 7 129
 shows-right-seqs-64 = unfold checks in refl
 

@@ -40,6 +40,7 @@ shows-assign-state = unfold checks in refl
 abbrev summed : ℕ → ℕ → ℕ → List ℕ
 summed r p q = oneState diamond oneOfEach 3 (assigns r 2 ∷ goesTo 1 ∷ sequences 1 2 ∷ []) (reads p ∷ reads q ∷ adds 0 1 ∷ [])
 
+-- one of two registers that are read does not flow to r1; both flow to it; both flow to r3
 shows-each-read
     : map judged (summed 1 0 2 ∷ summed 1 2 0 ∷ summed 1 1 0 ∷ summed 3 1 2 ∷ []) ≡ refused 10 1 ∷ refused 10 1 ∷ accepted 0 ∷ accepted 0 ∷ []
 shows-each-read = unfold checks in refl
@@ -58,6 +59,7 @@ shows-then
     : map (λ (c : ℕ). judged (underIf c 1)) (0 ∷ 1 ∷ 2 ∷ 3 ∷ []) ≡ accepted 0 ∷ accepted 0 ∷ refused 10 1 ∷ refused 10 1 ∷ []
 shows-then = unfold checks in refl
 
+-- the same in the else
 shows-else
     : map (λ (c : ℕ). judged (underElse c 1)) (0 ∷ 1 ∷ 2 ∷ 3 ∷ []) ≡ accepted 0 ∷ accepted 0 ∷ refused 10 1 ∷ refused 10 1 ∷ []
 shows-else = unfold checks in refl
@@ -72,6 +74,7 @@ underTwo c p d q =
     (assigns 1 6 ∷ skips ∷ branches 5 1 2 ∷ skips ∷ branches 2 3 4 ∷ goesTo 1 ∷ sequences 5 6 ∷ [])
     (reads c ∷ reads p ∷ adds 0 1 ∷ reads d ∷ reads q ∷ adds 3 4 ∷ constant 1 ∷ [])
 
+-- r2 in each of the four places, and r1 in two
 shows-ifs-around
     : map judged (underTwo 2 0 0 0 ∷ underTwo 0 2 0 0 ∷ underTwo 0 0 2 0 ∷ underTwo 0 0 0 2 ∷ underTwo 0 1 1 0 ∷ [])
     ≡ refused 10 1 ∷ refused 10 1 ∷ refused 10 1 ∷ refused 10 1 ∷ accepted 0 ∷ []
@@ -97,6 +100,7 @@ abbrev gone : ℕ → ℕ → List ℕ
 gone from to =
     assemble diamond [] (stateRecord 0 0 0 ∷ stateRecord 0 from 1 ∷ stateRecord 0 to 2 ∷ []) (falls ∷ goesTo 2 ∷ goesTo 2 ∷ []) []
 
+-- to a label above, to the same one, to the top; and below, beside, and from the top
 shows-goto-flow
     : map judged (gone 0 1 ∷ gone 1 1 ∷ gone 1 3 ∷ gone 1 0 ∷ gone 1 2 ∷ gone 3 1 ∷ [])
     ≡ accepted 0 ∷ accepted 0 ∷ accepted 0 ∷ refused 11 1 ∷ refused 11 1 ∷ refused 11 1 ∷ []
@@ -112,6 +116,7 @@ goneUnder c to =
     (falls ∷ goesTo 2 ∷ goesTo 2 ∷ branches 0 1 2 ∷ goesTo 2 ∷ [])
     (reads c ∷ [])
 
+-- the condition flows to the named state's label, though not to the own state's; and it does not
 shows-goto-under-if
     : map judged (goneUnder 1 1 ∷ goneUnder 1 3 ∷ goneUnder 1 2 ∷ goneUnder 1 0 ∷ goneUnder 0 0 ∷ [])
     ≡ accepted 0 ∷ accepted 0 ∷ refused 11 1 ∷ refused 11 1 ∷ accepted 0 ∷ []
@@ -142,6 +147,7 @@ fallen label c child =
     (falls ∷ falls ∷ falls ∷ branches 0 1 2 ∷ goesTo 2 ∷ [])
     (reads c ∷ [])
 
+-- the child's label does not matter, and the condition's does
 shows-fall-flow
     : map judged (fallen 0 0 0 ∷ fallen 0 0 3 ∷ fallen 1 0 1 ∷ fallen 1 1 1 ∷ fallen 3 1 3 ∷ fallen 0 1 1 ∷ fallen 1 2 3 ∷ fallen 1 3 3 ∷ [])
     ≡ accepted 0 ∷ accepted 0 ∷ accepted 0 ∷ accepted 0 ∷ accepted 0 ∷ refused 12 1 ∷ refused 12 1 ∷ refused 12 1 ∷ []

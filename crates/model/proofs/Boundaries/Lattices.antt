@@ -1,7 +1,7 @@
 -- Cases at the boundaries of the lattice of labels: refusal 2, its rules each alone, and its place.
 use mathlib.Core.Path.{_≡_, refl}
-use mathlib.Core.List.{List, [], _∷_, map}
-use Rattle.model.specs.declared.Found.the-variants.{At, Nowhere}
+use mathlib.Core.List.{[], _∷_, map}
+use Rattle.model.specs.declared.Found.the-variants.{At}
 use Rattle.model.proofs.Opened.{checks, refused, accepted, judged, faultOfRows}
 use Rattle.model.proofs.Designs.{ofRows, oneState, registerRecord, goesTo}
 

@@ -104,6 +104,7 @@ shows-operation
     ≡ replicate 6 (refused 5 1026)
 shows-operation = unfold checks in refl
 
+-- "Kinds 2 to 8", with the higher part first
 shows-operations
     : map (λ (kind : ℕ). judged (ofOperation (node kind 0 1 0 0))) (2 ∷ 3 ∷ 4 ∷ 5 ∷ 6 ∷ 7 ∷ 8 ∷ []) ≡ replicate 7 (accepted 0)
 shows-operations = unfold checks in refl

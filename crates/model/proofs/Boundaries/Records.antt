@@ -4,7 +4,7 @@ use mathlib.Core.Path.{_≡_, refl}
 use mathlib.Core.List.{List, [], _∷_, map}
 use lib.ListN.{replicate}
 use Rattle.model.specs.Image.{designOf}
-use Rattle.model.specs.States.{defaultTarget, within}
+use Rattle.model.specs.States.{defaultTarget}
 use Rattle.model.specs.Calls.{run}
 use Rattle.model.proofs.Opened.{checks, everything, refused, accepted, judged, told, lent}
 use Rattle.model.proofs.Designs.{assemble, lease, tower, oneState, chain, node, registerRecord, stateRecord, falls, goesTo}
