@@ -8,5 +8,6 @@ pub mod Depths
 pub mod Bodies
 pub mod Flows
 pub mod Cycles
+pub mod Calls
 pub mod Lists
 pub mod Listings
