@@ -16,7 +16,7 @@ use Rattle.model.specs.declared.Refusal.{Refusal}
 use Rattle.model.specs.declared.Refusal.the-variants.{NoPort, Area, CycleCount}
 use Rattle.model.specs.declared.Answer.{Answer}
 use Rattle.model.specs.declared.Answer.the-variants.{Accepted, Refused}
-use Rattle.model.specs.Limits.{cyclesMax}
+use Rattle.model.specs.Limits.{cyclesMax, wordLength}
 use Rattle.model.specs.Indices.{lowestFailing}
 use Rattle.model.specs.Image.{Design as Table, Registers, Register, AreBytes, designOf, registerAt}
 use Rattle.model.specs.States.{isChild, hasChild, isPort}
@@ -24,7 +24,7 @@ use Rattle.model.specs.Rules.{Keeps}
 use Rattle.model.specs.Verdict.{verdict, refusedAt, _before_}
 use Rattle.model.specs.Values.{wordsOf, bytesOf}
 use Rattle.model.specs.Machine.{Areas, resetAreas, targetSound, afterCycles}
-use Rattle.model.specs.Calls.{Lent, Left, LeftRegisters, lengthAnswer, targetsAnswer, registerAreaAnswer, isWritable, portAnswer, cyclesAnswer, areasOf, lentOf, resetAnswer, reset, runAnswer, run, writePortAnswer, writePort}
+use Rattle.model.specs.Calls.{Lent, Left, LeftRegisters, lengthAnswer, targetsAnswer, registerAreaAnswer, isWritable, portAnswer, cyclesAnswer, areasOf, lentOf, registersLength, targetsLength, resetAnswer, reset, runAnswer, run, writePortAnswer, writePort}
 use Rattle.model.proofs.Laws.Booleans.{not-true, not-false, and-first, and-second}
 use Rattle.model.proofs.Laws.Indices.{failing-none}
 use Rattle.model.proofs.Laws.States.{child-of}
@@ -46,6 +46,13 @@ use Rattle.calls.specs.Stages.{leftAs, leftRegistersAs, resetOn, writePo
 
 pub registers-few : {image : List ℕ} {x : Design} → Describes image x → x .registers ≤ 64
 registers-few d = omega (arith, d .registers, d .directory .sections Registers)
+
+-- ---- the lengths that an image asks for
+pub registers-bytes : {image : List ℕ} {x : Design} {n : ℕ} → Describes image x → n ≡ wordLength * x .registers → Accepted n ≡ Accepted (wordLength * length (designOf image .registers))
+registers-bytes d e = ap Accepted (rw (← registers-count d) e)
+
+pub targets-bytes : {image : List ℕ} {x : Design} → Describes image x → Accepted (x .states) ≡ Accepted (length (designOf image .states))
+targets-bytes d = ap Accepted (states-count d)
 
 pub states-kept : {image : List ℕ} → Keeps image → StatesKept (designOf image)
 states-kept {image} keeps = record { kept = λ s l. state-iff (designOf image) s .1 (keeps .design .states s l) }
@@ -228,11 +235,27 @@ module _ (image : List ℕ) {a : Answer} (e : a ≡ verdict image) where
     unfolding writePort writePortAnswer _before_
     refused-write registers n v = rw (← e, h)
 
+    pub refused-registers-length : Refused r p ≡ registersLength image
+    unfolding registersLength _before_
+    refused-registers-length = rw (← e, h)
+
+    pub refused-targets-length : Refused r p ≡ targetsLength image
+    unfolding targetsLength _before_
+    refused-targets-length = rw (← e, h)
+
     pub refused-run : (registers targets : List ℕ) (n : ℕ) → leftAs (Refused r p) registers targets ≡ run image (lends registers targets) n
     unfolding run runAnswer _before_
     refused-run registers targets n = rw (← e, h)
 
   module _ {c : ℕ} (h : a ≡ Accepted c) where
+    pub accepted-registers-length : {b : Answer} → b ≡ Accepted (wordLength * length (designOf image .registers)) → b ≡ registersLength image
+    unfolding registersLength _before_
+    accepted-registers-length k = rw (← e, h) k
+
+    pub accepted-targets-length : {b : Answer} → b ≡ Accepted (length (designOf image .states)) → b ≡ targetsLength image
+    unfolding targetsLength _before_
+    accepted-targets-length k = rw (← e, h) k
+
     pub accepted-reset : {left : Left} (lent : Lent) → left ≡ resetOn (designOf image) lent → left ≡ reset image lent
     unfolding reset resetAnswer resetOn _before_
     accepted-reset lent k = rw (← e, h) k
