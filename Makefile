@@ -21,9 +21,10 @@ bench: library
 	cd tests/outside && CAISSON_LIB_DIR=$(CURDIR)/target/staticlib CARGO_TARGET_DIR=$(CURDIR)/target/outside \
 		cargo run --quiet --release --offline --bin bench
 
-# The stack that each call takes, on a small design and on one as deep as the rules allow.
+# The stack that each call takes, on a small design and on the one that takes the most.
 stack: library
-	gcc -std=c11 -O2 -Wall -Wextra -Werror -Iinclude tests/c/stack.c $(library) -pthread -o target/stack
+	gcc -std=c11 -O2 -Wall -Wextra -Werror -Iinclude -Ihost tests/c/stack.c host/table.c \
+		$(library) -pthread -o target/stack
 	target/stack designs/lease.table designs/deepest.table
 
 # Lists four cycles of document 01's lease design.

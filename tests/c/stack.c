@@ -7,12 +7,15 @@
 #include <string.h>
 
 #include "caisson.h"
+#include "table.h"
 
-enum { IMAGE_MOST = 25268, REGISTERS_MOST = 4 * 64, STATES_MOST = 64, CYCLES = 1000 };
-enum { STACK = 1 << 20, PAGE = 4096, PAINT = 0xA5 };
+enum { CYCLES = 1000, STACK = 1 << 20, PAGE = 4096, PAINT = 0xA5 };
 
-static uint8_t image[IMAGE_MOST], registers[REGISTERS_MOST], targets[STATES_MOST];
+/* One byte more than the largest image has, so that a longer file is refused. */
+static uint8_t image[CAISSON_LARGEST_IMAGE + 1u];
+static uint8_t registers[CAISSON_REGISTERS * CAISSON_WORD], targets[CAISSON_STATES];
 static size_t image_len, registers_len, targets_len;
+static uint32_t port;
 static caisson_answer answer;
 
 static void *nothing(void *unused) { return unused; }
@@ -28,7 +31,7 @@ static void *reset(void *unused) {
 }
 
 static void *write_port(void *unused) {
-    answer = caisson_write_port(image, image_len, registers, registers_len, 0, 1);
+    answer = caisson_write_port(image, image_len, registers, registers_len, port, 1);
     return unused;
 }
 
@@ -61,21 +64,29 @@ static size_t used(void *(*call)(void *)) {
     return STACK - left;
 }
 
-static size_t word16(size_t at) { return image[at] + 256u * image[at + 1]; }
+/* A call that is refused would be measured in the place of another. */
+static void expect_accepted(const char *path, const char *what) {
+    if (answer.number == CAISSON_ACCEPTED)
+        return;
+    fprintf(stderr, "%s: %s is refused by %u at %zu\n", path, what, (unsigned)answer.number,
+            answer.place);
+    exit(2);
+}
 
-/* Reads a design that the library accepts; its directory then tells the lengths of the areas. */
+/* Reads a design with a port; once it is accepted, it tells the lengths of the areas. */
 static void read_design(const char *path) {
     FILE *file = fopen(path, "rb");
     if (!file)
         fail(path);
     image_len = fread(image, 1, sizeof image, file);
     fclose(file);
-    if (caisson_check(image, image_len).number != 0) {
-        fprintf(stderr, "%s is refused\n", path);
-        exit(2);
-    }
-    registers_len = word16(6) / 6 * 4;
-    targets_len = word16(10) / 4;
+    check(NULL);
+    expect_accepted(path, "check");
+    registers_len = CAISSON_WORD * table_registers(image);
+    targets_len = table_states(image);
+    port = 0;
+    while (port + 1 < table_registers(image) && !table_is_port(image, port))
+        port++;
 }
 
 int main(int count, char **paths) {
@@ -86,9 +97,11 @@ int main(int count, char **paths) {
     for (int i = 1; i < count; i++) {
         read_design(paths[i]);
         size_t without = used(nothing);
-        for (size_t k = 0; k < sizeof calls / sizeof *calls; k++)
-            printf("%s: %s takes %zu bytes\n", paths[i], calls[k].name,
-                   used(calls[k].call) - without);
+        for (size_t k = 0; k < sizeof calls / sizeof *calls; k++) {
+            size_t with = used(calls[k].call);
+            expect_accepted(paths[i], calls[k].name);
+            printf("%s: %s takes %zu bytes\n", paths[i], calls[k].name, with - without);
+        }
     }
     return 0;
 }
