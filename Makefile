@@ -2,9 +2,11 @@ PREFIX = /usr/local
 SOAK_DESIGN = designs/two_groups.table
 SOAK_SECONDS = 60
 SOAK_SEED = 1
+SOAK_LEVEL =
 
 library = target/staticlib/libcaisson.a
-soak_sources = tests/soak/soak.c $(addprefix host/, box.c design.c numbers.c refusals.c say.c table.c)
+soak_sources = $(wildcard tests/soak/*.c) $(addprefix host/, box.c design.c numbers.c refusals.c say.c table.c)
+soak_build = gcc -std=c11 -O2 -Wall -Wextra -Werror -Iinclude -Ihost -Itests/soak
 
 .PHONY: test quick bench stack run host tool soak library lister install clean
 
@@ -40,11 +42,21 @@ tool: library
 	CAISSON_LIB_DIR=$(CURDIR)/target/staticlib CARGO_TARGET_DIR=$(CURDIR)/target/tools \
 		cargo build --quiet --release --offline --manifest-path tools/Cargo.toml
 
-# Two boxes side by side with unlike readings for one party, for SOAK_SECONDS; not part of the gate.
+# Two boxes side by side with unlike readings for one party, for SOAK_SECONDS: at each level in turn, or
+# at SOAK_LEVEL.
 soak: library
+	$(MAKE) target/soak/soak
+	target/soak/soak $(SOAK_DESIGN) --seconds $(SOAK_SECONDS) --seed $(SOAK_SEED) \
+		$(if $(SOAK_LEVEL),--level $(SOAK_LEVEL))
+
+# The soak alone, with a library that is there already.
+target/soak/soak: $(soak_sources) $(wildcard tests/soak/*.h host/*.h) include/caisson.h $(library)
 	mkdir -p target/soak
-	gcc -std=c11 -O2 -Wall -Wextra -Werror -Iinclude -Ihost $(soak_sources) $(library) -o target/soak/soak
-	target/soak/soak $(SOAK_DESIGN) --seconds $(SOAK_SECONDS) --seed $(SOAK_SEED)
+	$(soak_build) $(soak_sources) $(library) -o $@
+
+# The same with a run that leaks, for the test of the soak.
+target/soak/leaky: tests/soak/testdata/leaky_run.c target/soak/soak
+	$(soak_build) -Wl,--wrap=caisson_run $< $(soak_sources) $(library) -o $@
 
 # The library for a host; only what has changed is proved again.
 library:

@@ -1,0 +1,203 @@
+#include "pair.h"
+
+#include <inttypes.h>
+#include <string.h>
+
+#include "refusals.h"
+#include "say.h"
+#include "table.h"
+
+#define LONGEST_RUN 4096u /* cycles between two samples, at most */
+#define WRITES 4u         /* port writes between two samples, at most */
+#define RESETS 1024u      /* one sample in so many is followed by a reset */
+#define ATTEMPTS 1024u    /* at a difference made on purpose */
+
+/* splitmix64 */
+static uint64_t random_next(struct pair *pair)
+{
+    uint64_t bits = pair->random += 0x9e3779b97f4a7c15u;
+
+    bits = (bits ^ bits >> 30) * 0xbf58476d1ce4e5b9u;
+    bits = (bits ^ bits >> 27) * 0x94d049bb133111ebu;
+    return bits ^ bits >> 31;
+}
+
+static uint32_t random_below(struct pair *pair, uint32_t bound)
+{
+    return (uint32_t)(random_next(pair) % bound);
+}
+
+/* Often 0 or 1, which conditions tell apart, and otherwise anything. */
+static uint32_t random_value(struct pair *pair)
+{
+    uint32_t choice = random_below(pair, 4);
+
+    return choice < 2 ? choice : (uint32_t)random_next(pair);
+}
+
+static bool accepted(const char *what, caisson_answer answer)
+{
+    if (answer.number == CAISSON_ACCEPTED)
+        return true;
+    say("%s: ", what);
+    refusal_say(answer);
+    return false;
+}
+
+/* The values at or below the level, one after the other; answers how many bytes they take. */
+static size_t low_record(const struct pair *pair, const struct box *box, uint8_t *record)
+{
+    size_t length = 0;
+
+    for (size_t reg = 0; reg < table_registers(pair->image); reg++) {
+        if (table_sees(pair->image, pair->level, reg)) {
+            memcpy(record + length, box->registers + CAISSON_WORD * reg, CAISSON_WORD);
+            length += CAISSON_WORD;
+        }
+    }
+    return length;
+}
+
+static bool low_equal(const struct pair *pair)
+{
+    uint8_t records[2][CAISSON_REGISTERS * CAISSON_WORD];
+    size_t length = low_record(pair, &pair->boxes[0], records[0]);
+
+    return low_record(pair, &pair->boxes[1], records[1]) == length && memcmp(records[0], records[1], length) == 0;
+}
+
+static bool both_reset(struct pair *pair)
+{
+    return accepted("reset", box_reset(&pair->boxes[0])) && accepted("reset", box_reset(&pair->boxes[1]));
+}
+
+static bool write_port(struct pair *pair, int box, uint32_t reg, uint32_t value)
+{
+    pair->writes++;
+    return accepted("port write", box_write_port(&pair->boxes[box], reg, value));
+}
+
+static bool run(struct pair *pair, int box, uint32_t cycles)
+{
+    caisson_answer answer = box_run(&pair->boxes[box], cycles);
+
+    if (!accepted("run", answer))
+        return false;
+    if (answer.count != cycles)
+        say("run: %zu cycles done of %" PRIu32 "\n", answer.count, cycles);
+    return answer.count == cycles;
+}
+
+static uint32_t low_port(struct pair *pair)
+{
+    return pair->low_ports[random_below(pair, (uint32_t)pair->low_count)];
+}
+
+/* A low port is given one value in both boxes. */
+static bool low_write(struct pair *pair)
+{
+    uint32_t reg = low_port(pair);
+    uint32_t value = random_value(pair);
+
+    return write_port(pair, 0, reg, value) && write_port(pair, 1, reg, value);
+}
+
+/* A high port is given some value in one box, and nothing is said to the other. */
+static bool high_write(struct pair *pair, int box)
+{
+    return write_port(pair, box, pair->high_ports[random_below(pair, (uint32_t)pair->high_count)], random_value(pair));
+}
+
+static bool random_writes(struct pair *pair)
+{
+    for (uint32_t left = random_below(pair, WRITES + 1); left > 0; left--) {
+        if (pair->low_count > 0 && !low_write(pair))
+            return false;
+        for (int box = 0; box < 2; box++) {
+            if (pair->high_count > 0 && random_below(pair, 4) > 0 && !high_write(pair, box))
+                return false;
+        }
+    }
+    return true;
+}
+
+/*
+ * The same number of cycles in both boxes; the second makes them in two runs, with a high write
+ * between, which must not show either.
+ */
+static bool random_cycles(struct pair *pair)
+{
+    uint32_t cycles = 1 + random_below(pair, LONGEST_RUN);
+    uint32_t before = random_below(pair, cycles + 1);
+
+    pair->cycles += cycles;
+    return run(pair, 0, cycles) && run(pair, 1, before) && (pair->high_count == 0 || high_write(pair, 1)) &&
+           run(pair, 1, cycles - before);
+}
+
+static bool sample(struct pair *pair)
+{
+    if (!low_equal(pair)) {
+        say("the boxes differ at level %zu after %" PRIu64 " cycles, at sample %" PRIu64 "\n", pair->level,
+            pair->cycles, pair->samples);
+        return false;
+    }
+    pair->samples++;
+    pair->high_differs += memcmp(pair->boxes[0].registers, pair->boxes[1].registers,
+                                 pair->boxes[0].registers_length) != 0;
+    return true;
+}
+
+/* The ports at or below the level, and the others. */
+static void sort_registers(struct pair *pair)
+{
+    for (uint32_t reg = 0; reg < table_registers(pair->image); reg++) {
+        bool low = table_sees(pair->image, pair->level, reg);
+
+        pair->low_registers += low;
+        if (!table_is_port(pair->image, reg))
+            continue;
+        if (low)
+            pair->low_ports[pair->low_count++] = reg;
+        else
+            pair->high_ports[pair->high_count++] = reg;
+    }
+}
+
+bool pair_start(struct pair *pair, const uint8_t *image, size_t length, size_t level, uint64_t seed)
+{
+    *pair = (struct pair){.image = image, .level = level, .random = seed};
+    sort_registers(pair);
+    return accepted("reset", box_start(&pair->boxes[0], image, length)) &&
+           accepted("reset", box_start(&pair->boxes[1], image, length));
+}
+
+/* A low write, or in turns with it one cycle more, in the first box alone. */
+static bool first_alone(struct pair *pair, uint32_t attempt)
+{
+    if (pair->low_count > 0 && attempt % 2 == 0) {
+        uint32_t reg = low_port(pair);
+
+        return write_port(pair, 0, reg, random_value(pair));
+    }
+    return run(pair, 0, 1);
+}
+
+bool pair_can_differ(struct pair *pair, bool *can)
+{
+    *can = false;
+    for (uint32_t attempt = 0; attempt < ATTEMPTS && !*can; attempt++) {
+        if (!first_alone(pair, attempt) || !run(pair, 0, 1) || !run(pair, 1, 1))
+            return false;
+        *can = !low_equal(pair);
+    }
+    pair->writes = 0;
+    return both_reset(pair);
+}
+
+bool pair_round(struct pair *pair)
+{
+    if (random_below(pair, RESETS) == 0 && !both_reset(pair))
+        return false;
+    return random_writes(pair) && random_cycles(pair) && sample(pair);
+}

@@ -1,0 +1,44 @@
+/*
+ * pair.h: two boxes with one design. Ports at or below a level are written alike in both, the others
+ * each as chance has it; the registers at or below the level must stay the same.
+ */
+#ifndef PAIR_H
+#define PAIR_H
+
+#include <stdbool.h>
+
+#include "box.h"
+
+struct pair {
+    struct box boxes[2];
+    const uint8_t *image;
+    size_t level;
+    uint64_t random;
+    uint32_t low_ports[CAISSON_REGISTERS];
+    uint32_t high_ports[CAISSON_REGISTERS];
+    size_t low_count;
+    size_t high_count;
+    size_t low_registers;  /* ports and inner ones */
+    uint64_t cycles;       /* of each box */
+    uint64_t samples;
+    uint64_t writes;
+    uint64_t high_differs; /* samples at which registers out of sight differ */
+};
+
+/* Takes an image that caisson_check has accepted, which must outlive the pair. False, with a message,
+   where a call is refused, here and below. */
+CAISSON_LOOK_AT_ANSWER
+bool pair_start(struct pair *pair, const uint8_t *image, size_t length, size_t level, uint64_t seed);
+
+/*
+ * Whether the comparison can fail: one box is given low writes and cycles that the other is not, until
+ * a register in sight differs after a cycle. Both boxes are reset afterwards.
+ */
+CAISSON_LOOK_AT_ANSWER
+bool pair_can_differ(struct pair *pair, bool *can);
+
+/* Writes, cycles and a sample. False also where the boxes differ at the level. */
+CAISSON_LOOK_AT_ANSWER
+bool pair_round(struct pair *pair);
+
+#endif
