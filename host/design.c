@@ -18,7 +18,9 @@ enum status design_load(struct design *design, const char *path)
     errno = 0;
     design->length = fread(design->image, 1, sizeof design->image, file);
     broken = ferror(file);
-    if (broken)
+    if (broken && errno == EISDIR)
+        say("%s: is a directory, not a design\n", path);
+    else if (broken)
         say("%s: cannot be read: %s\n", path, strerror(errno));
     if (fclose(file) != 0 && !broken) {
         say("%s: cannot be closed: %s\n", path, strerror(errno));

@@ -19,6 +19,21 @@ static enum status wrong(const char *what, const char *argument)
     return STATUS_INPUT;
 }
 
+/* Two parties of one name would have records that nobody can tell apart. */
+static enum status party_add(struct options *options, const char *text)
+{
+    struct party *party = &options->parties[options->party_count];
+
+    if (!party_read(party, text))
+        return wrong("--party takes NAME:LEVEL, a name of letters, digits, - _ . and a label, not ", text);
+    for (size_t i = 0; i < options->party_count; i++) {
+        if (party_same_name(party, &options->parties[i]))
+            return wrong("a second party of the same name: ", text);
+    }
+    options->party_count++;
+    return STATUS_DONE;
+}
+
 /* An option with a value. */
 static enum status valued_read(struct options *options, const char *name, const char *value)
 {
@@ -30,9 +45,7 @@ static enum status valued_read(struct options *options, const char *name, const 
         if (!number_read_all(value, UINT64_MAX, &options->every) || options->every == 0)
             return wrong("--every takes a number of cycles from 1 on, not ", value);
     } else {
-        if (!party_read(&options->parties[options->party_count], value))
-            return wrong("--party takes NAME:LEVEL, a name of letters, digits, - _ . and a label, not ", value);
-        options->party_count++;
+        return party_add(options, value);
     }
     return STATUS_DONE;
 }

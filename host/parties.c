@@ -29,6 +29,11 @@ bool party_read(struct party *party, const char *text)
     return true;
 }
 
+bool party_same_name(const struct party *party, const struct party *other)
+{
+    return party->name_length == other->name_length && memcmp(party->name, other->name, party->name_length) == 0;
+}
+
 size_t parties_of_labels(struct party parties[CAISSON_LABELS], const uint8_t *image)
 {
     size_t labels = table_labels(image);

@@ -22,6 +22,8 @@ struct party {
 CAISSON_LOOK_AT_ANSWER
 bool party_read(struct party *party, const char *text);
 
+bool party_same_name(const struct party *party, const struct party *other);
+
 /* One party for each label of a checked image, named label0 and so on; answers how many. */
 size_t parties_of_labels(struct party parties[CAISSON_LABELS], const uint8_t *image);
 

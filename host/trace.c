@@ -104,6 +104,16 @@ static const char *line_take(struct trace *trace, const char *characters, size_t
     return wrong != NULL ? wrong : trace_add(trace, &reading);
 }
 
+/* A directory opens like a file and is known by its first read. */
+static enum status not_read(const char *path)
+{
+    if (errno == EISDIR)
+        say("%s: is a directory, not a trace\n", path);
+    else
+        say("%s: cannot be read: %s\n", path, strerror(errno));
+    return STATUS_INPUT;
+}
+
 static enum status lines_read(struct trace *trace, FILE *file, const char *path)
 {
     char characters[TRACE_LONGEST_LINE];
@@ -123,8 +133,7 @@ static enum status lines_read(struct trace *trace, FILE *file, const char *path)
             wrong = "the line is too long";
             break;
         case LINE_BROKEN:
-            wrong = strerror(errno);
-            break;
+            return not_read(path);
         }
         if (wrong != NULL) {
             say("%s:%zu: %s\n", path, line, wrong);
