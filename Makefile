@@ -20,8 +20,7 @@ quick:
 
 # Times of the library beside the independent implementation, in one run.
 bench: library
-	cd tests/outside && CAISSON_LIB_DIR=$(CURDIR)/target/staticlib CARGO_TARGET_DIR=$(CURDIR)/target/outside \
-		cargo run --quiet --release --offline --bin bench
+	cd tests/outside && CARGO_TARGET_DIR=$(CURDIR)/target/outside cargo run --quiet --release --offline --bin bench
 
 # The stack that each call takes, on a small design and on the one that takes the most.
 stack: library
@@ -39,7 +38,7 @@ host: library
 
 # The tool for designs, target/tools/release/caisson; tools/README.md says how it is used.
 tool: library
-	CAISSON_LIB_DIR=$(CURDIR)/target/staticlib CARGO_TARGET_DIR=$(CURDIR)/target/tools \
+	CARGO_TARGET_DIR=$(CURDIR)/target/tools \
 		cargo build --quiet --release --offline --manifest-path tools/Cargo.toml
 
 # Two boxes side by side with unlike readings for one party, for SOAK_SECONDS: at each level in turn, or

@@ -2,6 +2,7 @@
 
 use caisson_tools::{assemble, explain, library, print, read};
 use std::io::Write;
+use std::os::unix::fs::MetadataExt;
 use std::process::ExitCode;
 use std::{env, fs, io, thread};
 
@@ -38,6 +39,9 @@ fn command() -> Result<ExitCode, String> {
 
 fn assemble_file(source: &str, table: &str) -> Result<ExitCode, String> {
     let bytes = load(source)?;
+    if same_file(source, table) {
+        return Err(format!("{table}: is the source itself, and would be lost"));
+    }
     let text = String::from_utf8(bytes).map_err(|_| format!("{source}: the text is not UTF-8"))?;
     let image = assemble(&text).map_err(|fault| format!("{source}: {fault}"))?;
     fs::write(table, image).map_err(|error| format!("{table}: {error}"))?;
@@ -56,6 +60,14 @@ fn explain_file(table: &str) -> Result<ExitCode, String> {
     let answer = library::check(&image);
     show(&explain::explain(&image, answer))?;
     Ok(ExitCode::from(u8::from(answer.number != 0)))
+}
+
+/// Two names of one file, also through links. What is not there yet is no other file.
+fn same_file(one: &str, other: &str) -> bool {
+    match (fs::metadata(one), fs::metadata(other)) {
+        (Ok(one), Ok(other)) => (one.dev(), one.ino()) == (other.dev(), other.ino()),
+        _ => false,
+    }
 }
 
 fn load(path: &str) -> Result<Vec<u8>, String> {

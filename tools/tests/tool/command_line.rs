@@ -42,6 +42,38 @@ fn assemble_says_where_a_text_is_wrong() {
     assert!(fs::metadata(&table).is_err());
 }
 
+/// Neither under its own name, nor through another path, a symbolic or a hard link.
+#[test]
+fn assemble_keeps_its_source() {
+    let folder = format!("{}/kept", env!("CARGO_TARGET_TMPDIR"));
+    let _ = fs::remove_dir_all(&folder);
+    fs::create_dir_all(&folder).unwrap();
+    let source = format!("{folder}/kept.caisson");
+    let (symbolic, hard) = (format!("{folder}/symbolic"), format!("{folder}/hard"));
+    let text = crate::common::text("designs/lease.caisson");
+    fs::write(&source, &text).unwrap();
+    std::os::unix::fs::symlink("kept.caisson", &symbolic).unwrap();
+    fs::hard_link(&source, &hard).unwrap();
+    let around = format!("{folder}/../kept/kept.caisson");
+    for table in [&source, &around, &symbolic, &hard] {
+        let message = failure(&caisson(&["assemble", &source, table]));
+        let expected = format!("{table}: is the source itself, and would be lost\n");
+        assert_eq!(message, expected);
+        assert_eq!(fs::read_to_string(&source).unwrap(), text);
+    }
+    // A file that is there and is another is written as ever.
+    let table = format!("{folder}/other.table");
+    fs::write(&table, "old").unwrap();
+    assert_eq!(
+        caisson(&["assemble", &symbolic, &table]).status.code(),
+        Some(0)
+    );
+    assert_eq!(
+        fs::read(&table).unwrap(),
+        crate::common::bytes("designs/lease.table")
+    );
+}
+
 #[test]
 fn print_gives_names() {
     let output = caisson(&["print", "lease.table"]);
