@@ -65,11 +65,11 @@ library:
 lister:
 	rt check lister >/dev/null
 
-# Library, header and lister, below $(DESTDIR)$(PREFIX).
+# Library, headers and lister, below $(DESTDIR)$(PREFIX).
 install: library lister
 	install -d $(DESTDIR)$(PREFIX)/lib $(DESTDIR)$(PREFIX)/include $(DESTDIR)$(PREFIX)/bin
 	install -m 644 $(library) $(DESTDIR)$(PREFIX)/lib
-	install -m 644 include/caisson.h $(DESTDIR)$(PREFIX)/include
+	install -m 644 include/caisson.h include/caisson_refusals.def $(DESTDIR)$(PREFIX)/include
 	install -m 755 target/bin/lister $(DESTDIR)$(PREFIX)/bin
 
 # Removes everything built.

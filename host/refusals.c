@@ -2,7 +2,7 @@
 
 #include "say.h"
 
-/* What the place of a refusal is. */
+/* What the place of a refusal is, as caisson_refusals.def names it. */
 enum place {
     PLACE_NONE,
     PLACE_LABEL,
@@ -18,29 +18,8 @@ struct rule {
 };
 
 static const struct rule rules[] = {
-    [CAISSON_DIRECTORY] = {PLACE_NONE, "The directory, the length of a section or a count of records is wrong, or the "
-                                       "image does not end where its last section does."},
-    [CAISSON_LABEL_ROW] = {PLACE_LABEL, "The label rows are no lattice with label 0 as its least label."},
-    [CAISSON_REGISTER_RECORD] = {PLACE_REGISTER, "A register has a label that the design does not have, or a kind that "
-                                                 "is neither 0 (inner) nor 1 (port)."},
-    [CAISSON_STATE_RECORD] = {PLACE_STATE, "A state has a parent, a label or a command number that it cannot have."},
-    [CAISSON_NODE_RECORD] = {PLACE_NODE, "A node has an unknown kind, a byte set that its kind does not use, or the "
-                                         "number of a part, register or state that it cannot have."},
-    [CAISSON_NODE_USE] = {PLACE_NODE, "A node is not used exactly once, by a state or as one part of another node."},
-    [CAISSON_TOO_DEEP] = {PLACE_NODE, "A node is nested deeper than commands and expressions may be."},
-    [CAISSON_SHAPE] = {PLACE_NODE, "A command does not end in a fall or goto where it must, does so where it must not, "
-                                   "or holds a fall or goto that its state cannot make."},
-    [CAISSON_CHILD_LABEL] = {PLACE_STATE, "The label of a state is not at or above the label of its parent."},
-    [CAISSON_ASSIGN_FLOW] = {PLACE_NODE, "An assignment would let its context, or a register that it reads, be seen in "
-                                         "a register whose label they do not flow to."},
-    [CAISSON_GOTO_FLOW] = {PLACE_NODE, "A goto would let its context be seen in a state whose label it does not flow "
-                                       "to."},
-    [CAISSON_FALL_FLOW] = {PLACE_NODE, "A fall would let its context be seen in its own state, whose label it does not "
-                                       "flow to."},
-    [CAISSON_NO_PORT] = {PLACE_REGISTER, "A port write names a register that does not exist or that is inner."},
-    [CAISSON_AREA] = {PLACE_AREA, "An area has the wrong length, or the target of a state is neither a child of it "
-                                  "nor, where it has none, itself."},
-    [CAISSON_CYCLE_COUNT] = {PLACE_NONE, "A run asks for more cycles than one run may have."},
+#define CAISSON_REFUSAL(number, constant, name, kind, place, wrong, more) [constant] = {PLACE_##kind, wrong},
+#include "caisson_refusals.def"
 };
 
 static void place_say(enum place place, size_t number)

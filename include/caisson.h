@@ -55,52 +55,62 @@ extern "C" {
    first. */
 enum caisson_refusal {
     CAISSON_ACCEPTED = 0,
-    /* The directory: five pairs of 16-bit offset and length, sorted; the first offset is 20, each
-       later one the sum of the pair before it, and the last section ends at the image's end. Or a
-       section whose length is no whole number of records, or whose count is out of its limits.
-       Place 0. */
+    /* The directory, a count of records or the length of a section is wrong. The directory is five
+       pairs of 16-bit offset and length, sorted: the first offset is 20, each later one the sum of
+       the pair before it, and the last section ends at the image's end. The length of a section is
+       a whole number of records, and their count is within its limits. Place: 0. */
     CAISSON_DIRECTORY = 1,
-    /* The label rows are no lattice with label 0 least: a bit at or above the label count; not
-       reflexive, antisymmetric or transitive; row 0 not full; or two labels with no least common
-       label above them. Place: the lowest label i whose row, or whose rule with i first, fails. */
+    /* The label rows are no lattice with label 0 least. No row has a bit at or above the label
+       count; the rows are reflexive, antisymmetric and transitive; row 0 is full; each two labels
+       have a least common label above them. Place: the lowest label whose row, or whose rule with
+       it first, fails. */
     CAISSON_LABEL_ROW = 2,
-    /* A register's label is no label, or its kind is neither 0 (inner) nor 1 (port). Place: the
-       register. */
+    /* A register has a label that the design does not have, or a kind that is neither 0 (inner) nor
+       1 (port). Place: the register. */
     CAISSON_REGISTER_RECORD = 3,
-    /* A state's parent, label or command number. State 0 is the root, with parent 0 and label 0;
-       any other parent has a lower number than its child. Place: the state. */
+    /* A state has a parent, a label or a command number that it cannot have. State 0 is the root,
+       with parent 0 and label 0; any other parent has a lower number than its child. The label is
+       one that the design has, and the command number that of a command. Place: the state. */
     CAISSON_STATE_RECORD = 4,
-    /* A node of no kind; a byte that its kind does not use and that is not 0; or a part, register
-       or state number that is out of range. A part of the same family has a lower number than its
-       owner. Place: the node. */
+    /* A node has an unknown kind, a byte set that its kind does not use, or the number of a part,
+       register or state that it cannot have. The numbers are of parts, registers and states that
+       the design has, and a part of the same family has a lower number than its owner. Place: the
+       node. */
     CAISSON_NODE_RECORD = 5,
-    /* A node that is not used exactly once, by a state or as one part of another node. Place: the
+    /* A node is not used exactly once, by a state or as one part of another node. Place: the
        node. */
     CAISSON_NODE_USE = 6,
-    /* A node nested deeper than CAISSON_DEPTH. Place: the node. */
+    /* A command or expression is nested deeper than 64. A node without parts of its own family has
+       depth 1, any other one more than its deepest such part. Place: the node. */
     CAISSON_TOO_DEEP = 7,
-    /* The shape of a command: a state's command that does not end in a fall or goto; a sequence
-       whose first part does; an if of whose branches one does; a fall in a state without a child;
-       a goto to no sibling, or in the root. Place: the node; a state's command for the first. */
+    /* A command does not end in a fall or goto where it must, does so where it must not, or holds a
+       fall or goto that its state cannot make. A state's command ends in a fall or goto, the first
+       part of a sequence does not, and of an if's branches both do or none. A fall needs a child. A
+       goto names a sibling or the state itself and does not stand in the root. Place: the node: of
+       a state its command, of a sequence or an if the whole. */
     CAISSON_SHAPE = 8,
-    /* A child's label is not at or above its parent's. Place: the child. */
+    /* The label of a state is not at or above the label of its parent. Place: the child. */
     CAISSON_CHILD_LABEL = 9,
-    /* An assignment: the context and each register read must flow to the label of the register
-       written. The context is the state's label and the labels of all registers read in the
-       conditions of the ifs around. Place: the node. */
+    /* The context of an assignment, or a register that it reads, does not flow to the label of the
+       register written. The context is the state's label and the labels of all registers read in
+       the conditions of the ifs around. Place: the node. */
     CAISSON_ASSIGN_FLOW = 10,
-    /* A goto: the context must flow to the named state's label. Place: the node. */
+    /* The context of a goto does not flow to the label of the state that it names. The context is
+       the state's label and the labels of all registers read in the conditions of the ifs around.
+       Place: the node. */
     CAISSON_GOTO_FLOW = 11,
-    /* A fall: the context must flow to its own state's label. Place: the node. */
+    /* The context of a fall does not flow to the label of its own state. The context is the state's
+       label and the labels of all registers read in the conditions of the ifs around. Place: the
+       node. */
     CAISSON_FALL_FLOW = 12,
-    /* Port write: there is no such register, or it is inner. Place: the register number given. It is
-       judged after 14. */
+    /* A port write names a register that does not exist or that is inner. It is judged after 14.
+       Place: the register number given. */
     CAISSON_NO_PORT = 13,
-    /* An area has the wrong length: place 0. Run also: a target is not sound. The target of a state
-       with children is one of its children, that of any other state is its own number. Place: the
-       lowest such state. */
+    /* An area has the wrong length, or a run finds a target that is not sound. The target of a
+       state with children is one of its children, that of any other state is its own number. Place:
+       0 for a length; the lowest state for a target. */
     CAISSON_AREA = 14,
-    /* Run: more than CAISSON_CYCLES cycles. Place 0. */
+    /* A run asks for more than 1,000,000 cycles. Place: 0. */
     CAISSON_CYCLE_COUNT = 15
 };
 

@@ -8,6 +8,7 @@ use super::tally::Tally;
 use crate::designs;
 use crate::generate::random::Random;
 use crate::generate::{design, faults, Size};
+use crate::reference::refusal;
 use crate::table::Table;
 
 const CALLS: usize = 40;
@@ -35,7 +36,7 @@ impl Tallies {
             ("port write", &self.write_port, &[15]),
             ("run", &self.run, &[13]),
         ] {
-            for number in tally.missing(15) {
+            for number in tally.missing(refusal::LAST) {
                 if !never.contains(&number) {
                     missing.push(format!("{number} of {name}"));
                 }

@@ -2,6 +2,9 @@
 
 use crate::answer::Answer;
 
+/// The highest number of all calls. The comparison asks that each has been met.
+pub const LAST: u32 = 15;
+
 #[derive(Clone, Copy, Debug, PartialEq, Eq)]
 pub struct Refusal {
     pub number: u32,
