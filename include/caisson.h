@@ -39,17 +39,30 @@
 extern "C" {
 #endif
 
+/* The version of the library and the number of the image's format. CHANGELOG.md says when each moves;
+   docs/FORMAT.md has the format byte by byte. */
+#define CAISSON_VERSION "1.0.0"
+#define CAISSON_FORMAT 1
+
 /* Limits of a design table. */
-#define CAISSON_LABELS 16u           /* most labels; at least 1 */
-#define CAISSON_REGISTERS 64u        /* most registers */
-#define CAISSON_STATES 64u           /* most states; at least 1 */
-#define CAISSON_COMMANDS 1024u       /* most commands */
-#define CAISSON_EXPRESSIONS 2048u    /* most expressions */
-#define CAISSON_DEPTH 64u            /* how deep commands and expressions nest */
-#define CAISSON_LARGEST_IMAGE 25268u /* bytes of the largest image */
-#define CAISSON_EXPRESSION_PLACE 1024u
-#define CAISSON_WORD 4u              /* bytes of a register in its area */
-#define CAISSON_CYCLES 1000000u      /* most cycles of one run */
+#define CAISSON_LABELS 16u        /* most labels; at least 1 */
+#define CAISSON_REGISTERS 64u     /* most registers */
+#define CAISSON_STATES 64u        /* most states; at least 1 */
+#define CAISSON_COMMANDS 1024u    /* most commands */
+#define CAISSON_EXPRESSIONS 2048u /* most expressions */
+#define CAISSON_DEPTH 64u         /* how deep commands and expressions nest */
+
+/* Lengths in bytes: of the directory, of each record, of the largest image. */
+#define CAISSON_DIRECTORY_LENGTH 20u
+#define CAISSON_LABEL_LENGTH 2u
+#define CAISSON_REGISTER_LENGTH 6u
+#define CAISSON_STATE_LENGTH 4u
+#define CAISSON_NODE_LENGTH 8u /* a command or an expression */
+#define CAISSON_LARGEST_IMAGE 25268u
+
+#define CAISSON_EXPRESSION_PLACE 1024u /* an expression's place is this plus its number */
+#define CAISSON_WORD 4u                /* bytes of a register in its area */
+#define CAISSON_CYCLES 1000000u        /* most cycles of one run */
 
 /* What is wrong, and where `place` points. 1 to 12 are about the image, and every call judges them
    first. */

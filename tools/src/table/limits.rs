@@ -1,15 +1,56 @@
-//! The limits and record lengths of a table, as the header has them.
+//! The limits and lengths of a table: those of `include/caisson.h`, where each stands once.
 
-pub const LABELS: usize = 16;
-pub const REGISTERS: usize = 64;
-pub const STATES: usize = 64;
-pub const COMMANDS: usize = 1_024;
-pub const EXPRESSIONS: usize = 2_048;
+const HEADER: &[u8] = include_bytes!("../../../include/caisson.h");
+
+pub const LABELS: usize = defined(b"CAISSON_LABELS");
+pub const REGISTERS: usize = defined(b"CAISSON_REGISTERS");
+pub const STATES: usize = defined(b"CAISSON_STATES");
+pub const COMMANDS: usize = defined(b"CAISSON_COMMANDS");
+pub const EXPRESSIONS: usize = defined(b"CAISSON_EXPRESSIONS");
 
 /// An expression's place is this plus its number.
-pub const EXPRESSION_PLACE: usize = 1_024;
+pub const EXPRESSION_PLACE: usize = defined(b"CAISSON_EXPRESSION_PLACE");
 
-pub const DIRECTORY: usize = 20;
+pub const DIRECTORY: usize = defined(b"CAISSON_DIRECTORY_LENGTH");
 
 /// Bytes of a label row, register, state, command and expression.
-pub const RECORDS: [usize; 5] = [2, 6, 4, 8, 8];
+pub const RECORDS: [usize; 5] = [
+    defined(b"CAISSON_LABEL_LENGTH"),
+    defined(b"CAISSON_REGISTER_LENGTH"),
+    defined(b"CAISSON_STATE_LENGTH"),
+    defined(b"CAISSON_NODE_LENGTH"),
+    defined(b"CAISSON_NODE_LENGTH"),
+];
+
+/// The number that the header defines a name as. A name that it lacks stops the compiler.
+const fn defined(name: &[u8]) -> usize {
+    let mut at = 0;
+    while at < HEADER.len() {
+        if stands(b"#define ", at) && stands(name, at + 8) && HEADER[at + 8 + name.len()] == b' ' {
+            return number(at + 8 + name.len() + 1);
+        }
+        at += 1;
+    }
+    panic!("include/caisson.h does not define a limit")
+}
+
+const fn stands(text: &[u8], at: usize) -> bool {
+    let mut i = 0;
+    while i < text.len() {
+        if at + i >= HEADER.len() || HEADER[at + i] != text[i] {
+            return false;
+        }
+        i += 1;
+    }
+    true
+}
+
+const fn number(mut at: usize) -> usize {
+    assert!(HEADER[at].is_ascii_digit());
+    let mut value = 0;
+    while HEADER[at].is_ascii_digit() {
+        value = 10 * value + (HEADER[at] - b'0') as usize;
+        at += 1;
+    }
+    value
+}

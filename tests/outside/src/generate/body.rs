@@ -1,9 +1,10 @@
 //! Writes bodies and expressions that keep shape and flow by construction.
 
 use super::random::Random;
+use crate::reference::limits;
 use crate::table::{Node, Table};
 
-const DEEPEST: u32 = 64;
+const DEEPEST: u32 = limits::DEEPEST as u32;
 
 /// An expression still to be written, and the registers that it may read.
 pub struct Slot {

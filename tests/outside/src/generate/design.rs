@@ -4,10 +4,11 @@ use super::body::Author;
 use super::lattice::{largest_lattice, lattice};
 use super::random::Random;
 use super::size::Size;
+use crate::reference::limits::MOST_LABELS;
 use crate::table::{Node, State, Table};
 
 pub fn design(random: &mut Random, size: Size) -> Table {
-    let rows = if size.labels == 16 {
+    let rows = if size.labels == MOST_LABELS {
         largest_lattice(random)
     } else {
         lattice(random, size.labels)

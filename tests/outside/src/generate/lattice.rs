@@ -1,8 +1,7 @@
 //! Random lattices as label rows, label 0 least, the other labels in any order.
 
 use super::random::Random;
-
-const MOST: usize = 16;
+use crate::reference::limits::MOST_LABELS;
 
 /// Any lattice of at most so many labels.
 pub fn lattice(random: &mut Random, most: usize) -> Vec<u16> {
@@ -25,13 +24,13 @@ pub fn lattice(random: &mut Random, most: usize) -> Vec<u16> {
 pub fn largest_lattice(random: &mut Random) -> Vec<u16> {
     loop {
         let sets = match random.below(5) {
-            0 => chain(MOST),
-            1 => flat(MOST),
+            0 => chain(MOST_LABELS),
+            1 => flat(MOST_LABELS),
             2 => powerset(4),
             3 => product(random),
-            _ => closed_under_union(random, MOST),
+            _ => closed_under_union(random, MOST_LABELS),
         };
-        if sets.len() == MOST {
+        if sets.len() == MOST_LABELS {
             return rows(sets, random);
         }
     }

@@ -1,10 +1,13 @@
 //! How large a generated design is to be.
 
 use super::random::Random;
+use crate::reference::limits::{
+    MOST_COMMANDS, MOST_EXPRESSIONS, MOST_LABELS, MOST_REGISTERS, MOST_STATES,
+};
 
 #[derive(Clone, Copy, Debug)]
 pub struct Size {
-    /// At most so many labels; exactly 16 if 16.
+    /// At most so many labels; exactly the most if it is the most.
     pub labels: usize,
     pub registers: usize,
     /// At least 2: the root falls to a child.
@@ -16,21 +19,21 @@ pub struct Size {
 
 impl Size {
     pub const LARGEST: Size = Size {
-        labels: 16,
-        registers: 64,
-        states: 64,
-        commands: 1_024,
-        expressions: 2_048,
+        labels: MOST_LABELS,
+        registers: MOST_REGISTERS,
+        states: MOST_STATES,
+        commands: MOST_COMMANDS,
+        expressions: MOST_EXPRESSIONS,
     };
 
     /// A part of the largest, with as many labels as can be.
     pub fn part_of_largest(part: usize, of: usize) -> Size {
         Size {
-            labels: 16,
-            registers: 64 * part / of,
-            states: 64 * part / of,
-            commands: 1_024 * part / of,
-            expressions: 2_048 * part / of,
+            labels: MOST_LABELS,
+            registers: MOST_REGISTERS * part / of,
+            states: MOST_STATES * part / of,
+            commands: MOST_COMMANDS * part / of,
+            expressions: MOST_EXPRESSIONS * part / of,
         }
     }
 
@@ -38,14 +41,14 @@ impl Size {
     pub fn random(random: &mut Random) -> Size {
         let (registers, states, commands, expressions) = match random.below(20) {
             0 => return Size::LARGEST,
-            1..=2 => (64, 64, 1_024, 2_048),
+            1..=2 => (MOST_REGISTERS, MOST_STATES, MOST_COMMANDS, MOST_EXPRESSIONS),
             3..=6 => (24, 24, 300, 900),
             7..=13 => (10, 12, 80, 240),
             _ => (4, 5, 16, 60),
         };
         let states = random.between(2, states);
         Size {
-            labels: random.between(1, 15),
+            labels: random.between(1, MOST_LABELS - 1),
             registers: random.between(0, registers),
             states,
             commands: random.between(states, commands.max(states)),

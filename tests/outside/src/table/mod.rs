@@ -4,6 +4,10 @@
 mod build;
 mod renumber;
 
+use crate::reference::limits::{
+    DIRECTORY_BYTES, NODE_BYTES, REGISTER_BYTES, ROW_BYTES, STATE_BYTES,
+};
+
 #[derive(Clone, Debug, Default, PartialEq, Eq)]
 pub struct Table {
     pub rows: Vec<u16>,
@@ -80,14 +84,14 @@ impl Node {
 impl Table {
     pub fn image(&self) -> Vec<u8> {
         let lengths = [
-            2 * self.rows.len(),
-            6 * self.registers.len(),
-            4 * self.states.len(),
-            8 * self.commands.len(),
-            8 * self.expressions.len(),
+            ROW_BYTES * self.rows.len(),
+            REGISTER_BYTES * self.registers.len(),
+            STATE_BYTES * self.states.len(),
+            NODE_BYTES * self.commands.len(),
+            NODE_BYTES * self.expressions.len(),
         ];
-        let mut image = Vec::with_capacity(20 + lengths.iter().sum::<usize>());
-        let mut offset = 20;
+        let mut image = Vec::with_capacity(DIRECTORY_BYTES + lengths.iter().sum::<usize>());
+        let mut offset = DIRECTORY_BYTES;
         for length in lengths {
             image.extend((offset as u16).to_le_bytes());
             image.extend((length as u16).to_le_bytes());

@@ -1,6 +1,9 @@
 //! Faults in the directory, the counts and the section lengths (refusal 1).
 
 use crate::generate::random::Random;
+use crate::reference::limits::{
+    MOST_COMMANDS, MOST_EXPRESSIONS, MOST_LABELS, MOST_REGISTERS, MOST_STATES,
+};
 use crate::table::{Node, Register, State, Table};
 
 /// The image of a design with a fault of refusal 1.
@@ -82,11 +85,15 @@ fn wrong_count(table: &Table, random: &mut Random) -> Vec<u8> {
     match random.below(7) {
         0 => table.rows.clear(),
         1 => table.states.clear(),
-        2 => table.rows.resize(17, u16::MAX),
-        3 => table.registers.resize(65, Register::default()),
-        4 => table.states.resize(65, State::default()),
-        5 => table.commands.resize(1_025, Node::default()),
-        _ => table.expressions.resize(2_049, Node::default()),
+        2 => table.rows.resize(MOST_LABELS + 1, u16::MAX),
+        3 => table
+            .registers
+            .resize(MOST_REGISTERS + 1, Register::default()),
+        4 => table.states.resize(MOST_STATES + 1, State::default()),
+        5 => table.commands.resize(MOST_COMMANDS + 1, Node::default()),
+        _ => table
+            .expressions
+            .resize(MOST_EXPRESSIONS + 1, Node::default()),
     }
     table.image()
 }

@@ -1,6 +1,7 @@
 //! Faults in flow (refusals 10 to 12): a name or a read becomes one that is not allowed.
 
 use crate::generate::random::Random;
+use crate::reference::limits::{MOST_COMMANDS, MOST_EXPRESSIONS};
 use crate::table::{Family, Node, Table};
 
 /// For each command its owner, or the state whose body it is.
@@ -136,7 +137,8 @@ fn wrap_fall(table: &mut Table, random: &mut Random) {
     let falling: Vec<usize> = (0..table.states.len())
         .filter(|&state| table.commands[usize::from(table.states[state].command)].kind == 3)
         .collect();
-    let room = table.commands.len() + 2 <= 1_024 && table.expressions.len() < 2_048;
+    let room =
+        table.commands.len() + 2 <= MOST_COMMANDS && table.expressions.len() < MOST_EXPRESSIONS;
     if falling.is_empty() || !room {
         return;
     }

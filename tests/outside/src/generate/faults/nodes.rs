@@ -1,6 +1,7 @@
 //! Faults in the nodes' fields, uses and depth (refusals 5 to 7).
 
 use crate::generate::random::Random;
+use crate::reference::limits::{MOST_COMMANDS, MOST_EXPRESSIONS, MOST_REGISTERS, MOST_STATES};
 use crate::table::{Family, Node, Table};
 
 fn family(table: &Table, random: &mut Random) -> Family {
@@ -42,14 +43,23 @@ pub fn spoil_field(table: &mut Table, random: &mut Random) {
             }
         }
         _ => match (family, node.kind) {
-            (Family::Command, 4) => node.which = *random.pick(&[states, states + 1, 64, 255]),
+            (Family::Command, 4) => {
+                node.which = *random.pick(&[states, states + 1, MOST_STATES as u8, 255])
+            }
             (Family::Command, 1) if random.percent(50) => {
-                node.which = *random.pick(&[registers, 64, 255]);
+                node.which = *random.pick(&[registers, MOST_REGISTERS as u8, 255]);
             }
             (Family::Command, 1 | 5) => {
-                node.a = *random.pick(&[expressions, expressions + 1, 2_048, u16::MAX]);
+                node.a = *random.pick(&[
+                    expressions,
+                    expressions + 1,
+                    MOST_EXPRESSIONS as u16,
+                    u16::MAX,
+                ]);
             }
-            (Family::Expression, 1) => node.which = *random.pick(&[registers, 64, 255]),
+            (Family::Expression, 1) => {
+                node.which = *random.pick(&[registers, MOST_REGISTERS as u8, 255])
+            }
             _ => {}
         },
     }
@@ -70,10 +80,10 @@ pub fn spoil_use(table: &mut Table, random: &mut Random) {
             table.states[state].command = random.index(table.commands.len()) as u16;
         }
         // A node that nobody uses.
-        2 if table.commands.len() < 1_024 => {
+        2 if table.commands.len() < MOST_COMMANDS => {
             table.skip();
         }
-        3 if table.expressions.len() < 2_048 => {
+        3 if table.expressions.len() < MOST_EXPRESSIONS => {
             table.constant(7);
         }
         // A command takes another's expression.
@@ -115,7 +125,7 @@ pub fn spoil_depth(table: &mut Table, random: &mut Random) {
         let state = random.index(table.states.len());
         let mut root = table.states[state].command;
         let missing = wanted - depths(table, Family::Command)[usize::from(root)].min(wanted);
-        for _ in 0..missing.min(1_024usize.saturating_sub(table.commands.len()) / 2) {
+        for _ in 0..missing.min(MOST_COMMANDS.saturating_sub(table.commands.len()) / 2) {
             let first = table.skip();
             root = table.sequence(first, root);
         }

@@ -1,6 +1,7 @@
 //! Faults in label rows, registers and states (refusals 2 to 4).
 
 use crate::generate::random::Random;
+use crate::reference::limits::{MOST_COMMANDS, MOST_LABELS, MOST_STATES};
 use crate::table::Table;
 
 pub fn spoil_rows(table: &mut Table, random: &mut Random) {
@@ -66,7 +67,7 @@ pub fn spoil_register(table: &mut Table, random: &mut Random) {
     let number = random.index(table.registers.len());
     let register = &mut table.registers[number];
     if random.percent(50) {
-        register.label = *random.pick(&[labels, 16, 17, 255, 0x80]);
+        register.label = *random.pick(&[labels, MOST_LABELS as u8, 17, 255, 0x80]);
     } else {
         register.kind = *random.pick(&[2, 3, 128, 255]);
     }
@@ -84,10 +85,12 @@ pub fn spoil_state(table: &mut Table, random: &mut Random) {
         (1, 0) => state.label = random.index(usize::from(labels)) as u8,
         (0, _) => {
             let above = random.between(number, states) as u8;
-            state.parent = *random.pick(&[number as u8, above, 64, 255]);
+            state.parent = *random.pick(&[number as u8, above, MOST_STATES as u8, 255]);
         }
-        (1, _) => state.label = *random.pick(&[labels, 16, 255]),
-        _ => state.command = *random.pick(&[commands, commands + 1, 1_024, u16::MAX]),
+        (1, _) => state.label = *random.pick(&[labels, MOST_LABELS as u8, 255]),
+        _ => {
+            state.command = *random.pick(&[commands, commands + 1, MOST_COMMANDS as u16, u16::MAX])
+        }
     }
     if random.percent(2) {
         table.commands.clear();
