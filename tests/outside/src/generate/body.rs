@@ -1,6 +1,7 @@
 //! Writes bodies and expressions that keep shape and flow by construction.
 
 use super::random::Random;
+use crate::reference::image::LAST_OPERATION;
 use crate::reference::limits;
 use crate::table::{Node, Table};
 
@@ -243,7 +244,7 @@ impl<'a> Author<'a> {
         let (left, right) = self.cut(size, depth);
         let left = self.operation(palette, left, depth - 1);
         let right = self.operation(palette, right, depth - 1);
-        let kind = self.random.between(2, 8) as u8;
+        let kind = self.random.between(2, LAST_OPERATION.into()) as u8;
         self.table.operation(kind, left, right)
     }
 

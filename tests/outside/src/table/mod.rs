@@ -4,6 +4,7 @@
 mod build;
 mod renumber;
 
+use crate::reference::image::LAST_OPERATION;
 use crate::reference::limits::{
     DIRECTORY_BYTES, NODE_BYTES, REGISTER_BYTES, ROW_BYTES, STATE_BYTES,
 };
@@ -69,7 +70,9 @@ impl Node {
     /// The fields that name parts of the node's own family.
     pub fn own_parts(&mut self, family: Family) -> Vec<&mut u16> {
         match (family, self.kind) {
-            (Family::Command, 2) | (Family::Expression, 2..=8) => vec![&mut self.a, &mut self.b],
+            (Family::Command, 2) | (Family::Expression, 2..=LAST_OPERATION) => {
+                vec![&mut self.a, &mut self.b]
+            }
             (Family::Command, 5) => vec![&mut self.b, &mut self.c],
             _ => Vec::new(),
         }

@@ -1,6 +1,7 @@
 //! Faults in the nodes' fields, uses and depth (refusals 5 to 7).
 
 use crate::generate::random::Random;
+use crate::reference::image::{IF, LAST_OPERATION};
 use crate::reference::limits::{MOST_COMMANDS, MOST_EXPRESSIONS, MOST_REGISTERS, MOST_STATES};
 use crate::table::{Family, Node, Table};
 
@@ -30,7 +31,10 @@ pub fn spoil_field(table: &mut Table, random: &mut Random) {
         }
         // Every kind there is and the first ones that are not.
         1 => {
-            let last = if family == Family::Command { 5 } else { 8 };
+            let last = match family {
+                Family::Command => IF,
+                Family::Expression => LAST_OPERATION,
+            };
             let any = random.below(10) as u8;
             node.kind = *random.pick(&[last + 1, last + 2, 255, any]);
         }
