@@ -65,7 +65,7 @@ extern "C" {
 #define CAISSON_CYCLES 1000000u        /* most cycles of one run */
 
 /* What is wrong, and where `place` points. 1 to 12 are about the image, and every call judges them
-   first. */
+   first. caisson_refusals.def has the same words for a program to show. */
 enum caisson_refusal {
     CAISSON_ACCEPTED = 0,
     /* The directory, a count of records or the length of a section is wrong. The directory is five
