@@ -9,13 +9,17 @@ use denote.Triple.Clauses.{AtExit}
 use borrow.Fn.Kinds.{Dens, endedOf}
 use Rattle.model.specs.Answers.{numbersOf}
 use Rattle.model.specs.Image.{designOf}
-use Rattle.model.specs.Calls.{Lent, check}
+use Rattle.model.specs.Calls.{Lent, check, registersLength, targetsLength}
 use Rattle.model.specs.Parties.{Call, resets, writes, runs, perform, RightLengths, withUnseen}
 use Rattle.design.specs.Resets.{lends}
 use Rattle.caisson.specs.declared.HostAnswer.{HostAnswer}
 use Rattle.caisson.specs.Told.{told, toldLeft, inNumbers, NumbersLeftRegisters}
 use Rattle.caisson.proofs.caisson_check.Kinds as check-kinds
 use Rattle.caisson.proofs.caisson_check.Reads as check-reads
+use Rattle.caisson.proofs.caisson_registers_length.Kinds as registers-length-kinds
+use Rattle.caisson.proofs.caisson_registers_length.Reads as registers-length-reads
+use Rattle.caisson.proofs.caisson_targets_length.Kinds as targets-length-kinds
+use Rattle.caisson.proofs.caisson_targets_length.Reads as targets-length-reads
 use Rattle.caisson.proofs.caisson_reset.Kinds as reset-kinds
 use Rattle.caisson.proofs.caisson_reset.Reads as reset-reads
 use Rattle.caisson.proofs.caisson_write_port.Kinds as write-port-kinds
@@ -32,6 +36,18 @@ pub check-tie : (κs : Lfts 1) (a : Dens κs check-kinds.ps) (h : HostAnswer) (e
     → check-reads.Post κs a h e
     → told h ≡ numbersOf (check (now (a .0)))
 check-tie κs a h e post = post
+
+pub registers-length-tie :
+    (κs : Lfts 1) (a : Dens κs registers-length-kinds.ps) (h : HostAnswer) (e : AtExit (endedOf 1 registers-length-kinds.ps registers-length-kinds.r) κs)
+    → registers-length-reads.Post κs a h e
+    → told h ≡ numbersOf (registersLength (now (a .0)))
+registers-length-tie κs a h e post = post
+
+pub targets-length-tie :
+    (κs : Lfts 1) (a : Dens κs targets-length-kinds.ps) (h : HostAnswer) (e : AtExit (endedOf 1 targets-length-kinds.ps targets-length-kinds.r) κs)
+    → targets-length-reads.Post κs a h e
+    → told h ≡ numbersOf (targetsLength (now (a .0)))
+targets-length-tie κs a h e post = post
 
 pub reset-tie : (κs : Lfts 3) (a : Dens κs reset-kinds.ps) (h : HostAnswer) (e : AtExit (endedOf 3 reset-kinds.ps reset-kinds.r) κs)
     → reset-reads.Post κs a h e
@@ -56,6 +72,12 @@ run-tie κs a h e post = post
 pub check-asks-nothing : (κs : Lfts 1) (a : Dens κs check-kinds.ps) → check-reads.Asked κs a
 check-asks-nothing κs a = tt
 
+pub registers-length-asks-nothing : (κs : Lfts 1) (a : Dens κs registers-length-kinds.ps) → registers-length-reads.Asked κs a
+registers-length-asks-nothing κs a = tt
+
+pub targets-length-asks-nothing : (κs : Lfts 1) (a : Dens κs targets-length-kinds.ps) → targets-length-reads.Asked κs a
+targets-length-asks-nothing κs a = tt
+
 pub reset-asks-nothing : (κs : Lfts 3) (a : Dens κs reset-kinds.ps) → reset-reads.Asked κs a
 reset-asks-nothing κs a = tt
 
@@ -78,8 +100,8 @@ holds slice bytes = record { ptr = slice .ptr; name = slice .name; now = bytes }
 
 -- the arguments of each function, at its entry and at its exit
 module _ (s : Slices) (image : List ℕ) where
-  abbrev checkWith : RefT (List ℕ) × Unit {0}
-  checkWith = (holds (s .image) image, tt)
+  abbrev imageWith : RefT (List ℕ) × Unit {0}
+  imageWith = (holds (s .image) image, tt)
 
   abbrev writePortWith : (registers : List ℕ) (r v : ℕ) → RefT (List ℕ) × (RefT (List ℕ) × (ℕ × (ℕ × Unit {0})))
   writePortWith registers r v = (holds (s .image) image, (holds (s .registers) registers, (r, (v, tt))))
@@ -92,7 +114,14 @@ module _ (s : Slices) (image : List ℕ) where
 
 -- Check was called with this image and answered h: its postcondition holds.
 abbrev pub Checked : List ℕ → HostAnswer → Type 0
-Checked image h = (κs : Lfts 1) × (s : Slices) × check-reads.Post κs (checkWith s image) h (checkWith s image)
+Checked image h = (κs : Lfts 1) × (s : Slices) × check-reads.Post κs (imageWith s image) h (imageWith s image)
+
+-- The two functions that tell a length were called with this image and answered h.
+abbrev pub RegistersMeasured : List ℕ → HostAnswer → Type 0
+RegistersMeasured image h = (κs : Lfts 1) × (s : Slices) × registers-length-reads.Post κs (imageWith s image) h (imageWith s image)
+
+abbrev pub TargetsMeasured : List ℕ → HostAnswer → Type 0
+TargetsMeasured image h = (κs : Lfts 1) × (s : Slices) × targets-length-reads.Post κs (imageWith s image) h (imageWith s image)
 
 -- The exported function of a call was called with these bytes and numbers and answered h: its postcondition holds of the answer and of the bytes after
 -- it. A port write is not lent the targets, so they stay.
@@ -125,7 +154,13 @@ pub record Hosted (image : List ℕ) (level : ℕ) : Type 0 where
 
 -- ---- what was called was done
 pub checked-told : (image : List ℕ) (h : HostAnswer) → Checked image h → told h ≡ numbersOf (check image)
-checked-told image h (κs, s, post) = check-tie κs (checkWith s image) h (checkWith s image) post
+checked-told image h (κs, s, post) = check-tie κs (imageWith s image) h (imageWith s image) post
+
+pub registers-measured : (image : List ℕ) (h : HostAnswer) → RegistersMeasured image h → told h ≡ numbersOf (registersLength image)
+registers-measured image h (κs, s, post) = registers-length-tie κs (imageWith s image) h (imageWith s image) post
+
+pub targets-measured : (image : List ℕ) (h : HostAnswer) → TargetsMeasured image h → told h ≡ numbersOf (targetsLength image)
+targets-measured image h (κs, s, post) = targets-length-tie κs (imageWith s image) h (imageWith s image) post
 
 pub called-made : (image : List ℕ) (before after : Lent) (call : Call) (h : HostAnswer) → Called image before call h after → Made image before call h after
 called-made image before after resets h (κs, s, post) = reset-tie κs (resetWith s image before) h (resetWith s image after) post

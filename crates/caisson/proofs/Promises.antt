@@ -1,15 +1,17 @@
 -- The promises as a C host has them. Each takes the postconditions of the exported functions (`Contracts.antt`), and no more.
-use Prim.Native.Nat.{ℕ, _+_, _≤_, _<_}
+use Prim.Native.Nat.{ℕ, _+_, _*_, _≤_, _<_}
 use mathlib.Core.Path.{_≡_, refl, sym, _∙_, ap}
 use mathlib.Core.Logic.{_↔_}
 use mathlib.Core.List.{List, [], _∷_}
 use lib.ListN.{length}
-use Rattle.model.specs.Limits.{cyclesMax}
+use Rattle.model.specs.declared.Refusal.{Refusal}
+use Rattle.model.specs.Limits.{cyclesMax, wordLength}
 use Rattle.model.specs.Image.{AreBytes, designOf}
-use Rattle.model.specs.Answers.{Numbers, numbersOf}
+use Rattle.model.specs.Answers.{Numbers, numberOf, numbersOf}
 use Rattle.model.specs.Rules.{Keeps}
 use Rattle.model.specs.Values.{wordsOf}
 use Rattle.model.specs.Calls.{Lent}
+use Rattle.model.specs.Refusals.{FirstBroken, imageTable, callTable, callCount, AnswersBy}
 use Rattle.model.specs.Parties.{Call, resets, writes, runs, perform, Event, events, atEnd, Use, withUnseen, start, history, remains, views, valuesSeen, view, remaining, seenAtEnd}
 use Rattle.model.proofs.Exact.{verdict-exact}
 use Rattle.model.proofs.Grouping.{Grouped}
@@ -17,7 +19,7 @@ use Rattle.model.proofs.Writing.{ChangesOnly}
 use Rattle.model.proofs.Promises as meaning
 use Rattle.caisson.specs.declared.HostAnswer.{HostAnswer}
 use Rattle.caisson.specs.Told.{told, NumbersLeft}
-use Rattle.caisson.proofs.Contracts.{Checked, Called, AllCalled, Hosted, checked-told, called-made}
+use Rattle.caisson.proofs.Contracts.{Checked, RegistersMeasured, TargetsMeasured, Called, AllCalled, Hosted, checked-told, registers-measured, targets-measured, called-made}
 
 -- Demand 2, of check: a host is told 0, 0, 0 exactly when the image keeps the rules.
 pub told-accepted-exactly : (image : List ℕ) (h : HostAnswer) → Checked image h → (told h ≡ record { number = 0; place = 0; count = 0 }) ↔ Keeps image
@@ -29,6 +31,29 @@ called-told image before after call h called = ap (λ (x : NumbersLeft). x .numb
 
 called-leaves : (image : List ℕ) (before after : Lent) (call : Call) (h : HostAnswer) → Called image before call h after → after ≡ perform image before call .lent
 called-leaves image before after call h called = ap (λ (x : NumbersLeft). x .lent) (called-made image before after call h called)
+
+-- Refusals are as exact. A host is told a refusal's number and a place exactly when all rules before it in the table are kept everywhere, and the place is
+-- the lowest at which this rule is broken: by check, and by every call, whose acceptance has its count.
+pub told-refused-exactly :
+    (image : List ℕ) (h : HostAnswer)
+    → Checked image h
+    → (refusal : Refusal) (place : ℕ)
+    → (told h ≡ record { number = numberOf refusal; place = place; count = 0 }) ↔ FirstBroken (imageTable image) refusal place
+told-refused-exactly image h checked = rw (checked-told image h checked) (meaning.refused-exactly image)
+
+pub called-exactly :
+    (image : List ℕ) (before after : Lent) (call : Call) (h : HostAnswer)
+    → Called image before call h after
+    → AnswersBy (callTable image before call) (callCount call) (told h)
+called-exactly image before after call h called = rw (called-told image before after call h called) (meaning.calls-exactly image before call)
+
+-- The two functions that tell a length answer that of the area as the count, where the image is accepted.
+pub registers-length-told :
+    (image : List ℕ) (h : HostAnswer) → RegistersMeasured image h → AnswersBy (imageTable image) (wordLength * length (designOf image .registers)) (told h)
+registers-length-told image h measured = rw (registers-measured image h measured) (meaning.registers-length-exactly image)
+
+pub targets-length-told : (image : List ℕ) (h : HostAnswer) → TargetsMeasured image h → AnswersBy (imageTable image) (length (designOf image .states)) (told h)
+targets-length-told image h measured = rw (targets-measured image h measured) (meaning.targets-length-exactly image)
 
 -- ---- demand 1: a refusal changes no lent byte
 pub refused-keeps : (image : List ℕ) (before after : Lent) (call : Call) (h : HostAnswer) → Called image before call h after → (h .number ≡ 0 → ⊥) → after ≡ before

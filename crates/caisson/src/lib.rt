@@ -4,7 +4,7 @@ use calls::numbers::number;
 use model::Answer;
 ghost use mathlib.Core.Path.{_≡_};
 ghost use Rattle.model.specs.Answers.{numbersOf};
-ghost use Rattle.model.specs.Calls.{check, reset, writePort, run};
+ghost use Rattle.model.specs.Calls.{check, registersLength, targetsLength, reset, writePort, run};
 ghost use Rattle.design.specs.Resets.{lends};
 ghost use Rattle.caisson.specs.Told.{told, toldLeft, inNumbers, toldLeftRegisters, registersInNumbers};
 
@@ -40,6 +40,24 @@ pub extern "C" fn caisson_check(image: &[u8]) -> HostAnswer
     ensures { λ r. ⌜ told r ≡ numbersOf (check (now (image .entry))) ⌝ }
 {
     let answer = calls::check(image);
+    in_numbers(answer)
+}
+
+// The length in bytes of the register area that an image asks for.
+#[no_mangle]
+pub extern "C" fn caisson_registers_length(image: &[u8]) -> HostAnswer
+    ensures { λ r. ⌜ told r ≡ numbersOf (registersLength (now (image .entry))) ⌝ }
+{
+    let answer = calls::registers_length(image);
+    in_numbers(answer)
+}
+
+// The length in bytes of the target area that an image asks for.
+#[no_mangle]
+pub extern "C" fn caisson_targets_length(image: &[u8]) -> HostAnswer
+    ensures { λ r. ⌜ told r ≡ numbersOf (targetsLength (now (image .entry))) ⌝ }
+{
+    let answer = calls::targets_length(image);
     in_numbers(answer)
 }
 

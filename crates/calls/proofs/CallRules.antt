@@ -8,7 +8,7 @@ use native.Mathlib.Omega.{arith}
 use lib.Dec.{eqb, leb, ltb}
 use lib.ListN.{length, getD, set, replicate, length-replicate}
 use borrow.Author.Tests.{eq-eqb, ne-eqb, eqb-true, ltb-true, lt-ltb, le-ltb}
-use mir.Syntax.{w8}
+use mir.Syntax.{w8, w64}
 use mir.Val.{Fits}
 use Rattle.model.specs.declared.Found.{Found}
 use Rattle.model.specs.declared.Found.the-variants.{At, Nowhere}
@@ -39,7 +39,6 @@ use Rattle.design.specs.Resets.{Defaults, withDefaults, lends}
 use Rattle.design.proofs.Laws.{registers-count, states-count, register-in}
 use Rattle.design.proofs.WordRules.{words-put, length-put}
 use Rattle.design.proofs.ResetRules.{states-few, defaults-of}
-use Rattle.machine_commands.specs.Executions.{valuesIn}
 use Rattle.machine.specs.Cycles.{Running, areasIn}
 use Rattle.checker.proofs.Accepted.{accepted-known}
 use Rattle.calls.specs.Stages.{leftAs, leftRegistersAs, resetOn, writePortOn, runOn}
@@ -48,6 +47,9 @@ pub registers-few : {image : List ℕ} {x : Design} → Describes image x → x 
 registers-few d = omega (arith, d .registers, d .directory .sections Registers)
 
 -- ---- the lengths that an image asks for
+pub area-fits : {image : List ℕ} {x : Design} → Describes image x → Fits w64 (4 * x .registers)
+area-fits d = let few = registers-few d in record { fits = omega arith }
+
 pub registers-bytes : {image : List ℕ} {x : Design} {n : ℕ} → Describes image x → n ≡ wordLength * x .registers → Accepted n ≡ Accepted (wordLength * length (designOf image .registers))
 registers-bytes d e = ap Accepted (rw (← registers-count d) e)
 
@@ -216,7 +218,7 @@ bytes-left {image} registers targets bytes running e =
     let d = designOf image in
     let count = registers-count (running .known .describes) in
     let area = running .area in
-    let same : bytesOf (valuesIn d registers) ≡ registers = bytes-of-words (length (d .registers)) registers bytes (omega arith) in
+    let same : bytesOf (wordsOf (length (d .registers)) registers) ≡ registers = bytes-of-words (length (d .registers)) registers bytes (omega arith) in
     rw (← e, same)
 
 pub run-makes : (d : Table) (registers targets registers₀ targets₀ : List ℕ) (n : ℕ) → runOn d (lends registers₀ targets₀) n ≡ record { answer = Accepted n; lent = lentOf (afterCycles d n (areasIn d registers₀ targets₀)) }

@@ -1,4 +1,4 @@
-use Rattle.calls.proofs.CallRules.{registers-few, targets-bytes}
+use Rattle.calls.proofs.CallRules.{targets-bytes}
 use borrow.Author.Needs.{needs}
 use Rattle.calls.proofs.areas.targets_length.Statement.{statement}
 use Rattle.calls.proofs.areas.targets_length.Tie as tie
