@@ -8,7 +8,7 @@ library = target/staticlib/libcaisson.a
 soak_sources = $(wildcard tests/soak/*.c) $(addprefix host/, box.c design.c numbers.c refusals.c say.c table.c)
 soak_build = gcc -std=c11 -O2 -Wall -Wextra -Werror -Iinclude -Ihost -Itests/soak
 
-.PHONY: test quick bench stack run host tool soak library lister install clean
+.PHONY: test quick definitions bench stack run host tool soak library lister install clean
 
 # The gate, as CI runs it: proofs from nothing, must-fail edits, tests outside Rattle.
 test:
@@ -17,6 +17,10 @@ test:
 # The tests outside Rattle alone; only what has changed is proved again.
 quick:
 	tests/run
+
+# Every wrong definition of tests/definitions, of which a proved case must refuse each; not part of the gate.
+definitions:
+	tests/definitions/run
 
 # Times of the library beside the independent implementation, in one run.
 bench: library
