@@ -6,14 +6,14 @@ ghost use mathlib.Core.Path.{_≡_};
 ghost use lib.Dec.{eqb};
 ghost use lib.ListN.{length};
 ghost use Rattle.model.specs.declared.Answer.the-variants.{Accepted};
-ghost use Rattle.model.specs.Limits.{wordLength};
+ghost use Rattle.model.specs.Limits.{wordLength, registersMax};
 ghost use Rattle.model.specs.Image.{designOf};
 ghost use Rattle.model.specs.Rules.{Keeps};
 
 // An area of so many bytes holds the registers.
 pub fn register_area_kept(design: Design, registers: usize) -> bool
-    requires { ⌜ design .registers ≤ 64 ⌝ }
-    ensures { λ r. ⌜ r ≡ eqb registers (4 * design .registers) ⌝ }
+    requires { ⌜ design .registers ≤ registersMax ⌝ }
+    ensures { λ r. ⌜ r ≡ eqb registers (wordLength * design .registers) ⌝ }
 {
     registers == Design::WORD_LENGTH * design.registers
 }

@@ -11,7 +11,7 @@ ghost use Prim.Native.Nat.{_*_};
 ghost use mathlib.Core.Path.{_≡_};
 ghost use lib.Dec.{leb};
 ghost use lib.ListN.{length};
-ghost use Rattle.model.specs.Limits.{cyclesMax};
+ghost use Rattle.model.specs.Limits.{cyclesMax, wordLength};
 ghost use Rattle.model.specs.Image.{designOf};
 ghost use Rattle.model.specs.Rules.{Keeps};
 ghost use Rattle.design.specs.Describes.{Describes};
@@ -37,7 +37,7 @@ fn run_on(
     targets: &mut [u8],
     count: u32,
 ) -> Answer
-    requires { ⌜ Keeps (now image) × Describes (now image) design × Defaults (designOf (now image)) (now defaults) × (length (now registers) ≡ 4 * design .registers) × (length (now targets) ≡ design .states) ⌝ }
+    requires { ⌜ Keeps (now image) × Describes (now image) design × Defaults (designOf (now image)) (now defaults) × (length (now registers) ≡ wordLength * design .registers) × (length (now targets) ≡ design .states) ⌝ }
     ensures { λ a. ⌜ leftAs a (now (registers .exit)) (now (targets .exit)) ≡ runOn (designOf (now (image .entry))) (lends (now (registers .entry)) (now (targets .entry))) count ⌝ }
 {
     let found = unsound(image, design, defaults, targets);

@@ -2,6 +2,7 @@
 use Prim.Native.Nat.{ℕ, _+_, _*_, _/_, _%_}
 use mathlib.Core.List.{List}
 use lib.ListN.{set}
+use Rattle.model.specs.Limits.{wordLength}
 
 abbrev pub putWord : List ℕ → ℕ → ℕ → List ℕ
-putWord bytes r v = set (set (set (set bytes (4 * r) (v % 256)) (4 * r + 1) (v / 256 % 256)) (4 * r + 2) (v / 65536 % 256)) (4 * r + 3) (v / 16777216 % 256)
+putWord bytes r v = set (set (set (set bytes (wordLength * r) (v % 256)) (wordLength * r + 1) (v / 256 % 256)) (wordLength * r + 2) (v / 65536 % 256)) (wordLength * r + 3) (v / 16777216 % 256)

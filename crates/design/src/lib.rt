@@ -288,7 +288,7 @@ impl Design {
 
     // Reset writes the reset values and default children.
     pub fn reset(self, image: &[u8], registers: &mut [u8], targets: &mut [u8])
-        requires { ⌜ Describes (now image) self × StatesKept (designOf (now image)) × (length (now registers) ≡ 4 * self .registers) × (length (now targets) ≡ self .states) ⌝ }
+        requires { ⌜ Describes (now image) self × StatesKept (designOf (now image)) × (length (now registers) ≡ wordLength * self .registers) × (length (now targets) ≡ self .states) ⌝ }
         ensures { λ _. ⌜ lends (now (registers .exit)) (now (targets .exit)) ≡ lentOf (resetAreas (designOf (now (image .entry)))) ⌝ }
     {
         reset::reset_registers(image, self, registers);

@@ -4,6 +4,7 @@ use crate::words::put_word;
 ghost use Prim.Native.Nat.{_*_, _≤_};
 ghost use mathlib.Core.Path.{_≡_};
 ghost use lib.ListN.{length};
+ghost use Rattle.model.specs.Limits.{wordLength, statesMax};
 ghost use Rattle.model.specs.Image.{designOf};
 ghost use Rattle.model.specs.Values.{bytesOf};
 ghost use Rattle.model.specs.Machine.{resetAreas};
@@ -13,7 +14,7 @@ ghost use Rattle.design.specs.Resets.{withDefaults, Filled};
 
 // Each state's entry is its own number; the bytes behind them stay.
 fn own_numbers(states: usize, table: &mut [u8])
-    requires { ⌜ (states ≤ length (now table)) × (states ≤ 64) ⌝ }
+    requires { ⌜ (states ≤ length (now table)) × (states ≤ statesMax) ⌝ }
     ensures { λ _. ⌜ Filled (λ k. k) (now (table .entry)) states (now (table .exit)) ⌝ }
 {
     let mut s = 0;
@@ -40,7 +41,7 @@ pub fn default_targets(image: &[u8], design: Design, table: &mut [u8])
 
 // Every register takes its reset value.
 pub fn reset_registers(image: &[u8], design: Design, registers: &mut [u8])
-    requires { ⌜ Describes (now image) design × (length (now registers) ≡ 4 * design .registers) ⌝ }
+    requires { ⌜ Describes (now image) design × (length (now registers) ≡ wordLength * design .registers) ⌝ }
     ensures { λ _. ⌜ now (registers .exit) ≡ bytesOf (resetAreas (designOf (now (image .entry))) .registers) ⌝ }
 {
     let mut r = 0;

@@ -3,6 +3,7 @@ use crate::Design;
 ghost use Prim.Native.Nat.{_+_, _*_, _<_, _≤_};
 ghost use mathlib.Core.Path.{_≡_};
 ghost use lib.ListN.{length};
+ghost use Rattle.model.specs.Limits.{wordLength};
 ghost use Rattle.model.specs.Image.{word32At};
 ghost use Rattle.design.specs.Words.{putWord};
 
@@ -15,8 +16,8 @@ pub fn wide(b: u8) -> u32
 
 // The value of register r.
 pub fn word(registers: &[u8], r: usize) -> u32
-    requires { ⌜ 4 * r + 4 ≤ length (now registers) ⌝ }
-    ensures { λ x. ⌜ x ≡ word32At (now (registers .entry)) (4 * r) ⌝ }
+    requires { ⌜ wordLength * r + wordLength ≤ length (now registers) ⌝ }
+    ensures { λ x. ⌜ x ≡ word32At (now (registers .entry)) (wordLength * r) ⌝ }
 {
     let at = Design::WORD_LENGTH * r;
     let low = wide(registers[at]) + 256 * wide(registers[at + 1]);
@@ -26,7 +27,7 @@ pub fn word(registers: &[u8], r: usize) -> u32
 
 // Register r takes a value; the other registers stay as they are.
 pub fn put_word(registers: &mut [u8], r: usize, v: u32)
-    requires { ⌜ 4 * r + 4 ≤ length (now registers) ⌝ }
+    requires { ⌜ wordLength * r + wordLength ≤ length (now registers) ⌝ }
     ensures { λ _. ⌜ now (registers .exit) ≡ putWord (now (registers .entry)) r v ⌝ }
 {
     let at = Design::WORD_LENGTH * r;

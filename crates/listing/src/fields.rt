@@ -7,6 +7,7 @@ ghost use Prim.Native.Nat.{_+_, _*_, _<_, _≤_};
 ghost use mathlib.Core.Path.{_≡_};
 ghost use mathlib.Core.List.{[], _∷_, _++_};
 ghost use lib.ListN.{length, take};
+ghost use Rattle.model.specs.Limits.{wordLength};
 ghost use Rattle.model.specs.Values.{wordsOf};
 ghost use Rattle.model.specs.Listing.{decimal, spaced};
 ghost use Rattle.listing.specs.Texts.{Put, parted};
@@ -42,7 +43,7 @@ fn put_walk(out: &mut [u8], at: usize, walk: &[u8], count: usize) -> usize
 
 // Puts the values of so many registers.
 fn put_registers(out: &mut [u8], at: usize, registers: &[u8], count: usize) -> usize
-    requires { ⌜ (length (now registers) ≡ 4 * count) × (at + 11 * count ≤ length (now out)) ⌝ }
+    requires { ⌜ (length (now registers) ≡ wordLength * count) × (at + 11 * count ≤ length (now out)) ⌝ }
     ensures { λ r. ⌜ Put (now (out .entry)) at (spaced (wordsOf count (now (registers .entry)))) (now (out .exit)) r ⌝ }
     ensures { λ r. ⌜ r ≤ at + 11 * count ⌝ }
 {
@@ -78,7 +79,7 @@ pub fn walk_field(out: &mut [u8], at: usize, walk: &[u8], count: usize) -> usize
 
 // The values of so many registers and a line feed.
 pub fn registers_field(out: &mut [u8], at: usize, registers: &[u8], count: usize) -> usize
-    requires { ⌜ (length (now registers) ≡ 4 * count) × (at + 11 * count < length (now out)) ⌝ }
+    requires { ⌜ (length (now registers) ≡ wordLength * count) × (at + 11 * count < length (now out)) ⌝ }
     ensures { λ r. ⌜ Put (now (out .entry)) at (spaced (wordsOf count (now (registers .entry))) ++ 10 ∷ []) (now (out .exit)) r ⌝ }
     ensures { λ r. ⌜ r ≤ at + 11 * count + 1 ⌝ }
 {

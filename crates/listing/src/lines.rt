@@ -10,6 +10,7 @@ use model::Refusal;
 ghost use Prim.Native.Nat.{_+_, _*_, _<_, _≤_};
 ghost use mathlib.Core.Path.{_≡_};
 ghost use lib.ListN.{length, take};
+ghost use Rattle.model.specs.Limits.{wordLength, statesMax, registersMax};
 ghost use Rattle.model.specs.Image.{designOf};
 ghost use Rattle.model.specs.Values.{wordsOf};
 ghost use Rattle.model.specs.Listing.{header as headerOf, line as lineOf, refusalLine};
@@ -47,7 +48,7 @@ fn line(
     registers: &[u8],
     count: usize,
 ) -> usize
-    requires { ⌜ (1421 ≤ length (now out)) × (states ≤ length (now walk)) × (states ≤ 64) × (length (now registers) ≡ 4 * count) × (count ≤ 64) ⌝ }
+    requires { ⌜ (1421 ≤ length (now out)) × (states ≤ length (now walk)) × (states ≤ statesMax) × (length (now registers) ≡ wordLength * count) × (count ≤ registersMax) ⌝ }
     ensures { λ r. ⌜ Put (now (out .entry)) 0 (lineOf number (shown (take states (now (walk .entry))) (wordsOf count (now (registers .entry))))) (now (out .exit)) r ⌝ }
     ensures { λ r. ⌜ r ≤ 1421 ⌝ }
 {

@@ -4,6 +4,7 @@ use design::reset::default_targets;
 ghost use Prim.Native.Nat.{_*_, _≤_};
 ghost use mathlib.Core.Path.{_≡_};
 ghost use lib.ListN.{length};
+ghost use Rattle.model.specs.Limits.{wordLength};
 ghost use Rattle.model.specs.Rules.{Keeps};
 ghost use Rattle.design.specs.Describes.{Describes};
 ghost use Rattle.listing.specs.Lines.{RunningAt};
@@ -16,7 +17,7 @@ pub fn start(
     registers: &mut [u8],
     targets: &mut [u8],
 )
-    requires { ⌜ Keeps (now image) × Describes (now image) design × (design .states ≤ length (now defaults)) × (length (now registers) ≡ 4 * design .registers) × (length (now targets) ≡ design .states) ⌝ }
+    requires { ⌜ Keeps (now image) × Describes (now image) design × (design .states ≤ length (now defaults)) × (length (now registers) ≡ wordLength * design .registers) × (length (now targets) ≡ design .states) ⌝ }
     ensures { λ _. ⌜ RunningAt (now (image .entry)) design (now (defaults .exit)) (now (registers .exit)) (now (targets .exit)) 0 ⌝ }
 {
     default_targets(image, design, defaults);

@@ -3,6 +3,7 @@ use Prim.Native.Nat.{ℕ, _*_, _<_}
 use mathlib.Core.Path.{_≡_}
 use mathlib.Core.List.{List, _++_}
 use lib.ListN.{length, getD, drop}
+use Rattle.model.specs.Limits.{wordLength}
 use Rattle.model.specs.Image.{Design as Table, designOf}
 use Rattle.model.specs.Rules.{Keeps}
 use Rattle.model.specs.Machine.{Areas, Cycle}
@@ -16,7 +17,7 @@ pub record Running (image : List ℕ) (x : Design) (table registers targets : Li
   pub known : RecordsKept image x
   pub keeps : Keeps image
   pub defaults : Defaults (designOf image) table
-  pub area : length registers ≡ 4 * x .registers
+  pub area : length registers ≡ wordLength * x .registers
   pub states : length targets ≡ x .states
   pub inside : (s : ℕ) → s < x .states → getD targets s 0 < x .states
 

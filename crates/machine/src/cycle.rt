@@ -8,6 +8,7 @@ use model::Outcome;
 ghost use Prim.Native.Nat.{_*_, _<_, _≤_};
 ghost use mathlib.Core.Path.{_≡_};
 ghost use lib.ListN.{length};
+ghost use Rattle.model.specs.Limits.{wordLength};
 ghost use Rattle.model.specs.Image.{designOf};
 ghost use Rattle.model.specs.Trees.{bodyOf};
 ghost use Rattle.model.specs.Machine.{exec, cycle as cycleOf, afterCycles};
@@ -17,7 +18,7 @@ ghost use Rattle.machine.specs.Cycles.{Running, Cycled, areasIn};
 
 // The command of state s runs.
 fn body(image: &[u8], design: Design, registers: &mut [u8], s: usize) -> Outcome
-    requires { ⌜ RecordsKept (now image) design × (s < design .states) × (length (now registers) ≡ 4 * design .registers) ⌝ }
+    requires { ⌜ RecordsKept (now image) design × (s < design .states) × (length (now registers) ≡ wordLength * design .registers) ⌝ }
     ensures { λ o. ⌜ (executedAs (valuesIn (designOf (now (image .entry))) (now (registers .exit))) o ≡ exec (valuesIn (designOf (now (image .entry))) (now (registers .entry))) (bodyOf (designOf (now (image .entry))) s)) × (length (now (registers .exit)) ≡ length (now (registers .entry))) ⌝ }
 {
     let command = Design::state_command(image, design.states_at, s);

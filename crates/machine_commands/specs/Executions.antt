@@ -3,6 +3,7 @@ use Prim.Native.Nat.{ℕ, _*_, _<_}
 use mathlib.Core.Path.{_≡_}
 use mathlib.Core.List.{List}
 use lib.ListN.{length}
+use Rattle.model.specs.Limits.{wordLength}
 use Rattle.model.specs.declared.Ending.the-variants.{Goto, Fall}
 use Rattle.model.specs.declared.Outcome.{Outcome}
 use Rattle.model.specs.declared.Outcome.the-variants.{Continued, Transferred}
@@ -23,14 +24,14 @@ pub record Evaluating (image : List ℕ) (at : ℕ) (registers : List ℕ) (e : 
   pub design : Design
   pub known : RecordsKept image design
   pub expression : ExpressionAt image design at e
-  pub area : length registers ≡ 4 * design .registers
+  pub area : length registers ≡ wordLength * design .registers
 
 pub record Performing (image : List ℕ) (commandsAt expressionsAt : ℕ) (registers : List ℕ) (n : ℕ) : Type 0 where
   pub design : Design
   pub known : RecordsKept image design
   pub command : CommandAt image design commandsAt n
   pub expressions-begin : expressionsAt ≡ design .«expressions_at»
-  pub area : length registers ≡ 4 * design .registers
+  pub area : length registers ≡ wordLength * design .registers
 
 -- the values of the registers
 abbrev pub valuesIn : Table → List ℕ → List ℕ

@@ -9,6 +9,7 @@ ghost use mathlib.Core.Bool.{_||_};
 ghost use mathlib.Core.Path.{_≡_};
 ghost use lib.Dec.{eqb};
 ghost use lib.ListN.{length};
+ghost use Rattle.model.specs.Limits.{wordLength};
 ghost use Rattle.model.specs.Image.{designOf, commandAt};
 ghost use Rattle.model.specs.Trees.{cmdOf};
 ghost use Rattle.model.specs.Values.{wordsOf};
@@ -64,7 +65,7 @@ fn last_run(
 
 // Command n runs: the registers are what it leaves, and the answer is what it came to.
 pub fn execute(image: &[u8], design: Design, registers: &mut [u8], n: usize) -> Outcome
-    requires { ⌜ Executing (now image) design n × (length (now registers) ≡ 4 * design .registers) ⌝ }
+    requires { ⌜ Executing (now image) design n × (length (now registers) ≡ wordLength * design .registers) ⌝ }
     ensures { λ o. ⌜ (executedAs (wordsOf (design .registers) (now (registers .exit))) o ≡ exec (wordsOf (design .registers) (now (registers .entry))) (cmdOf (designOf (now (image .entry))) n)) × (length (now (registers .exit)) ≡ length (now (registers .entry))) ⌝ }
 {
     let at = design.commands_at;
