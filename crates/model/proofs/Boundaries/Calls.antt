@@ -5,10 +5,10 @@ use lib.ListN.{replicate}
 use Rattle.model.specs.declared.Refusal.the-variants.{AssignFlow, Area, CycleCount}
 use Rattle.model.specs.declared.Answer.the-variants.{Accepted, Refused}
 use Rattle.model.specs.Answers.{numbersOf}
-use Rattle.model.specs.Calls.{Lent, check, runAnswer}
+use Rattle.model.specs.Calls.{Lent, check, registersLength, targetsLength, runAnswer}
 use Rattle.model.specs.Parties.{resets, writes, runs, perform}
 use Rattle.model.proofs.Opened.{everything, accepted, refused, told, lent, anyLent, resetLent, shortLent, groupsLent}
-use Rattle.model.proofs.Designs.{lease, twoGroups, highToLow}
+use Rattle.model.proofs.Designs.{lease, twoGroups, smallest, highToLow}
 
 -- "Every call makes the image checks 1 to 12 first": check too, and every call where areas, register and count are right
 shows-check-refuses : numbersOf (check highToLow) ∷ numbersOf (check []) ∷ [] ≡ refused 10 1 ∷ refused 1 0 ∷ []
@@ -111,3 +111,16 @@ someLent = lent (1 ∷ 2 ∷ 3 ∷ 4 ∷ 5 ∷ 6 ∷ 7 ∷ 8 ∷ []) (2 ∷ 1 �
 
 shows-run-of-0 : told (perform lease someLent (runs 0)) ≡ (accepted 0, someLent)
 shows-run-of-0 = unfold everything in refl
+
+-- the lengths of the areas: 4 bytes for each of two and of four registers, one for each of five and of eight states, none for no register
+shows-registers-length : map (λ image. numbersOf (registersLength image)) (lease ∷ twoGroups ∷ smallest ∷ []) ≡ accepted 8 ∷ accepted 16 ∷ accepted 0 ∷ []
+shows-registers-length = unfold everything in refl
+
+shows-targets-length : map (λ image. numbersOf (targetsLength image)) (lease ∷ twoGroups ∷ smallest ∷ []) ≡ accepted 5 ∷ accepted 8 ∷ accepted 2 ∷ []
+shows-targets-length = unfold everything in refl
+
+-- and the image's refusal
+shows-lengths-refused
+    : map numbersOf (registersLength highToLow ∷ targetsLength highToLow ∷ registersLength [] ∷ targetsLength [] ∷ [])
+    ≡ refused 10 1 ∷ refused 10 1 ∷ refused 1 0 ∷ refused 1 0 ∷ []
+shows-lengths-refused = unfold everything in refl
