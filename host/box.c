@@ -1,13 +1,15 @@
 #include "box.h"
 
-#include "table.h"
-
 caisson_answer box_start(struct box *box, const uint8_t *image, size_t image_length)
 {
     box->image = image;
     box->image_length = image_length;
-    box->registers_length = CAISSON_WORD * table_registers(image);
-    box->targets_length = table_states(image);
+    /* Of a refused image both are 0, and the reset refuses it again. */
+    box->registers_length = caisson_registers_length(image, image_length).count;
+    box->targets_length = caisson_targets_length(image, image_length).count;
+    /* A library with larger limits than the header's must not be lent more than there is. */
+    if (box->registers_length > sizeof box->registers || box->targets_length > sizeof box->targets)
+        return (caisson_answer){.number = CAISSON_AREA};
     return box_reset(box);
 }
 
@@ -26,6 +28,11 @@ caisson_answer box_run(struct box *box, uint32_t cycles)
 {
     return caisson_run(box->image, box->image_length, box->registers, box->registers_length, box->targets,
                        box->targets_length, cycles);
+}
+
+size_t box_registers(const struct box *box)
+{
+    return box->registers_length / CAISSON_WORD;
 }
 
 uint32_t box_value(const struct box *box, size_t reg)

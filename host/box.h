@@ -11,15 +11,15 @@
 #include "caisson.h"
 
 struct box {
-    const uint8_t *image; /* accepted by caisson_check; must outlive the box */
+    const uint8_t *image; /* must outlive the box */
     size_t image_length;
-    size_t registers_length;
+    size_t registers_length; /* as the library tells it for the image; so is the next */
     size_t targets_length;
     uint8_t registers[CAISSON_REGISTERS * CAISSON_WORD];
     uint8_t targets[CAISSON_STATES];
 };
 
-/* Takes an image that caisson_check has accepted, and resets the areas. */
+/* Takes an image and the lengths of its areas, and resets these. A refused image is refused here. */
 CAISSON_LOOK_AT_ANSWER
 caisson_answer box_start(struct box *box, const uint8_t *image, size_t image_length);
 
@@ -32,7 +32,10 @@ caisson_answer box_write_port(struct box *box, uint32_t reg, uint32_t value);
 CAISSON_LOOK_AT_ANSWER
 caisson_answer box_run(struct box *box, uint32_t cycles);
 
-/* The value of a register, whose number must be below the count. */
+/* How many registers there are; at most CAISSON_REGISTERS. */
+size_t box_registers(const struct box *box);
+
+/* The value of a register, whose number must be below that. */
 uint32_t box_value(const struct box *box, size_t reg);
 
 #endif

@@ -17,7 +17,7 @@ static enum status not_written(void)
 
 static bool line_write(const struct box *box, uint64_t cycle, const struct party *party)
 {
-    size_t registers = table_registers(box->image);
+    size_t registers = box_registers(box);
 
     if (printf("cycle %" PRIu64 " party %.*s:", cycle, (int)party->name_length, party->name) < 0)
         return false;

@@ -3,7 +3,7 @@
 #include "caisson.h"
 
 /* The directory: pairs of 16-bit offset and length, in this order. docs/FORMAT.md has the records. */
-enum section { LABELS = 0, REGISTERS = 1, STATES = 2 };
+enum section { LABELS = 0, REGISTERS = 1 };
 
 enum {
     DIRECTORY_PAIR = 4, /* bytes of a pair */
@@ -22,24 +22,9 @@ static const uint8_t *records(const uint8_t *image, enum section section)
     return image + number_at(image + DIRECTORY_PAIR * section);
 }
 
-static size_t length(const uint8_t *image, enum section section)
-{
-    return number_at(image + DIRECTORY_PAIR * section + 2);
-}
-
 size_t table_labels(const uint8_t *image)
 {
-    return length(image, LABELS) / CAISSON_LABEL_LENGTH;
-}
-
-size_t table_registers(const uint8_t *image)
-{
-    return length(image, REGISTERS) / CAISSON_REGISTER_LENGTH;
-}
-
-size_t table_states(const uint8_t *image)
-{
-    return length(image, STATES) / CAISSON_STATE_LENGTH;
+    return number_at(image + DIRECTORY_PAIR * LABELS + 2) / CAISSON_LABEL_LENGTH;
 }
 
 bool table_flows(const uint8_t *image, size_t from, size_t to)

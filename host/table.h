@@ -3,7 +3,8 @@
  *
  * Only for an image that caisson_check has accepted. Nothing is checked here: offsets and labels are
  * taken as they stand, and the acceptance is the reason why they lie within the image. Register and
- * label numbers given must be below the counts.
+ * label numbers given must be below the counts. The lengths of the areas are the library's to tell:
+ * box.h has them.
  */
 #ifndef TABLE_H
 #define TABLE_H
@@ -12,9 +13,7 @@
 #include <stddef.h>
 #include <stdint.h>
 
-size_t table_labels(const uint8_t *image);    /* how many labels; from 1 to CAISSON_LABELS */
-size_t table_registers(const uint8_t *image); /* how many registers; at most CAISSON_REGISTERS */
-size_t table_states(const uint8_t *image);    /* how many states; from 1 to CAISSON_STATES */
+size_t table_labels(const uint8_t *image); /* how many labels; from 1 to CAISSON_LABELS */
 
 /* Whether label `from` flows to label `to`, that is, lies at or below it. */
 bool table_flows(const uint8_t *image, size_t from, size_t to);

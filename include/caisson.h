@@ -18,12 +18,12 @@
  *   an expression                CAISSON_EXPRESSION_PLACE plus its node number
  *   nothing of these             0
  *
- * It is the lowest that breaks the rule. `count` is what was done, and 0 on every refusal. A refusal
- * changes no byte of the areas.
+ * It is the lowest that breaks the rule. `count` is the cycles that were run or the length that was
+ * asked for, and 0 on every refusal. A refusal changes no byte of the areas.
  *
  * The state of a design is two areas that the host owns and lends to each call: registers,
  * CAISSON_WORD bytes each, least significant byte first, and targets, one byte for each state. Their
- * lengths are CAISSON_WORD times the number of registers and the number of states, neither more nor
+ * lengths are those that caisson_registers_length and caisson_targets_length answer, neither more nor
  * less. An area of length 0 may be NULL. The host may read the registers between calls. To keep the
  * parties apart it changes them only by caisson_reset, caisson_write_port and caisson_run.
  *
@@ -131,7 +131,8 @@ enum caisson_refusal {
 typedef struct {
     uint32_t number; /* 0: accepted; otherwise a caisson_refusal */
     size_t place;    /* where; 0 on acceptance */
-    size_t count;    /* the cycles of an accepted run; 0 from every other call and on every refusal */
+    size_t count;    /* accepted: of a run its cycles, of a length call the length in bytes, of every
+                        other call 0; refused: 0 */
 } caisson_answer;
 
 #if defined(__GNUC__) || defined(__clang__)
@@ -148,6 +149,23 @@ typedef struct {
 CAISSON_LOOK_AT_ANSWER
 caisson_answer caisson_check(const uint8_t *image, /* the image's bytes */
                              size_t image_len);    /* how many there are */
+
+/*
+ * Answers the length in bytes of the register area as `count`: CAISSON_WORD for each register of the
+ * image, so 0 for an image without registers and never more than CAISSON_REGISTERS * CAISSON_WORD.
+ * Refusals: 1 to 12, as from caisson_check.
+ */
+CAISSON_LOOK_AT_ANSWER
+caisson_answer caisson_registers_length(const uint8_t *image, /* the image's bytes */
+                                        size_t image_len);    /* how many there are */
+
+/*
+ * Answers the length in bytes of the target area as `count`: one for each state of the image, so at
+ * least 1 and never more than CAISSON_STATES. Refusals: 1 to 12, as from caisson_check.
+ */
+CAISSON_LOOK_AT_ANSWER
+caisson_answer caisson_targets_length(const uint8_t *image, /* the image's bytes */
+                                      size_t image_len);    /* how many there are */
 
 /*
  * Writes each register's reset value and each state's default target: its lowest-numbered child, or

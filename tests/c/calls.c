@@ -1,4 +1,5 @@
-/* The library called from C: 01's lease design checked and run, null slices, and what is refused. */
+/* The library called from C: 01's lease design checked, its areas' lengths told, and run; null slices, and
+   what is refused. */
 #include <stdio.h>
 #include <string.h>
 
@@ -34,6 +35,18 @@ static const uint8_t lease[] = {
     3, 0, 1, 0, 2, 0, 0, 0, /* 3: e1 - e2 */
     1, 0, 0, 0, 0, 0, 0, 0, /* 4: r0 */
     1, 1, 0, 0, 0, 0, 0, 0, /* 5: r1 */
+};
+
+/* A design without registers: a root that falls, and its child, which goes to itself. */
+static const uint8_t smallest[] = {
+    20, 0, 2, 0, 22, 0, 0, 0, 22, 0, 8, 0, 30, 0, 16, 0, 46, 0, 0, 0,
+    /* labels */
+    1, 0,
+    /* states */
+    0, 0, 0, 0, 0, 0, 1, 0,
+    /* commands */
+    3, 0, 0, 0, 0, 0, 0, 0, /* 0: fall */
+    4, 1, 0, 0, 0, 0, 0, 0, /* 1: goto 1 */
 };
 
 static int failures;
@@ -77,6 +90,29 @@ static void checks(void)
     memcpy(damaged, lease, sizeof lease);
     damaged[49] = 0; /* the label of state 3, which branches on the port of label 1 */
     expect("a secret branch in a low state", caisson_check(damaged, sizeof damaged), CAISSON_GOTO_FLOW, 10, 0);
+}
+
+/* Each length is told for an accepted image alone; a refusal is that of caisson_check. */
+static void lengths(void)
+{
+    uint8_t damaged[sizeof lease];
+
+    expect("the registers' length", caisson_registers_length(lease, sizeof lease), CAISSON_ACCEPTED, 0,
+           2 * CAISSON_WORD);
+    expect("the targets' length", caisson_targets_length(lease, sizeof lease), CAISSON_ACCEPTED, 0, 5);
+    expect("the registers' length of no registers", caisson_registers_length(smallest, sizeof smallest),
+           CAISSON_ACCEPTED, 0, 0);
+    expect("the targets' length of two states", caisson_targets_length(smallest, sizeof smallest), CAISSON_ACCEPTED,
+           0, 2);
+
+    expect("the registers' length of a null image", caisson_registers_length(NULL, 0), CAISSON_DIRECTORY, 0, 0);
+    expect("the targets' length of a null image", caisson_targets_length(NULL, 0), CAISSON_DIRECTORY, 0, 0);
+    memcpy(damaged, lease, sizeof lease);
+    damaged[49] = 0; /* the label of state 3, as above: refused by the last pass */
+    expect("the registers' length of a refused image", caisson_registers_length(damaged, sizeof damaged),
+           CAISSON_GOTO_FLOW, 10, 0);
+    expect("the targets' length of a refused image", caisson_targets_length(damaged, sizeof damaged),
+           CAISSON_GOTO_FLOW, 10, 0);
 }
 
 /* Document 01's four lines, with r1 = 7 written after the second cycle. */
@@ -135,6 +171,7 @@ static void refusals(void)
 int main(void)
 {
     checks();
+    lengths();
     cycles();
     refusals();
     if (failures == 0)

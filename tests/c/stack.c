@@ -25,6 +25,16 @@ static void *check(void *unused) {
     return unused;
 }
 
+static void *registers_length(void *unused) {
+    answer = caisson_registers_length(image, image_len);
+    return unused;
+}
+
+static void *targets_length(void *unused) {
+    answer = caisson_targets_length(image, image_len);
+    return unused;
+}
+
 static void *reset(void *unused) {
     answer = caisson_reset(image, image_len, registers, registers_len, targets, targets_len);
     return unused;
@@ -73,19 +83,21 @@ static void expect_accepted(const char *path, const char *what) {
     exit(2);
 }
 
-/* Reads a design with a port; once it is accepted, it tells the lengths of the areas. */
+/* Reads a design with a port and asks for the lengths of its areas. */
 static void read_design(const char *path) {
     FILE *file = fopen(path, "rb");
     if (!file)
         fail(path);
     image_len = fread(image, 1, sizeof image, file);
     fclose(file);
-    check(NULL);
-    expect_accepted(path, "check");
-    registers_len = CAISSON_WORD * table_registers(image);
-    targets_len = table_states(image);
+    registers_length(NULL);
+    expect_accepted(path, "registers_length");
+    registers_len = answer.count;
+    targets_length(NULL);
+    expect_accepted(path, "targets_length");
+    targets_len = answer.count;
     port = 0;
-    while (port + 1 < table_registers(image) && !table_is_port(image, port))
+    while (CAISSON_WORD * (port + 1) < registers_len && !table_is_port(image, port))
         port++;
 }
 
@@ -93,7 +105,12 @@ int main(int count, char **paths) {
     static const struct {
         const char *name;
         void *(*call)(void *);
-    } calls[] = {{"check", check}, {"reset", reset}, {"write_port", write_port}, {"run", run}};
+    } calls[] = {{"check", check},
+                 {"registers_length", registers_length},
+                 {"targets_length", targets_length},
+                 {"reset", reset},
+                 {"write_port", write_port},
+                 {"run", run}};
     for (int i = 1; i < count; i++) {
         read_design(paths[i]);
         size_t without = used(nothing);

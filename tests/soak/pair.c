@@ -49,7 +49,7 @@ static size_t low_record(const struct pair *pair, const struct box *box, uint8_t
 {
     size_t length = 0;
 
-    for (size_t reg = 0; reg < table_registers(pair->image); reg++) {
+    for (size_t reg = 0; reg < box_registers(box); reg++) {
         if (table_sees(pair->image, pair->level, reg)) {
             memcpy(record + length, box->registers + CAISSON_WORD * reg, CAISSON_WORD);
             length += CAISSON_WORD;
@@ -151,7 +151,7 @@ static bool sample(struct pair *pair)
 /* The ports at or below the level, and the others. */
 static void sort_registers(struct pair *pair)
 {
-    for (uint32_t reg = 0; reg < table_registers(pair->image); reg++) {
+    for (uint32_t reg = 0; reg < box_registers(&pair->boxes[0]); reg++) {
         bool low = table_sees(pair->image, pair->level, reg);
 
         pair->low_registers += low;
@@ -167,9 +167,11 @@ static void sort_registers(struct pair *pair)
 bool pair_start(struct pair *pair, const uint8_t *image, size_t length, size_t level, uint64_t seed)
 {
     *pair = (struct pair){.image = image, .level = level, .random = seed};
+    if (!accepted("reset", box_start(&pair->boxes[0], image, length)) ||
+        !accepted("reset", box_start(&pair->boxes[1], image, length)))
+        return false;
     sort_registers(pair);
-    return accepted("reset", box_start(&pair->boxes[0], image, length)) &&
-           accepted("reset", box_start(&pair->boxes[1], image, length));
+    return true;
 }
 
 /* A low write, or in turns with it one cycle more, in the first box alone. */
