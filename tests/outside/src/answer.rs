@@ -9,7 +9,7 @@ pub struct Answer {
     pub number: u32,
     /// The offending label, register, state or node; an expression is 1,024 plus its number.
     pub place: usize,
-    /// The cycles done by a run; 0 otherwise.
+    /// The cycles done by a run, the length told of an area; 0 otherwise.
     pub count: usize,
 }
 

@@ -5,6 +5,8 @@ use std::ptr;
 
 extern "C" {
     fn caisson_check(image: *const u8, image_len: usize) -> Answer;
+    fn caisson_registers_length(image: *const u8, image_len: usize) -> Answer;
+    fn caisson_targets_length(image: *const u8, image_len: usize) -> Answer;
 }
 
 extern "C" {
@@ -42,9 +44,23 @@ pub fn check(image: &[u8]) -> Answer {
     unsafe { caisson_check(image.as_ptr(), image.len()) }
 }
 
-/// The empty image as a C host may lend it: a null pointer with length 0.
-pub fn check_null() -> Answer {
-    unsafe { caisson_check(ptr::null(), 0) }
+pub fn registers_length(image: &[u8]) -> Answer {
+    unsafe { caisson_registers_length(image.as_ptr(), image.len()) }
+}
+
+pub fn targets_length(image: &[u8]) -> Answer {
+    unsafe { caisson_targets_length(image.as_ptr(), image.len()) }
+}
+
+/// The three answers about the empty image as a C host may lend it: a null pointer with length 0.
+pub fn about_null() -> [Answer; 3] {
+    unsafe {
+        [
+            caisson_check(ptr::null(), 0),
+            caisson_registers_length(ptr::null(), 0),
+            caisson_targets_length(ptr::null(), 0),
+        ]
+    }
 }
 
 pub fn reset(image: &[u8], registers: &mut [u8], targets: &mut [u8]) -> Answer {

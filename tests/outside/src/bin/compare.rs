@@ -5,7 +5,6 @@ use caisson_tests::compare::arguments::Arguments;
 use caisson_tests::compare::check;
 use caisson_tests::compare::difference::Difference;
 use caisson_tests::compare::lists;
-use caisson_tests::compare::tally::Tally;
 use std::process::ExitCode;
 use std::time::{Duration, Instant};
 
@@ -42,14 +41,14 @@ fn each_seed(
 }
 
 fn compare_checks(arguments: &Arguments) -> bool {
-    let mut tally = Tally::default();
-    if let Err(difference) = check::fixed_images(&mut tally) {
+    let mut tallies = check::Tallies::default();
+    if let Err(difference) = check::fixed_images(&mut tallies) {
         difference.report("the fixed images");
         return false;
     }
-    let equal = each_seed(arguments, |seed| check::images_of_seed(seed, &mut tally));
-    tally.print("check");
-    let missing = tally.missing(12);
+    let equal = each_seed(arguments, |seed| check::images_of_seed(seed, &mut tallies));
+    tallies.print();
+    let missing = tallies.missing();
     if !missing.is_empty() {
         println!("never met: {missing:?}");
     }

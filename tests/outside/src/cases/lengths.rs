@@ -1,8 +1,9 @@
-//! Refusals 13 to 15: areas, targets, ports and cycle counts. No lent byte changes.
+//! The lengths of the areas, and refusals 13 to 15: areas, targets, ports and cycle counts. No lent
+//! byte changes.
 
 use super::Areas;
 use crate::answer::Answer;
-use crate::designs::{lease, smallest};
+use crate::designs::{lease, smallest, two_groups};
 use crate::reference;
 
 /// Makes the call on copies and sees that a refusal leaves them alone.
@@ -37,6 +38,24 @@ fn ports() {
     areas.registers.truncate(4);
     assert_eq!(write(&areas, 0), (14, 0));
     assert_eq!(write(&areas, 1), (14, 0));
+}
+
+#[test]
+fn lengths_told() {
+    for (table, registers, targets) in [(lease(), 8, 5), (smallest(), 0, 2), (two_groups(), 16, 8)]
+    {
+        let image = table.image();
+        assert_eq!(
+            reference::registers_length(&image),
+            Answer::accepted(registers)
+        );
+        assert_eq!(reference::targets_length(&image), Answer::accepted(targets));
+        // An image that is refused has no lengths.
+        let refused = Answer::refused(1, 0);
+        let shorter = &image[..image.len() - 1];
+        assert_eq!(reference::registers_length(shorter), refused);
+        assert_eq!(reference::targets_length(shorter), refused);
+    }
 }
 
 #[test]

@@ -1,53 +1,130 @@
-//! Random images, judged by both.
+//! Random images, judged by both: by check, and a share of them by the calls that tell the lengths
+//! of the areas.
 
 use super::difference::Difference;
 use super::tally::Tally;
+use crate::answer::Answer;
 use crate::generate::random::Random;
 use crate::generate::{design, faults, Size};
 use crate::table::Table;
 use crate::{designs, library, reference};
 
-/// Judges one image by both; it stands in an allocation of exactly its length.
-pub fn compare(image: Vec<u8>, tally: &mut Tally) -> Result<(), Difference> {
-    let lent: Box<[u8]> = image.clone().into_boxed_slice();
-    let expected = reference::check(&image);
-    let given = library::check(&lent);
-    if given != expected {
-        return Err(Difference::new(&image, "check", given, expected));
-    }
-    if lent[..] != image[..] {
-        return Err(Difference::new(&image, "check", "changed the image", ""));
-    }
-    tally.add(expected, image.len());
-    Ok(())
+/// The lengths are asked for on the images of one seed in so many: each of the calls takes as long
+/// as check, which is to judge the most images.
+const LENGTHS_EVERY: u64 = 4;
+
+/// A call that takes an image alone, by both.
+struct Call {
+    name: &'static str,
+    library: fn(&[u8]) -> Answer,
+    reference: fn(&[u8]) -> Answer,
 }
 
-/// The images that need no chance.
-pub fn fixed_images(tally: &mut Tally) -> Result<(), Difference> {
-    let expected = reference::check(&[]);
-    let given = library::check_null();
-    if given != expected {
-        return Err(Difference::new(&[], "null, length 0", given, expected));
+/// Check stands first.
+const CALLS: [Call; 3] = [
+    Call {
+        name: "check",
+        library: library::check,
+        reference: reference::check,
+    },
+    Call {
+        name: "registers length",
+        library: library::registers_length,
+        reference: reference::registers_length,
+    },
+    Call {
+        name: "targets length",
+        library: library::targets_length,
+        reference: reference::targets_length,
+    },
+];
+
+/// The tallies of the three calls.
+#[derive(Default)]
+pub struct Tallies([Tally; CALLS.len()]);
+
+impl Tallies {
+    pub fn print(&self) {
+        for (call, tally) in CALLS.iter().zip(&self.0) {
+            tally.print(call.name);
+        }
     }
+
+    /// What each call should have met and did not: acceptance and every image refusal.
+    pub fn missing(&self) -> Vec<String> {
+        let mut missing = Vec::new();
+        for (call, tally) in CALLS.iter().zip(&self.0) {
+            for number in tally.missing(12) {
+                missing.push(format!("{number} of {}", call.name));
+            }
+        }
+        missing
+    }
+}
+
+/// The first calls of the list, made on one image after the other.
+struct Judges<'a> {
+    calls: &'static [Call],
+    tallies: &'a mut Tallies,
+}
+
+impl Judges<'_> {
+    /// Judges one image by both; it stands in an allocation of exactly its length.
+    fn compare(&mut self, image: Vec<u8>) -> Result<(), Difference> {
+        let lent: Box<[u8]> = image.clone().into_boxed_slice();
+        for (call, tally) in self.calls.iter().zip(&mut self.tallies.0) {
+            let expected = (call.reference)(&image);
+            let given = (call.library)(&lent);
+            if given != expected {
+                return Err(Difference::new(&image, call.name, given, expected));
+            }
+            if lent[..] != image[..] {
+                let changed = "changed the image";
+                return Err(Difference::new(&image, call.name, changed, ""));
+            }
+            tally.add(expected, image.len());
+        }
+        Ok(())
+    }
+}
+
+/// The images that need no chance, judged by all calls.
+pub fn fixed_images(tallies: &mut Tallies) -> Result<(), Difference> {
+    for (call, given) in CALLS.iter().zip(library::about_null()) {
+        let expected = (call.reference)(&[]);
+        if given != expected {
+            let what = format!("{} of null, length 0", call.name);
+            return Err(Difference::new(&[], &what, given, expected));
+        }
+    }
+    let mut judges = Judges {
+        calls: &CALLS,
+        tallies,
+    };
     for table in [designs::lease(), designs::two_groups(), designs::smallest()] {
         let image = table.image();
         for length in 0..image.len() {
-            compare(image[..length].to_vec(), tally)?;
+            judges.compare(image[..length].to_vec())?;
         }
         for place in 0..image.len() {
             for byte in [0, 1, 2, 3, 4, 5, 6, 8, 9, 16, 64, 128, 255] {
                 let mut changed = image.clone();
                 changed[place] = byte;
-                compare(changed, tally)?;
+                judges.compare(changed)?;
             }
         }
-        compare(image, tally)?;
+        judges.compare(image)?;
     }
     Ok(())
 }
 
 /// One random design and many images made from it.
-pub fn images_of_seed(seed: u64, tally: &mut Tally) -> Result<(), Difference> {
+pub fn images_of_seed(seed: u64, tallies: &mut Tallies) -> Result<(), Difference> {
+    let lengths_too = seed.is_multiple_of(LENGTHS_EVERY);
+    let mut judges = Judges {
+        calls: if lengths_too { &CALLS } else { &CALLS[..1] },
+        tallies,
+    };
     let mut random = Random::new(seed);
     let size = Size::random(&mut random);
     let table = design(&mut random, size);
@@ -57,27 +134,27 @@ pub fn images_of_seed(seed: u64, tally: &mut Tally) -> Result<(), Difference> {
         let what = "the generator means this design to be accepted";
         return Err(Difference::new(&image, what, "(not asked)", made));
     }
-    compare(image.clone(), tally)?;
+    judges.compare(image.clone())?;
     for number in 2..=12 {
         for _ in 0..3 {
-            compare(spoiled(&table, &[number], &mut random), tally)?;
+            judges.compare(spoiled(&table, &[number], &mut random))?;
         }
-        compare(spoiled(&table, &[number; 3], &mut random), tally)?;
+        judges.compare(spoiled(&table, &[number; 3], &mut random))?;
     }
     for _ in 0..10 {
         let one = random.between(2, 12) as u32;
         let other = random.between(2, 12) as u32;
-        compare(spoiled(&table, &[one, other], &mut random), tally)?;
+        judges.compare(spoiled(&table, &[one, other], &mut random))?;
     }
     for _ in 0..4 {
-        compare(faults::spoil_directory(&table, &mut random), tally)?;
+        judges.compare(faults::spoil_directory(&table, &mut random))?;
     }
     for _ in 0..15 {
-        compare(faults::damaged(image.clone(), &mut random), tally)?;
+        judges.compare(faults::damaged(image.clone(), &mut random))?;
     }
     for _ in 0..3 {
-        compare(faults::resized(image.clone(), &mut random), tally)?;
-        compare(faults::senseless(&mut random), tally)?;
+        judges.compare(faults::resized(image.clone(), &mut random))?;
+        judges.compare(faults::senseless(&mut random))?;
     }
     Ok(())
 }

@@ -1,4 +1,4 @@
-//! Check, reset, port write and run on bytes. A refusal changes no lent byte.
+//! Check, the lengths of the areas, reset, port write and run on bytes. A refusal changes no lent byte.
 
 use super::image::Image;
 use super::labels::Labels;
@@ -24,6 +24,16 @@ pub fn judge(bytes: &[u8]) -> Result<Image<'_>, Refusal> {
 
 pub fn check(image: &[u8]) -> Answer {
     answer(judge(image).map(|_| 0))
+}
+
+/// The length of the register area: 4 bytes for each register.
+pub fn registers_length(image: &[u8]) -> Answer {
+    answer(judge(image).map(|image| 4 * image.registers().len()))
+}
+
+/// The length of the target area: one byte per state.
+pub fn targets_length(image: &[u8]) -> Answer {
+    answer(judge(image).map(|image| image.states().len()))
 }
 
 pub fn reset(image: &[u8], registers: &mut [u8], targets: &mut [u8]) -> Answer {

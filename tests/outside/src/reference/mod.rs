@@ -12,5 +12,5 @@ mod records;
 pub mod refusal;
 mod rules;
 
-pub use calls::{check, reset, run, walk, write_port};
+pub use calls::{check, registers_length, reset, run, targets_length, walk, write_port};
 pub use listing::listing;
