@@ -41,7 +41,7 @@ extern "C" {
 
 /* The version of the library and the number of the image's format. CHANGELOG.md says when each moves;
    docs/FORMAT.md has the format byte by byte. */
-#define CAISSON_VERSION "1.0.0"
+#define CAISSON_VERSION "1.1.0"
 #define CAISSON_FORMAT 1
 
 /* Limits of a design table. */
