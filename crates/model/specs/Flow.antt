@@ -24,18 +24,27 @@ module _ (d : Design) where
   unfoldable pub labelsRead : Expr → List ℕ
   labelsRead e = map (registerLabel d) (registersRead e)
 
+  -- "Assign: the context and each register read flow to the label written."
+  abbrev pub assignFlows : List ℕ → ℕ → Expr → Bool
+  assignFlows context r e = allFlowTo (d .rows) (context ++ labelsRead e) (registerLabel d r)
+
+  -- "Goto: the context flows to the named state's label."
+  abbrev pub gotoFlows : List ℕ → ℕ → Bool
+  gotoFlows context t = allFlowTo (d .rows) context (stateLabel d t)
+
+  -- "Fall: the context flows to the own state's label."
+  abbrev pub fallFlows : List ℕ → ℕ → Bool
+  fallFlows context s = allFlowTo (d .rows) context (stateLabel d s)
+
   -- Every flow fault of a command of state s, in the order in which the body is written. 01: "The context of a node is its state's label and the
   -- labels of all registers read in the conditions of the ifs around it."
   module _ (s : ℕ) where
     unfoldable pub flowFaults : List ℕ → Cmd → List Answer
     flowFaults context (skip n) = []
-    -- "Assign: the context and each register read flow to the label written."
-    flowFaults context (assign n r e) = refusedUnless (allFlowTo (d .rows) (context ++ labelsRead e) (registerLabel d r)) AssignFlow n
+    flowFaults context (assign n r e) = refusedUnless (assignFlows context r e) AssignFlow n
     flowFaults context (sequence n p q) = flowFaults context p ++ flowFaults context q
-    -- "Fall: the context flows to the own state's label."
-    flowFaults context (fall n) = refusedUnless (allFlowTo (d .rows) context (stateLabel d s)) FallFlow n
-    -- "Goto: the context flows to the named state's label."
-    flowFaults context (goto n t) = refusedUnless (allFlowTo (d .rows) context (stateLabel d t)) GotoFlow n
+    flowFaults context (fall n) = refusedUnless (fallFlows context s) FallFlow n
+    flowFaults context (goto n t) = refusedUnless (gotoFlows context t) GotoFlow n
     flowFaults context (branch n e p q) = flowFaults (context ++ labelsRead e) p ++ flowFaults (context ++ labelsRead e) q
 
     -- those of the whole body, whose context is the state's label

@@ -8,13 +8,13 @@ use lib.ListN.{length, getD}
 use Rattle.model.specs.Limits.{directoryLength, depthMax}
 use Rattle.model.specs.Indices.{occurrences}
 use Rattle.model.specs.Image.{Section, Labels, Registers, States, Commands, Expressions, recordLength, fewest, most, offset, size, count, end, Design, Node, registerAt, stateAt, commandAt, expressionAt, designOf}
-use Rattle.model.specs.Lattice.{flowsTo, allFlowTo, registerLabel, stateLabel}
+use Rattle.model.specs.Lattice.{flowsTo, registerLabel, stateLabel}
 use Rattle.model.specs.States.{parent, hasChild, siblingOrSelf}
 use Rattle.model.specs.Kinds.{CommandKind, skips, assigns, sequences, falls, goes, branches, unknownCommand, ExpressionKind, constants, reads, unknownExpression, operates, commandKind, expressionKind}
 use Rattle.model.specs.Trees.{Cmd, skip, assign, sequence, fall, goto, branch, exprOf, cmdOf, bodyOf, exprDepth, cmdDepth}
 use Rattle.model.specs.Nodes.{commandUses, expressionUses}
 use Rattle.model.specs.Shape.{transfers}
-use Rattle.model.specs.Flow.{labelsRead}
+use Rattle.model.specs.Flow.{labelsRead, assignFlows, gotoFlows, fallFlows}
 
 -- a section holds a whole number of records, within the table's limits
 pub record SectionKeeps (image : List ℕ) (s : Section) : Type 0 where
@@ -125,10 +125,10 @@ module _ (d : Design) where
   -- the flow rules of a command of state s in a context
   abbrev pub Flows : ℕ → List ℕ → Cmd → Type 0
   Flows s context (skip n) = Unit {0}
-  Flows s context (assign n r e) = allFlowTo (d .rows) (context ++ labelsRead d e) (registerLabel d r) ≡ true
+  Flows s context (assign n r e) = assignFlows d context r e ≡ true
   Flows s context (sequence n p q) = Flows s context p × Flows s context q
-  Flows s context (fall n) = allFlowTo (d .rows) context (stateLabel d s) ≡ true
-  Flows s context (goto n t) = allFlowTo (d .rows) context (stateLabel d t) ≡ true
+  Flows s context (fall n) = fallFlows d context s ≡ true
+  Flows s context (goto n t) = gotoFlows d context t ≡ true
   Flows s context (branch n e p q) = Flows s (context ++ labelsRead d e) p × Flows s (context ++ labelsRead d e) q
 
   -- the rules behind refusals 2 to 12

@@ -1,18 +1,15 @@
 -- A register, a state or a node is kept exactly where its record obeys its rules: the test of each field says the rule of that field.
-use Prim.Native.Nat.{ℕ, zero, suc, _≤_, _<_}
+use Prim.Native.Nat.{ℕ, zero, suc, _<_}
 use mathlib.Core.Path.{_≡_, refl}
 use mathlib.Core.Logic.{_↔_, Iff·trans}
 use mathlib.Core.Bool.{true, false, false≢true}
 use native.Mathlib.Omega.{arith}
-use Rattle.model.specs.Limits.{depthMax}
-use Rattle.model.specs.Indices.{occurrences}
 use Rattle.model.specs.Image.{Design, Node, commandAt, expressionAt}
 use Rattle.model.specs.Lattice.{stateLabel}
 use Rattle.model.specs.States.{parent, registerKept, parentKept, stateKept, childLabelKept}
 use Rattle.model.specs.Kinds.{CommandKind, skips, assigns, sequences, falls, goes, branches, unknownCommand, ExpressionKind, constants, reads, unknownExpression, operates, commandKind, expressionKind, commandHolds, expressionHolds, commandKept, expressionKept}
-use Rattle.model.specs.Trees.{exprOf, cmdOf, exprDepth, cmdDepth}
-use Rattle.model.specs.Nodes.{commandUses, expressionUses, commandUsedOnce, expressionUsedOnce, commandDepthKept, expressionDepthKept}
-use Rattle.model.specs.Rules.{FlowsTo, RegisterKeeps, StateKeeps, CommandHolds, ExpressionHolds}
+use Rattle.model.specs.Nodes.{commandUsedOnce, expressionUsedOnce, commandDepthKept, expressionDepthKept}
+use Rattle.model.specs.Rules.{RegisterKeeps, StateKeeps, CommandHolds, ExpressionHolds, CommandKeeps, ExpressionKeeps, CommandUsedOnce, ExpressionUsedOnce, CommandDepthKeeps, ExpressionDepthKeeps, ChildLabelKeeps}
 use Rattle.model.proofs.Laws.Equivalences.{less-iff, at-most-iff, equal-iff, and-iff, and-three-iff, and-four-iff}
 
 -- no node of an unknown kind is kept
@@ -48,8 +45,7 @@ module _ (d : Design) where
         λ k. ((k .root-parent, k .root-label, k .parent-below), k .label, k .command),
       )
 
-  pub child-label-iff :
-      (s : ℕ) → (childLabelKept d s ≡ true) ↔ ((s ≡ 0 → ⊥) → FlowsTo (d .rows) (stateLabel d (parent d s)) (stateLabel d s))
+  pub child-label-iff : (s : ℕ) → (childLabelKept d s ≡ true) ↔ ChildLabelKeeps d s
   unfolding childLabelKept
   child-label-iff zero = (λ e not-root. absurd (not-root refl), λ k. refl)
   child-label-iff (suc s) = (λ e not-root. e, λ k. k (λ z. omega arith))
@@ -72,27 +68,26 @@ module _ (d : Design) where
   expression-holds-iff n (operates o) x = and-four-iff equal-iff less-iff less-iff equal-iff
   expression-holds-iff n unknownExpression x = never-iff
 
-  pub command-iff : (n : ℕ) → (commandKept d n ≡ true) ↔ CommandHolds d n (commandKind (commandAt d n .kind)) (commandAt d n)
+  pub command-iff : (n : ℕ) → (commandKept d n ≡ true) ↔ CommandKeeps d n
   unfolding commandKept
   command-iff n = command-holds-iff n (commandKind (commandAt d n .kind)) (commandAt d n)
 
-  pub expression-iff :
-      (n : ℕ) → (expressionKept d n ≡ true) ↔ ExpressionHolds d n (expressionKind (expressionAt d n .kind)) (expressionAt d n)
+  pub expression-iff : (n : ℕ) → (expressionKept d n ≡ true) ↔ ExpressionKeeps d n
   unfolding expressionKept
   expression-iff n = expression-holds-iff n (expressionKind (expressionAt d n .kind)) (expressionAt d n)
 
-  pub command-used-iff : (n : ℕ) → (commandUsedOnce d n ≡ true) ↔ (occurrences n (commandUses d) ≡ 1)
+  pub command-used-iff : (n : ℕ) → (commandUsedOnce d n ≡ true) ↔ CommandUsedOnce d n
   unfolding commandUsedOnce
   command-used-iff n = equal-iff
 
-  pub expression-used-iff : (n : ℕ) → (expressionUsedOnce d n ≡ true) ↔ (occurrences n (expressionUses d) ≡ 1)
+  pub expression-used-iff : (n : ℕ) → (expressionUsedOnce d n ≡ true) ↔ ExpressionUsedOnce d n
   unfolding expressionUsedOnce
   expression-used-iff n = equal-iff
 
-  pub command-depth-iff : (n : ℕ) → (commandDepthKept d n ≡ true) ↔ (cmdDepth (cmdOf d n) ≤ depthMax)
+  pub command-depth-iff : (n : ℕ) → (commandDepthKept d n ≡ true) ↔ CommandDepthKeeps d n
   unfolding commandDepthKept
   command-depth-iff n = at-most-iff
 
-  pub expression-depth-iff : (n : ℕ) → (expressionDepthKept d n ≡ true) ↔ (exprDepth (exprOf d n) ≤ depthMax)
+  pub expression-depth-iff : (n : ℕ) → (expressionDepthKept d n ≡ true) ↔ ExpressionDepthKeeps d n
   unfolding expressionDepthKept
   expression-depth-iff n = at-most-iff

@@ -12,9 +12,9 @@ use Rattle.model.specs.declared.Answer.{Answer}
 use Rattle.model.specs.declared.Answer.the-variants.{Accepted, Refused}
 use Rattle.model.specs.Indices.{joinBelow}
 use Rattle.model.specs.Image.{Design}
-use Rattle.model.specs.Lattice.{allFlowTo, registerLabel, stateLabel}
+use Rattle.model.specs.Lattice.{stateLabel}
 use Rattle.model.specs.Trees.{Cmd, skip, assign, sequence, fall, goto, branch, bodyOf}
-use Rattle.model.specs.Flow.{labelsRead, flowFaults, stateFlowFaults, flowAnswer, nearest, flowRefusal}
+use Rattle.model.specs.Flow.{labelsRead, assignFlows, gotoFlows, fallFlows, flowFaults, stateFlowFaults, flowAnswer, nearest, flowRefusal}
 use Rattle.model.specs.Standing.{Stands, whole, in-first, in-second, in-then, in-else, AssignKeeps, GotoKeeps, FallKeeps}
 use Rattle.model.specs.Refusals.{Pass, _asks_, KeptAt, BrokenAt, AllKept, FirstBroken}
 use Rattle.model.proofs.Laws.Booleans.{true-or-false, true-unless-false}
@@ -24,7 +24,7 @@ use Rattle.model.proofs.Laws.Verdict.{same-refusal}
 use Rattle.model.proofs.Laws.Nearest.{AreRefusals, nearest-nil, nearest-either, NearestIs, nearest-is}
 use Rattle.model.proofs.Laws.Broken.{Decides, broken-or-kept}
 use Rattle.model.proofs.Exact.Flows.{all-flow-faults}
-use Rattle.model.proofs.Refused.Standing.{all-flow-iff}
+use Rattle.model.proofs.Refused.Standing.{assign-flows-iff, goto-flows-iff, fall-flows-iff}
 use Rattle.model.proofs.Refused.Kinds.{kindOf, genuine-body, fault-kind}
 
 module _ (d : Design) where
@@ -51,19 +51,19 @@ module _ (d : Design) where
       unfolding flowFaults
       fault-breaks (skip n) stands h = absurd (List·Memᴰ·not-nil h)
       fault-breaks {context} (assign n w e) stands h =
-          let fault = refused-cases _ (allFlowTo (d .rows) (context ++ labelsRead d e) (registerLabel d w)) AssignFlow n h in
+          let fault = refused-cases _ (assignFlows d context w e) AssignFlow n h in
           let same = same-refusal (fault .0) in
-          inl (sym (same .0), λ keeps. true-or-false _ (all-flow-iff d (context ++ labelsRead d e) (registerLabel d w) .1 (keeps s w context e (rw (same .1) stands))) (fault .1))
+          inl (sym (same .0), λ keeps. true-or-false _ (assign-flows-iff d context w e .1 (keeps s w context e (rw (same .1) stands))) (fault .1))
       fault-breaks {context} (sequence n p q) stands h =
           ⊎-elim (fault-breaks p (in-first stands)) (fault-breaks q (in-second stands)) (List·Memᴰ·append-cases (flowFaults d s context p) h)
       fault-breaks {context} (fall n) stands h =
-          let fault = refused-cases _ (allFlowTo (d .rows) context (stateLabel d s)) FallFlow n h in
+          let fault = refused-cases _ (fallFlows d context s) FallFlow n h in
           let same = same-refusal (fault .0) in
-          inr (inr (inl (sym (same .0), λ keeps. true-or-false _ (all-flow-iff d context (stateLabel d s) .1 (keeps s context (rw (same .1) stands))) (fault .1))))
+          inr (inr (inl (sym (same .0), λ keeps. true-or-false _ (fall-flows-iff d context s .1 (keeps s context (rw (same .1) stands))) (fault .1))))
       fault-breaks {context} (goto n t) stands h =
-          let fault = refused-cases _ (allFlowTo (d .rows) context (stateLabel d t)) GotoFlow n h in
+          let fault = refused-cases _ (gotoFlows d context t) GotoFlow n h in
           let same = same-refusal (fault .0) in
-          inr (inl (sym (same .0), λ keeps. true-or-false _ (all-flow-iff d context (stateLabel d t) .1 (keeps s t context (rw (same .1) stands))) (fault .1)))
+          inr (inl (sym (same .0), λ keeps. true-or-false _ (goto-flows-iff d context t .1 (keeps s t context (rw (same .1) stands))) (fault .1)))
       fault-breaks {context} (branch n e p q) stands h =
           ⊎-elim (fault-breaks p (in-then stands)) (fault-breaks q (in-else stands)) (List·Memᴰ·append-cases (flowFaults d s (context ++ labelsRead d e) p) h)
 
@@ -83,17 +83,17 @@ module _ (d : Design) where
     assign-keeps : (List·Memᴰ (Refused AssignFlow k) faults → ⊥) → AssignKeeps d k
     unfolding flowFaults
     assign-keeps none s w context e stands =
-        all-flow-iff d (context ++ labelsRead d e) (registerLabel d w) .0 (true-unless-false _ (λ f. none (stands-among s stands (refused-among _ AssignFlow k f))))
+        assign-flows-iff d context w e .0 (true-unless-false _ (λ f. none (stands-among s stands (refused-among _ AssignFlow k f))))
 
     goto-keeps : (List·Memᴰ (Refused GotoFlow k) faults → ⊥) → GotoKeeps d k
     unfolding flowFaults
     goto-keeps none s t context stands =
-        all-flow-iff d context (stateLabel d t) .0 (true-unless-false _ (λ f. none (stands-among s stands (refused-among _ GotoFlow k f))))
+        goto-flows-iff d context t .0 (true-unless-false _ (λ f. none (stands-among s stands (refused-among _ GotoFlow k f))))
 
     fall-keeps : (List·Memᴰ (Refused FallFlow k) faults → ⊥) → FallKeeps d k
     unfolding flowFaults
     fall-keeps none s context stands =
-        all-flow-iff d context (stateLabel d s) .0 (true-unless-false _ (λ f. none (stands-among s stands (refused-among _ FallFlow k f))))
+        fall-flows-iff d context s .0 (true-unless-false _ (λ f. none (stands-among s stands (refused-among _ FallFlow k f))))
 
     pass-kept : ((r : Refusal) → List·Memᴰ (Refused r k) faults → ⊥) → KeptAt flowPass k
     pass-kept none = (assign-keeps (none AssignFlow), (goto-keeps (none GotoFlow), (fall-keeps (none FallFlow), tt)))

@@ -3,15 +3,14 @@ use Prim.Native.Nat.{ℕ}
 use mathlib.Core.Path.{_≡_, refl, sym, _∙_, ap}
 use mathlib.Core.Logic.{⊎-elim}
 use mathlib.Core.Bool.{Bool}
-use mathlib.Core.List.{List, _++_, List·Memᴰ, List·Memᴰ·not-nil, List·Memᴰ·append-cases}
+use mathlib.Core.List.{List, List·Memᴰ, List·Memᴰ·not-nil, List·Memᴰ·append-cases}
 use Rattle.model.specs.declared.Refusal.{Refusal}
 use Rattle.model.specs.declared.Refusal.the-variants.{AssignFlow, GotoFlow, FallFlow}
 use Rattle.model.specs.declared.Answer.the-variants.{Refused}
 use Rattle.model.specs.Image.{Design, Node, stateAt, commandAt}
-use Rattle.model.specs.Lattice.{allFlowTo, registerLabel, stateLabel}
 use Rattle.model.specs.Kinds.{CommandKind, skips, assigns, sequences, falls, goes, branches, unknownCommand, commandKind}
 use Rattle.model.specs.Trees.{Expr, Cmd, skip, assign, sequence, fall, goto, branch, cmdOfKind, cmdStep, cmdOf, bodyOf}
-use Rattle.model.specs.Flow.{labelsRead, refusedUnless, flowFaults, flowRefusal}
+use Rattle.model.specs.Flow.{assignFlows, gotoFlows, fallFlows, refusedUnless, flowFaults, flowRefusal}
 use Rattle.model.proofs.Laws.Indices.{recursively-all}
 use Rattle.model.proofs.Laws.Among.{refused-cases}
 use Rattle.model.proofs.Laws.Verdict.{same-refusal}
@@ -58,10 +57,10 @@ module _ (d : Design) where
     pub fault-kind : (context : List ℕ) (c : Cmd) → Genuine c → List·Memᴰ (Refused r k) (flowFaults d s context c) → r ≡ flowRefusal (kindOf k)
     unfolding flowFaults flowRefusal
     fault-kind context (skip n) is h = absurd (List·Memᴰ·not-nil h)
-    fault-kind context (assign n w e) is h = own-kind (allFlowTo (d .rows) (context ++ labelsRead d e) (registerLabel d w)) AssignFlow n (rw is) h
+    fault-kind context (assign n w e) is h = own-kind (assignFlows d context w e) AssignFlow n (rw is) h
     fault-kind context (sequence n p q) is h =
         ⊎-elim (fault-kind context p (is .0)) (fault-kind context q (is .1)) (List·Memᴰ·append-cases (flowFaults d s context p) h)
-    fault-kind context (fall n) is h = own-kind (allFlowTo (d .rows) context (stateLabel d s)) FallFlow n (rw is) h
-    fault-kind context (goto n t) is h = own-kind (allFlowTo (d .rows) context (stateLabel d t)) GotoFlow n (rw is) h
+    fault-kind context (fall n) is h = own-kind (fallFlows d context s) FallFlow n (rw is) h
+    fault-kind context (goto n t) is h = own-kind (gotoFlows d context t) GotoFlow n (rw is) h
     fault-kind context (branch n e p q) is h =
         ⊎-elim (fault-kind _ p (is .0)) (fault-kind _ q (is .1)) (List·Memᴰ·append-cases (flowFaults d s _ p) h)

@@ -3,14 +3,15 @@ use Prim.Native.Nat.{ℕ}
 use mathlib.Core.Path.{_≡_, refl, sym, _∙_}
 use mathlib.Core.Logic.{_↔_, Iff·trans, Iff·rfl, ⊎-elim}
 use mathlib.Core.Bool.{Bool, true, false, false≢true}
-use mathlib.Core.List.{List, [], _∷_, List·Memᴰ, List·Memᴰ·head, List·Memᴰ·tail, List·Memᴰ·not-nil, List·Memᴰ·cases-cons}
+use mathlib.Core.List.{List, [], _∷_, _++_, List·Memᴰ, List·Memᴰ·head, List·Memᴰ·tail, List·Memᴰ·not-nil, List·Memᴰ·cases-cons}
 use lib.Dec.{eqb}
 use borrow.Author.Tests.{eqb-true, eq-eqb}
 use Rattle.model.specs.Image.{Design}
-use Rattle.model.specs.Lattice.{allFlowTo}
+use Rattle.model.specs.Lattice.{allFlowTo, registerLabel, stateLabel}
 use Rattle.model.specs.States.{parent, isChild, hasChild, siblingOrSelf}
-use Rattle.model.specs.Trees.{Cmd, skip, assign, sequence, fall, goto, branch}
+use Rattle.model.specs.Trees.{Expr, Cmd, skip, assign, sequence, fall, goto, branch}
 use Rattle.model.specs.Shape.{transfers}
+use Rattle.model.specs.Flow.{labelsRead, assignFlows, gotoFlows, fallFlows}
 use Rattle.model.specs.Standing.{Transfers, by-fall, by-goto, by-second, by-branches, ChildOf, AllFlow}
 use Rattle.model.proofs.Laws.Booleans.{true-or-false, false-unless-true, and-first, and-second, and-both}
 use Rattle.model.proofs.Laws.Equivalences.{less-iff, equal-iff, not-iff, and-iff, and-three-iff, some-iff}
@@ -66,7 +67,7 @@ module _ (d : Design) where
   sibling-iff s t = and-iff (Iff·trans not-iff not-equal-iff) (child-iff (parent d s) t)
 
   -- ---- flow
-  pub all-flow-iff : (labels : List ℕ) (to : ℕ) → (allFlowTo (d .rows) labels to ≡ true) ↔ AllFlow d labels to
+  all-flow-iff : (labels : List ℕ) (to : ℕ) → (allFlowTo (d .rows) labels to ≡ true) ↔ AllFlow d labels to
   unfolding allFlowTo
   all-flow-iff [] to = (λ e label h. absurd (List·Memᴰ·not-nil h), λ h. refl)
   all-flow-iff (one ∷ more) to =
@@ -75,3 +76,13 @@ module _ (d : Design) where
         λ h label among. ⊎-elim (λ (e : label ≡ one). rw e (h .0)) (λ (k : List·Memᴰ label more). h .1 label k) (List·Memᴰ·cases-cons among),
         λ h. (h one (List·Memᴰ·head refl), λ label k. h label (List·Memᴰ·tail k)),
       )
+
+  -- the rules of the verdict are those of the table
+  pub assign-flows-iff : (context : List ℕ) (r : ℕ) (e : Expr) → (assignFlows d context r e ≡ true) ↔ AllFlow d (context ++ labelsRead d e) (registerLabel d r)
+  assign-flows-iff context r e = all-flow-iff (context ++ labelsRead d e) (registerLabel d r)
+
+  pub goto-flows-iff : (context : List ℕ) (t : ℕ) → (gotoFlows d context t ≡ true) ↔ AllFlow d context (stateLabel d t)
+  goto-flows-iff context t = all-flow-iff context (stateLabel d t)
+
+  pub fall-flows-iff : (context : List ℕ) (s : ℕ) → (fallFlows d context s ≡ true) ↔ AllFlow d context (stateLabel d s)
+  fall-flows-iff context s = all-flow-iff context (stateLabel d s)
