@@ -1,6 +1,8 @@
--- The loop of the program: i cycles from reset have run, on areas of the lengths that they came with.
+-- The loop of the program: i cycles from reset have run, on areas of the lengths that they came with. It ends behind all cycles, or behind
+-- the first whose line cannot be written.
 use Prim.Native.Nat.{ℕ, _+_, _*_, _-_, _≤_, _<_}
 use mathlib.Core.Path.{_≡_, refl, sym, _∙_}
+use mathlib.Core.Bool.{Bool, true, false, true≢false}
 use mathlib.Core.List.{List}
 use native.Mathlib.Omega.{arith}
 use lib.ListN.{length}
@@ -11,6 +13,7 @@ use Rattle.model.specs.Machine.{resetAreas, afterCycles}
 use Rattle.design.specs.declared.Design.{Design}
 use Rattle.machine.specs.Cycles.{areasIn}
 use Rattle.listing.specs.Lines.{RunningAt}
+use Rattle.lister.specs.Ran.{Ran}
 
 pub record ListSo (image : List ℕ) (x : Design) (table : List ℕ) (count : ℕ) (registers₀ targets₀ : List ℕ) (i : ℕ) (registers targets : List ℕ) : Type 0 where
   pub bound : count < 4294967296
@@ -35,20 +38,26 @@ module _ {image : List ℕ} {x : Design} {count i : ℕ} {table registers₀ tar
   pub list-at : RunningAt image x table registers targets i
   list-at = so .at
 
-  pub list-more : {after gone : List ℕ} → i < count → RunningAt image x table after gone (i + 1) → length after ≡ length registers → length gone ≡ length targets → ListSo image x table count registers₀ targets₀ (i + 1) after gone
-  list-more l at same same′ =
-      record { bound = so .bound; most = omega arith; registers-long = same ∙ so .registers-long; targets-long = same′ ∙ so .targets-long; at = at }
+  pub list-long : (after : List ℕ) → length after ≡ length registers → length after ≡ length registers₀
+  list-long after same = same ∙ so .registers-long
 
-  pub list-done : count ≤ i → RunningAt image x table registers targets count
-  list-done l = let most = so .most in let all : count ≡ i = omega arith in rw all (so .at)
+  pub list-long′ : (gone : List ℕ) → length gone ≡ length targets → length gone ≡ length targets₀
+  list-long′ gone same = same ∙ so .targets-long
+
+  pub list-more : {after gone : List ℕ} → i < count → RunningAt image x table after gone (i + 1) → length after ≡ length registers → length gone ≡ length targets → ListSo image x table count registers₀ targets₀ (i + 1) after gone
+  list-more {after} {gone} l at same same′ =
+      record { bound = so .bound; most = omega arith; registers-long = list-long after same; targets-long = list-long′ gone same′; at = at }
+
+  pub list-done : count ≤ i → Ran (RunningAt image x table registers targets) count true
+  list-done l = let most = so .most in record { cycles = i; most = most; all = λ _. omega arith; at = so .at }
+
+  pub list-stopped : {after gone : List ℕ} → i < count → RunningAt image x table after gone (i + 1) → Ran (RunningAt image x table after gone) count false
+  list-stopped l at = record { cycles = i + 1; most = omega arith; all = λ e. absurd (true≢false (sym e)); at = at }
 
 -- ---- the areas behind the loop
-module _ {image table registers targets : List ℕ} {x : Design} {count : ℕ} (at : RunningAt image x table registers targets count) where
-  pub areas-after : areasIn (designOf image) registers targets ≡ afterCycles (designOf image) count (resetAreas (designOf image))
-  areas-after = at .areas
-
+module _ {image table registers targets : List ℕ} {x : Design} {count : ℕ} {written : Bool} (ran : Ran (RunningAt image x table registers targets) count written) where
   pub area-same : (before : List ℕ) → length before ≡ 4 * x .registers → length registers ≡ length before
-  area-same before e = at .running .area ∙ sym e
+  area-same before e = ran .at .running .area ∙ sym e
 
   pub targets-same : (before : List ℕ) → length before ≡ x .states → length targets ≡ length before
-  targets-same before e = at .running .states ∙ sym e
+  targets-same before e = ran .at .running .states ∙ sym e

@@ -1,5 +1,5 @@
 -- The buffer for the input is long enough: an image of more bytes than all sections can have is refused by 1 at place 0, and so is its front.
-use Prim.Native.Nat.{ℕ, _≤_, _<_}
+use Prim.Native.Nat.{ℕ, _+_, _≤_, _<_}
 use mathlib.Core.Path.{_≡_, refl, sym, _∙_, ap}
 use mathlib.Core.Bool.{Bool, true, false}
 use mathlib.Core.List.{List}
@@ -14,9 +14,10 @@ use Rattle.model.specs.Image.{Labels, Registers, States, Commands, Expressions,
 use Rattle.model.specs.Rules.{DirectoryKeeps}
 use Rattle.model.specs.Verdict.{_before_, refusedAt, verdict}
 use Rattle.model.specs.Listing.{refusalLine, listed, listing}
+use Rattle.lister.specs.Lengths.{largestImage, inputLength}
 use Rattle.model.proofs.Exact.Directories.{directory-iff}
 
-longest : (image : List ℕ) → DirectoryKeeps image → length image ≤ 25268
+longest : (image : List ℕ) → DirectoryKeeps image → length image ≤ largestImage
 longest image keeps =
     omega (
       arith,
@@ -27,7 +28,7 @@ longest image keeps =
       keeps .sections Expressions,
     )
 
-long-refused : (image : List ℕ) → 25268 < length image → verdict image ≡ Refused Directory 0
+long-refused : (image : List ℕ) → largestImage < length image → verdict image ≡ Refused Directory 0
 unfolding verdict refusedAt _before_
 long-refused image l = go (directoryKept image) refl
   where
@@ -35,18 +36,18 @@ long-refused image l = go (directoryKept image) refl
     go true e = let most = longest image (directory-iff image .0 e) in absurd (omega arith)
     go false e = rw e
 
-long-listing : (input : List ℕ) → 25270 < length input → listing input ≡ refusalLine Directory 0
+long-listing : (input : List ℕ) → largestImage + 2 < length input → listing input ≡ refusalLine Directory 0
 unfolding listing listed
 long-listing input l =
     let rest = length-drop 2 input in
     rw (le-ltb (length input) 2 (omega arith), listing, long-refused (drop 2 input) (omega arith))
 
--- the first 25,271 bytes of an input have the listing of the whole
-pub front-listing : (input : List ℕ) → listing (take 25271 input) ≡ listing input
-front-listing input = go (decLt (length input) 25271)
+-- the first bytes of an input, as many as the program reads, have the listing of the whole
+pub front-listing : (input : List ℕ) → listing (take inputLength input) ≡ listing input
+front-listing input = go (decLt (length input) inputLength)
   where
-    go : Dec (length input < 25271) → listing (take 25271 input) ≡ listing input
-    go (yes l) = ap listing (take-all 25271 input (omega arith))
+    go : Dec (length input < inputLength) → listing (take inputLength input) ≡ listing input
+    go (yes l) = ap listing (take-all inputLength input (omega arith))
     go (no l) =
-        let front = length-take-le 25271 input (omega arith) in
-        long-listing (take 25271 input) (omega arith) ∙ sym (long-listing input (omega arith))
+        let front = length-take-le inputLength input (omega arith) in
+        long-listing (take inputLength input) (omega arith) ∙ sym (long-listing input (omega arith))

@@ -1,5 +1,7 @@
 // The cycle lister: a cycle count of 16 bits and an image on standard input, the cycles from reset
 // on standard output. Each line is written at once, so the memory does not grow with the count.
+// Behind a write that failed it writes one line to standard error, and ends. No contract can speak of
+// what is written; a function that writes answers whether all of it was.
 use design::Design;
 use listing::lines::header;
 use listing::lines::next_line;
@@ -16,6 +18,8 @@ ghost use Rattle.model.specs.Machine.{resetAreas, afterCycles};
 ghost use Rattle.design.specs.Describes.{Describes};
 ghost use Rattle.machine.specs.Cycles.{areasIn};
 ghost use Rattle.listing.specs.Lines.{RunningAt};
+ghost use Rattle.lister.specs.Lengths.{inputLength};
+ghost use Rattle.lister.specs.Ran.{Ran};
 
 // A cycle count, the longest image and one byte more: whatever stands behind them, an image so long
 // is refused.
@@ -29,23 +33,28 @@ const REFUSAL: usize = 30;
 
 const LINE: usize = 1421;
 
-// Writes so many bytes to standard output.
-fn print(text: &[u8], n: usize)
+// What the program reads is as long as the front that has the listing of the whole.
+fn lengths()
+    ensures { λ _. do ⌜ (← ⟦INPUT⟧ .entry) ≡ inputLength ⌝ }
+{}
+
+// Writes so many bytes to standard output. False where that failed.
+fn print(text: &[u8], n: usize) -> bool
     requires { ⌜ n ≤ length (now text) ⌝ }
 {
-    io::write_all(1, &text[..n]);
+    io::write_all(1, &text[..n])
 }
 
-fn print_header() {
+fn print_header() -> bool {
     let mut out = [0u8; HEADER];
     let n = header(&mut out);
-    print(&out, n);
+    print(&out, n)
 }
 
-fn print_refusal(refusal: Refusal, place: u32) {
+fn print_refusal(refusal: Refusal, place: u32) -> bool {
     let mut out = [0u8; REFUSAL];
     let n = refusal_line(&mut out, refusal, place);
-    print(&out, n);
+    print(&out, n)
 }
 
 // Runs the cycle behind those done from reset, and writes its line.
@@ -56,16 +65,16 @@ fn print_cycle(
     registers: &mut [u8],
     targets: &mut [u8],
     done: u32,
-)
+) -> bool
     requires { ⌜ (done + 1 < 4294967296) × RunningAt (now image) design (now defaults) (now registers) (now targets) done ⌝ }
     ensures { λ _. ⌜ RunningAt (now (image .entry)) design (now (defaults .entry)) (now (registers .exit)) (now (targets .exit)) (done + 1) ⌝ }
 {
     let mut out = [0u8; LINE];
     let n = next_line(image, design, defaults, registers, targets, done, &mut out);
-    print(&out, n);
+    print(&out, n)
 }
 
-// Runs so many cycles from reset, and writes their lines.
+// Runs so many cycles from reset, and writes their lines. Stops at a line that cannot be written.
 fn print_cycles(
     image: &[u8],
     design: Design,
@@ -73,42 +82,53 @@ fn print_cycles(
     registers: &mut [u8],
     targets: &mut [u8],
     count: u32,
-)
+) -> bool
     requires { ⌜ RunningAt (now image) design (now defaults) (now registers) (now targets) 0 ⌝ }
-    ensures { λ _. ⌜ RunningAt (now (image .entry)) design (now (defaults .entry)) (now (registers .exit)) (now (targets .exit)) count ⌝ }
+    ensures { λ r. ⌜ Ran (RunningAt (now (image .entry)) design (now (defaults .entry)) (now (registers .exit)) (now (targets .exit))) count r ⌝ }
 {
     let mut i = 0;
     while i < count {
-        print_cycle(image, design, defaults, registers, targets, i);
+        if !print_cycle(image, design, defaults, registers, targets, i) {
+            return false;
+        }
         i += 1;
     }
+    true
 }
 
 // The lines of the cycles, on areas of the right lengths.
-fn list_on(image: &[u8], design: Design, registers: &mut [u8], targets: &mut [u8], count: u32)
+fn list_on(
+    image: &[u8],
+    design: Design,
+    registers: &mut [u8],
+    targets: &mut [u8],
+    count: u32,
+) -> bool
     requires { ⌜ (length (now registers) ≡ 4 * design .registers) × (length (now targets) ≡ design .states) × Describes (now image) design × Keeps (now image) ⌝ }
-    ensures { λ _. ⌜ areasIn (designOf (now (image .entry))) (now (registers .exit)) (now (targets .exit)) ≡ afterCycles (designOf (now (image .entry))) count (resetAreas (designOf (now (image .entry)))) ⌝ }
+    ensures { λ r. ⌜ Ran (λ cycles. areasIn (designOf (now (image .entry))) (now (registers .exit)) (now (targets .exit)) ≡ afterCycles (designOf (now (image .entry))) cycles (resetAreas (designOf (now (image .entry))))) count r ⌝ }
 {
     let mut defaults = [0u8; Design::STATES];
     start(image, design, &mut defaults, registers, targets);
-    print_cycles(image, design, &defaults, registers, targets, count);
+    print_cycles(image, design, &defaults, registers, targets, count)
 }
 
 // The listing of an image that keeps the rules.
-fn list_accepted(image: &[u8], count: u32)
+fn list_accepted(image: &[u8], count: u32) -> bool
     requires { ⌜ Keeps (now image) ⌝ }
 {
-    print_header();
+    if !print_header() {
+        return false;
+    }
     let design = Design::read(image);
     let mut registers = [0u8; REGISTERS];
     let mut targets = [0u8; Design::STATES];
     let r = Design::WORD_LENGTH * design.registers;
     let s = design.states;
-    list_on(image, design, &mut registers[..r], &mut targets[..s], count);
+    list_on(image, design, &mut registers[..r], &mut targets[..s], count)
 }
 
 // The listing of an image.
-fn list(image: &[u8], count: u32) {
+fn list(image: &[u8], count: u32) -> bool {
     let verdict = checker::verdict(image);
     match verdict {
         Answer::Refused(refusal, place) => print_refusal(refusal, place as u32),
@@ -123,13 +143,19 @@ fn word16(low: u8, high: u8) -> u32
     low as u32 + 256 * high as u32
 }
 
+// The listing of an input. One of fewer than two bytes has no image, which is refused like the empty one.
+fn list_input(input: &[u8]) -> bool {
+    if input.len() < 2 {
+        return print_refusal(Refusal::Directory, 0);
+    }
+    let count = word16(input[0], input[1]);
+    list(&input[2..], count)
+}
+
 fn main() {
     let mut input = [0u8; INPUT];
     let got = io::read_full(0, &mut input);
-    if got < 2 {
-        print_refusal(Refusal::Directory, 0);
-        return;
+    if !list_input(&input[..got]) {
+        io::write_all(2, b"lister: cannot write\n");
     }
-    let count = word16(input[0], input[1]);
-    list(&input[2..got], count);
 }

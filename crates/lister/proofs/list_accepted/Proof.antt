@@ -8,6 +8,9 @@ use Rattle.lister.proofs.list_accepted.Tie as tie
 print-header-requires : tie.Need-print-header-requires
 print-header-requires c κs = search needs
 
+returns : tie.Need-returns
+returns c = search needs
+
 read-requires : tie.Need-read-requires
 read-requires c κs = search needs
 
@@ -29,14 +32,15 @@ slice-aggregate-list-on-2 c = part-length _ _ (search (states-few, needs))
 list-on-requires : tie.Need-list-on-requires
 list-on-requires c κs = (length-take-le _ _ (search (registers-fit, needs)), length-take-le _ _ (search (states-few, needs)), search needs, search needs)
 
-returns : tie.Need-returns
-returns c = search needs
+returns-2 : tie.Need-returns-2
+returns-2 c = search needs
 
 pub list-accepted-spec : {M : Type 1} → statement M
 list-accepted-spec =
     tie.close
     (tie.spec
     print-header-requires
+    returns
     read-requires
     mul-r
     array-borrow-prefix-registers
@@ -44,4 +48,4 @@ list-accepted-spec =
     array-borrow-prefix-targets
     slice-aggregate-list-on-2
     list-on-requires
-    returns)
+    returns-2)

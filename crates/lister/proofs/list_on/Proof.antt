@@ -1,5 +1,5 @@
 use Rattle.design.proofs.ResetRules.{states-few}
-use Rattle.lister.proofs.ListRules.{area-same, targets-same, areas-after}
+use Rattle.lister.proofs.ListRules.{area-same, targets-same}
 use borrow.Author.Needs.{needs}
 use Rattle.lister.proofs.list_on.Statement.{statement}
 use Rattle.lister.proofs.list_on.Tie as tie
@@ -23,7 +23,7 @@ same-length-2 : tie.Need-same-length-2
 same-length-2 c = search targets-same
 
 returns : tie.Need-returns
-returns c = search (areas-after, needs)
+returns c = search needs
 
 pub list-on-spec : {M : Type 1} → statement M
 list-on-spec =

@@ -1,5 +1,5 @@
 use Prim.Native.Nat.{_-_}
-use Rattle.lister.proofs.ListRules.{ListSo, list-begins, list-fits, list-next, list-falls, list-at, list-more, list-done}
+use Rattle.lister.proofs.ListRules.{ListSo, list-begins, list-fits, list-next, list-falls, list-at, list-long, list-long′, list-more, list-stopped, list-done}
 use borrow.Author.Needs.{needs}
 use Rattle.lister.proofs.print_cycles.Statement.{statement}
 use Rattle.lister.proofs.print_cycles.Tie as tie
@@ -16,6 +16,15 @@ loop-holds c = search (list-begins, needs)
 print-cycle-requires : tie.Need-print-cycle-requires Inv-loop μ-loop
 print-cycle-requires c κs = (search (list-fits, needs), search (list-at, needs))
 
+same-length : tie.Need-same-length Inv-loop μ-loop
+same-length c = search (list-long, needs)
+
+same-length-2 : tie.Need-same-length-2 Inv-loop μ-loop
+same-length-2 c = search (list-long′, needs)
+
+returns : tie.Need-returns Inv-loop μ-loop
+returns c = search (list-stopped, needs)
+
 add-i : tie.Need-add-i Inv-loop μ-loop
 add-i c = search (list-next, needs)
 
@@ -25,14 +34,14 @@ loop-less c = search (list-falls, needs)
 loop-again : tie.Need-loop-again Inv-loop μ-loop
 loop-again c = search (list-more, needs)
 
-same-length : tie.Need-same-length Inv-loop μ-loop
-same-length c = search needs
+same-length-3 : tie.Need-same-length-3 Inv-loop μ-loop
+same-length-3 c = search needs
 
-same-length-2 : tie.Need-same-length-2 Inv-loop μ-loop
-same-length-2 c = search needs
+same-length-4 : tie.Need-same-length-4 Inv-loop μ-loop
+same-length-4 c = search needs
 
-returns : tie.Need-returns Inv-loop μ-loop
-returns c = search (list-done, needs)
+returns-2 : tie.Need-returns-2 Inv-loop μ-loop
+returns-2 c = search (list-done, needs)
 
 pub print-cycles-spec : {M : Type 1} → statement M
 print-cycles-spec =
@@ -42,9 +51,12 @@ print-cycles-spec =
     μ-loop
     loop-holds
     print-cycle-requires
+    same-length
+    same-length-2
+    returns
     add-i
     loop-less
     loop-again
-    same-length
-    same-length-2
-    returns)
+    same-length-3
+    same-length-4
+    returns-2)
