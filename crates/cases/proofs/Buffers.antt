@@ -8,15 +8,15 @@ use borrow.Author.Needs.{needs}
 use Rattle.cases.specs.declared.Lent.{Lent}
 use Rattle.cases.specs.declared.Step.{Step}
 use Rattle.cases.specs.declared.Step.the-variants.{Next}
-use Rattle.cases.specs.Fits.{Fits, StepFits, next}
+use Rattle.cases.specs.Fits.{imageRoom, registersRoom, targetsRoom, Fits, StepFits, next}
 
 pub part-length : (n : ℕ) (bytes : List ℕ) → n ≤ length bytes → n ≡ length (take n bytes)
 part-length n bytes h = sym (length-take-le n bytes h)
 
-pub image-fits : {lent : Lent} (a : ℕ) → Fits lent → a ≤ 25269 → StepFits (Next (record { image = a; registers = lent .registers; targets = lent .targets }))
-image-fits a fits h = next (record { image = h; registers = fits .registers; targets = fits .targets })
+pub image-fits : {lent : Lent} (a : ℕ) → Fits lent → a ≤ imageRoom → Fits (record { image = a; registers = lent .registers; targets = lent .targets })
+image-fits a fits h = record { image = h; registers = fits .registers; targets = fits .targets }
 
-pub areas-fit : {lent : Lent} (a b : ℕ) → Fits lent → a ≤ 264 → b ≤ 72 → StepFits (Next (record { image = lent .image; registers = a; targets = b }))
+pub areas-fit : {lent : Lent} (a b : ℕ) → Fits lent → a ≤ registersRoom → b ≤ targetsRoom → StepFits (Next (record { image = lent .image; registers = a; targets = b }))
 areas-fit a b fits h g = next (record { image = fits .image; registers = h; targets = g })
 
 pub nothing-fits : Fits (record { image = 0; registers = 0; targets = 0 })

@@ -1,14 +1,27 @@
 -- The calls are lent no more bytes than the buffers hold.
-use Prim.Native.Nat.{_≤_}
+use Prim.Native.Nat.{ℕ, _+_, _*_, _≤_}
+use Rattle.model.specs.Limits.{directoryLength, labelLength, registerLength, stateLength, nodeLength, labelsMax, registersMax, statesMax, commandsMax, expressionsMax}
 use Rattle.cases.specs.declared.Lent.{Lent}
 use Rattle.cases.specs.declared.Step.{Step}
-use Rattle.cases.specs.declared.Step.the-variants.{Next, Ended}
+use Rattle.cases.specs.declared.Step.the-variants.{Next, Ended, Unwritten}
+
+-- one byte more than the largest image, whose sections have as many records as they may have
+abbrev pub imageRoom : ℕ
+imageRoom = directoryLength + labelLength * labelsMax + registerLength * registersMax + stateLength * statesMax + nodeLength * commandsMax + nodeLength * expressionsMax + 1
+
+-- the areas
+abbrev pub registersRoom : ℕ
+registersRoom = 264
+
+abbrev pub targetsRoom : ℕ
+targetsRoom = 72
 
 pub record Fits (lent : Lent) : Type 0 where
-  pub image : lent .image ≤ 25269
-  pub registers : lent .registers ≤ 264
-  pub targets : lent .targets ≤ 72
+  pub image : lent .image ≤ imageRoom
+  pub registers : lent .registers ≤ registersRoom
+  pub targets : lent .targets ≤ targetsRoom
 
 pub data StepFits : Step → Type 0 where
   next : {lent : Lent} → Fits lent → StepFits (Next lent)
   ended : StepFits Ended
+  unwritten : StepFits Unwritten

@@ -15,14 +15,15 @@
 // Numbers that a kind does not use are not looked at. The areas are two lines, `  registers` and
 // `  targets`, each with its bytes as numbers. Before the first image and the first areas they are
 // empty. A record that is cut off, too long or of another kind is printed as `bad record` and is
-// the last. So is record 65,536.
+// the last. So is record 65,536. Behind a write that failed the program writes one line to standard
+// error, and ends. A function that writes answers whether all of it was written.
 use calls::numbers::number;
 use design::Design;
 use model::Answer;
 ghost use Prim.Native.Nat.{_+_, _*_, _≤_};
 ghost use mathlib.Core.Path.{_≡_};
 ghost use lib.ListN.{length};
-ghost use Rattle.cases.specs.Fits.{Fits, StepFits};
+ghost use Rattle.cases.specs.Fits.{imageRoom, registersRoom, targetsRoom, Fits, StepFits};
 
 // The most records.
 const RECORDS: u32 = 65536;
@@ -49,10 +50,11 @@ struct Lent {
     targets: usize,
 }
 
-// What a record comes to.
+// What a record comes to: the next one, the end, or a write that failed.
 enum Step {
     Next(Lent),
     Ended,
+    Unwritten,
 }
 
 // The number of 32 bits that four bytes hold, the lowest first.
@@ -62,59 +64,76 @@ fn word(a: u8, b: u8, c: u8, d: u8) -> u32
     a as u32 + 256 * b as u32 + 65536 * c as u32 + 16777216 * d as u32
 }
 
-// Writes to standard output.
-fn print(text: &[u8]) {
-    io::write_all(1, text);
+// Writes to standard output. False where that failed.
+fn print(text: &[u8]) -> bool {
+    io::write_all(1, text)
 }
 
 // A space and a number.
-fn print_number(n: u64) {
-    print(b" ");
-    io::print_decimal(1, n);
+fn print_number(n: u64) -> bool {
+    print(b" ") && io::print_decimal(1, n)
 }
 
 // An answer in numbers ends the line of its call.
-fn print_answer(number: u64, place: u64, count: u64) {
-    print(b":");
-    print_number(number);
-    print_number(place);
-    print_number(count);
-    print(b"\n");
+fn print_answer(number: u64, place: u64, count: u64) -> bool {
+    print(b":")
+        && print_number(number)
+        && print_number(place)
+        && print_number(count)
+        && print(b"\n")
 }
 
 // Prints a call's answer.
-fn answered(answer: Answer) {
+fn answered(answer: Answer) -> bool {
     match answer {
         Answer::Accepted(count) => print_answer(0, 0, count as u64),
         Answer::Refused(refusal, place) => print_answer(number(refusal) as u64, place as u64, 0),
     }
 }
 
-fn print_byte(b: u8) {
-    print_number(b as u64);
+fn print_byte(b: u8) -> bool {
+    print_number(b as u64)
+}
+
+// Each byte as a number.
+fn print_numbers(bytes: &[u8]) -> bool {
+    let mut i = 0;
+    while i < bytes.len() {
+        if !print_byte(bytes[i]) {
+            return false;
+        }
+        i += 1;
+    }
+    true
 }
 
 // A line of bytes.
-fn print_bytes(name: &[u8], bytes: &[u8]) {
-    print(name);
-    let mut i = 0;
-    while i < bytes.len() {
-        print_byte(bytes[i]);
-        i += 1;
-    }
-    print(b"\n");
+fn print_bytes(name: &[u8], bytes: &[u8]) -> bool {
+    print(name) && print_numbers(bytes) && print(b"\n")
 }
 
-fn print_areas(registers: &[u8], targets: &[u8]) {
-    print_bytes(b"  registers", registers);
-    print_bytes(b"  targets", targets);
+fn print_areas(registers: &[u8], targets: &[u8]) -> bool {
+    print_bytes(b"  registers", registers) && print_bytes(b"  targets", targets)
+}
+
+// Goes on with what is lent, where all was written.
+fn next(written: bool, lent: Lent) -> Step
+    requires { ⌜ Fits lent ⌝ }
+    ensures { λ r. ⌜ StepFits r ⌝ }
+{
+    if !written {
+        return Step::Unwritten;
+    }
+    Step::Next(lent)
 }
 
 // The answer to a record that is not as it should be.
 fn bad() -> Step
     ensures { λ r. ⌜ StepFits r ⌝ }
 {
-    print(b"bad record\n");
+    if !print(b"bad record\n") {
+        return Step::Unwritten;
+    }
     Step::Ended
 }
 
@@ -126,34 +145,41 @@ fn fill(buffer: &mut [u8], n: usize) -> bool
     got == n
 }
 
-fn check(image: &[u8]) {
-    print(b"check");
+fn check(image: &[u8]) -> bool {
     let answer = calls::check(image);
-    answered(answer);
+    print(b"check") && answered(answer)
 }
 
-fn reset(image: &[u8], registers: &mut [u8], targets: &mut [u8]) {
-    print(b"reset");
+fn reset(image: &[u8], registers: &mut [u8], targets: &mut [u8]) -> bool {
     let answer = calls::reset(image, registers, targets);
-    answered(answer);
-    print_areas(registers, targets);
+    print(b"reset") && answered(answer) && print_areas(registers, targets)
 }
 
-fn write_port(image: &[u8], registers: &mut [u8], targets: &[u8], register: u32, value: u32) {
-    print(b"write");
-    print_number(register as u64);
-    print_number(value as u64);
+fn write_port(
+    image: &[u8],
+    registers: &mut [u8],
+    targets: &[u8],
+    register: u32,
+    value: u32,
+) -> bool {
     let answer = calls::write_port(image, registers, register, value);
-    answered(answer);
-    print_areas(registers, targets);
+    print(b"write")
+        && print_number(register as u64)
+        && print_number(value as u64)
+        && answered(answer)
+        && print_areas(registers, targets)
 }
 
-fn run(image: &[u8], registers: &mut [u8], targets: &mut [u8], count: u32) {
-    print(b"run");
-    print_number(count as u64);
+fn run(image: &[u8], registers: &mut [u8], targets: &mut [u8], count: u32) -> bool {
     let answer = calls::run(image, registers, targets, count);
-    answered(answer);
-    print_areas(registers, targets);
+    print(b"run")
+        && print_number(count as u64)
+        && answered(answer)
+        && print_areas(registers, targets)
+}
+
+fn print_note(text: &[u8]) -> bool {
+    print(b"# ") && print(text) && print(b"\n")
 }
 
 // A note.
@@ -168,15 +194,12 @@ fn note(length: usize, lent: Lent) -> Step
     if !fill(&mut text, length) {
         return bad();
     }
-    print(b"# ");
-    print(&text[..length]);
-    print(b"\n");
-    Step::Next(lent)
+    next(print_note(&text[..length]), lent)
 }
 
 // An image of a bytes.
 fn new_image(image: &mut [u8], a: usize, lent: Lent) -> Step
-    requires { ⌜ (25269 ≡ length (now image)) × Fits lent ⌝ }
+    requires { ⌜ (imageRoom ≡ length (now image)) × Fits lent ⌝ }
     ensures { λ r. ⌜ StepFits r ⌝ }
 {
     if IMAGE < a {
@@ -185,17 +208,24 @@ fn new_image(image: &mut [u8], a: usize, lent: Lent) -> Step
     if !fill(image, a) {
         return bad();
     }
-    check(&image[..a]);
-    Step::Next(Lent {
+    let written = check(&image[..a]);
+    let lent = Lent {
         image: a,
         registers: lent.registers,
         targets: lent.targets,
-    })
+    };
+    next(written, lent)
 }
 
 // Areas of a and b bytes.
-fn new_areas(registers: &mut [u8], targets: &mut [u8], a: usize, b: usize, lent: Lent) -> Step
-    requires { ⌜ (264 ≡ length (now registers)) × (72 ≡ length (now targets)) × Fits lent ⌝ }
+fn new_areas(
+    registers: &mut [u8; REGISTERS],
+    targets: &mut [u8; TARGETS],
+    a: usize,
+    b: usize,
+    lent: Lent,
+) -> Step
+    requires { ⌜ Fits lent ⌝ }
     ensures { λ r. ⌜ StepFits r ⌝ }
 {
     if REGISTERS < a {
@@ -217,38 +247,26 @@ fn new_areas(registers: &mut [u8], targets: &mut [u8], a: usize, b: usize, lent:
     })
 }
 
-// Makes a call. False where the kind is none.
+// Makes the call of a kind from 3 to 5.
 fn call(image: &[u8], registers: &mut [u8], targets: &mut [u8], head: Head) -> bool {
     let kind = head.kind;
     match kind {
-        3 => {
-            reset(image, registers, targets);
-            true
-        }
-        4 => {
-            write_port(image, registers, targets, head.a, head.b);
-            true
-        }
-        5 => {
-            run(image, registers, targets, head.a);
-            true
-        }
-        _ => false,
+        3 => reset(image, registers, targets),
+        4 => write_port(image, registers, targets, head.a, head.b),
+        _ => run(image, registers, targets, head.a),
     }
 }
 
 // A call on what is lent.
 fn called(image: &[u8], registers: &mut [u8], targets: &mut [u8], head: Head, lent: Lent) -> Step
-    requires { ⌜ (25269 ≡ length (now image)) × (264 ≡ length (now registers)) × (72 ≡ length (now targets)) × Fits lent ⌝ }
+    requires { ⌜ (imageRoom ≡ length (now image)) × (registersRoom ≡ length (now registers)) × (targetsRoom ≡ length (now targets)) × Fits lent ⌝ }
     ensures { λ r. ⌜ StepFits r ⌝ }
 {
     let i = lent.image;
     let r = lent.registers;
     let t = lent.targets;
-    if !call(&image[..i], &mut registers[..r], &mut targets[..t], head) {
-        return bad();
-    }
-    Step::Next(lent)
+    let written = call(&image[..i], &mut registers[..r], &mut targets[..t], head);
+    next(written, lent)
 }
 
 // Does what a record says.
@@ -269,7 +287,8 @@ fn followed(
         0 => note(a, lent),
         1 => new_image(image, a, lent),
         2 => new_areas(registers, targets, a, b, lent),
-        _ => called(image, registers, targets, head, lent),
+        3 | 4 | 5 => called(image, registers, targets, head, lent),
+        _ => bad(),
     }
 }
 
@@ -297,7 +316,8 @@ fn record(
     followed(image, registers, targets, Head { kind, a, b }, lent)
 }
 
-fn main() {
+// Reads the records and does what they say.
+fn records() -> bool {
     let mut image = [0u8; IMAGE];
     let mut registers = [0u8; REGISTERS];
     let mut targets = [0u8; TARGETS];
@@ -309,10 +329,18 @@ fn main() {
     let mut left = RECORDS;
     while 0 < left {
         let step = record(&mut image, &mut registers, &mut targets, lent);
-        let Step::Next(next) = step else {
-            return;
-        };
-        lent = next;
+        match step {
+            Step::Next(next) => lent = next,
+            Step::Ended => return true,
+            Step::Unwritten => return false,
+        }
         left -= 1;
+    }
+    true
+}
+
+fn main() {
+    if !records() {
+        io::write_all(2, b"cases: cannot write\n");
     }
 }

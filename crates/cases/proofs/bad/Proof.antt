@@ -1,4 +1,4 @@
-use Rattle.cases.specs.Fits.{ended}
+use Rattle.cases.specs.Fits.{ended, unwritten}
 use borrow.Author.Needs.{needs}
 use Rattle.cases.proofs.bad.Statement.{statement}
 use Rattle.cases.proofs.bad.Tie as tie
@@ -10,7 +10,10 @@ print-requires : tie.Need-print-requires
 print-requires c κs = search needs
 
 returns : tie.Need-returns
-returns c = search (ended, needs)
+returns c = search (unwritten, needs)
+
+returns-2 : tie.Need-returns-2
+returns-2 c = search (ended, needs)
 
 pub bad-spec : {M : Type 1} → statement M
-bad-spec = tie.close (tie.spec slice-aggregate-print print-requires returns)
+bad-spec = tie.close (tie.spec slice-aggregate-print print-requires returns returns-2)

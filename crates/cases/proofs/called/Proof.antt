@@ -1,5 +1,4 @@
 use Rattle.cases.proofs.Buffers.{part-length}
-use Rattle.cases.specs.Fits.{next}
 use borrow.Author.Needs.{needs}
 use Rattle.cases.proofs.called.Statement.{statement}
 use Rattle.cases.proofs.called.Tie as tie
@@ -22,8 +21,8 @@ slice-aggregate-call-3 c = part-length _ _ (search needs)
 call-requires : tie.Need-call-requires
 call-requires c κs = search needs
 
-bad-requires : tie.Need-bad-requires
-bad-requires c κs = search needs
+next-requires : tie.Need-next-requires
+next-requires c κs = search needs
 
 same-length : tie.Need-same-length
 same-length c = search needs
@@ -33,15 +32,6 @@ same-length-2 c = search needs
 
 returns : tie.Need-returns
 returns c = search needs
-
-same-length-3 : tie.Need-same-length-3
-same-length-3 c = search needs
-
-same-length-4 : tie.Need-same-length-4
-same-length-4 c = search needs
-
-returns-2 : tie.Need-returns-2
-returns-2 c = search (next, needs)
 
 pub called-spec : {M : Type 1} → statement M
 called-spec =
@@ -53,10 +43,7 @@ called-spec =
     slice-relend-prefix-call-2
     slice-aggregate-call-3
     call-requires
-    bad-requires
+    next-requires
     same-length
     same-length-2
-    returns
-    same-length-3
-    same-length-4
-    returns-2)
+    returns)

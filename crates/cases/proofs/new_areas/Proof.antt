@@ -21,9 +21,6 @@ fill-requires c κs = search needs
 bad-requires-3 : tie.Need-bad-requires-3
 bad-requires-3 c κs = search needs
 
-same-length : tie.Need-same-length
-same-length c = search needs
-
 returns-3 : tie.Need-returns-3
 returns-3 c = search needs
 
@@ -33,20 +30,8 @@ fill-requires-2 c κs = search needs
 bad-requires-4 : tie.Need-bad-requires-4
 bad-requires-4 c κs = search needs
 
-same-length-2 : tie.Need-same-length-2
-same-length-2 c = search needs
-
-same-length-3 : tie.Need-same-length-3
-same-length-3 c = search needs
-
 returns-4 : tie.Need-returns-4
 returns-4 c = search needs
-
-same-length-4 : tie.Need-same-length-4
-same-length-4 c = search needs
-
-same-length-5 : tie.Need-same-length-5
-same-length-5 c = search needs
 
 returns-5 : tie.Need-returns-5
 returns-5 c = search (areas-fit, needs)
@@ -61,13 +46,8 @@ new-areas-spec =
     returns-2
     fill-requires
     bad-requires-3
-    same-length
     returns-3
     fill-requires-2
     bad-requires-4
-    same-length-2
-    same-length-3
     returns-4
-    same-length-4
-    same-length-5
     returns-5)

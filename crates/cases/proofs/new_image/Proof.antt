@@ -30,11 +30,14 @@ slice-aggregate-check c = part-length _ _ (search needs)
 check-requires : tie.Need-check-requires
 check-requires c κs = search needs
 
+next-requires : tie.Need-next-requires
+next-requires c κs = search (image-fits, needs)
+
 same-length-2 : tie.Need-same-length-2
 same-length-2 c = search needs
 
 returns-3 : tie.Need-returns-3
-returns-3 c = search (image-fits, needs)
+returns-3 c = search needs
 
 pub new-image-spec : {M : Type 1} → statement M
 new-image-spec =
@@ -49,5 +52,6 @@ new-image-spec =
     slice-reshare-prefix-check
     slice-aggregate-check
     check-requires
+    next-requires
     same-length-2
     returns-3)

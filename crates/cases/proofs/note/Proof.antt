@@ -1,5 +1,4 @@
 use Rattle.cases.proofs.Buffers.{part-length}
-use Rattle.cases.specs.Fits.{next}
 use borrow.Author.Needs.{needs}
 use Rattle.cases.proofs.note.Statement.{statement}
 use Rattle.cases.proofs.note.Tie as tie
@@ -22,29 +21,20 @@ bad-requires-2 c κs = search needs
 returns-2 : tie.Need-returns-2
 returns-2 c = search needs
 
-slice-aggregate-print : tie.Need-slice-aggregate-print
-slice-aggregate-print c = search needs
-
-print-requires : tie.Need-print-requires
-print-requires c κs = search needs
-
 array-share-prefix-text : tie.Need-array-share-prefix-text
 array-share-prefix-text c = search needs
 
-slice-aggregate-print-2 : tie.Need-slice-aggregate-print-2
-slice-aggregate-print-2 c = part-length _ _ (search needs)
+slice-aggregate-print-note : tie.Need-slice-aggregate-print-note
+slice-aggregate-print-note c = part-length _ _ (search needs)
 
-print-requires-2 : tie.Need-print-requires-2
-print-requires-2 c κs = search needs
+print-note-requires : tie.Need-print-note-requires
+print-note-requires c κs = search needs
 
-slice-aggregate-print-3 : tie.Need-slice-aggregate-print-3
-slice-aggregate-print-3 c = search needs
-
-print-requires-3 : tie.Need-print-requires-3
-print-requires-3 c κs = search needs
+next-requires : tie.Need-next-requires
+next-requires c κs = search needs
 
 returns-3 : tie.Need-returns-3
-returns-3 c = search (next, needs)
+returns-3 c = search needs
 
 pub note-spec : {M : Type 1} → statement M
 note-spec =
@@ -56,11 +46,8 @@ note-spec =
     fill-requires
     bad-requires-2
     returns-2
-    slice-aggregate-print
-    print-requires
     array-share-prefix-text
-    slice-aggregate-print-2
-    print-requires-2
-    slice-aggregate-print-3
-    print-requires-3
+    slice-aggregate-print-note
+    print-note-requires
+    next-requires
     returns-3)

@@ -1,8 +1,8 @@
 use Rattle.cases.proofs.Buffers.{nothing-fits, next-fits}
 use Rattle.cases.specs.Fits.{Fits}
 use borrow.Author.Needs.{needs}
-use Rattle.cases.proofs.main.Statement.{statement}
-use Rattle.cases.proofs.main.Tie as tie
+use Rattle.cases.proofs.records.Statement.{statement}
+use Rattle.cases.proofs.records.Tie as tie
 
 abbrev Inv-loop : tie.InvT-loop
 Inv-loop image₀ registers₀ targets₀ lent₀ left₀ image registers targets lent left = Fits lent
@@ -25,6 +25,12 @@ enum-told c = search needs
 returns : tie.Need-returns Inv-loop μ-loop
 returns c = search needs
 
+enum-told-2 : tie.Need-enum-told-2 Inv-loop μ-loop
+enum-told-2 c = search needs
+
+returns-2 : tie.Need-returns-2 Inv-loop μ-loop
+returns-2 c = search needs
+
 sub-left : tie.Need-sub-left Inv-loop μ-loop
 sub-left c = search needs
 
@@ -34,11 +40,11 @@ loop-less c = search needs
 loop-again : tie.Need-loop-again Inv-loop μ-loop
 loop-again c = search (next-fits, needs)
 
-returns-2 : tie.Need-returns-2 Inv-loop μ-loop
-returns-2 c = search needs
+returns-3 : tie.Need-returns-3 Inv-loop μ-loop
+returns-3 c = search needs
 
-pub main-spec : {M : Type 1} → statement M
-main-spec =
+pub records-spec : {M : Type 1} → statement M
+records-spec =
     tie.close
     (tie.spec
     Inv-loop
@@ -48,7 +54,9 @@ main-spec =
     enum-known-step
     enum-told
     returns
+    enum-told-2
+    returns-2
     sub-left
     loop-less
     loop-again
-    returns-2)
+    returns-3)
