@@ -116,15 +116,12 @@ fn list_on(
 fn list_accepted(image: &[u8], count: u32) -> bool
     requires { ⌜ Keeps (now image) ⌝ }
 {
-    if !print_header() {
-        return false;
-    }
     let design = Design::read(image);
     let mut registers = [0u8; REGISTERS];
     let mut targets = [0u8; Design::STATES];
     let r = Design::WORD_LENGTH * design.registers;
     let s = design.states;
-    list_on(image, design, &mut registers[..r], &mut targets[..s], count)
+    print_header() && list_on(image, design, &mut registers[..r], &mut targets[..s], count)
 }
 
 // The listing of an image.
@@ -143,7 +140,7 @@ fn word16(low: u8, high: u8) -> u32
     low as u32 + 256 * high as u32
 }
 
-// The listing of an input. One of fewer than two bytes has no image, which is refused like the empty one.
+// The listing of an input. One of fewer than two bytes is refused as one with the empty image is.
 fn list_input(input: &[u8]) -> bool {
     if input.len() < 2 {
         return print_refusal(Refusal::Directory, 0);

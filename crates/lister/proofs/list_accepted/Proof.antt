@@ -5,17 +5,14 @@ use borrow.Author.Needs.{needs}
 use Rattle.lister.proofs.list_accepted.Statement.{statement}
 use Rattle.lister.proofs.list_accepted.Tie as tie
 
-print-header-requires : tie.Need-print-header-requires
-print-header-requires c κs = search needs
-
-returns : tie.Need-returns
-returns c = search needs
-
 read-requires : tie.Need-read-requires
 read-requires c κs = search needs
 
 mul-r : tie.Need-mul-r
 mul-r c = search needs
+
+print-header-requires : tie.Need-print-header-requires
+print-header-requires c κs = search needs
 
 array-borrow-prefix-registers : tie.Need-array-borrow-prefix-registers
 array-borrow-prefix-registers c = search (registers-fit, needs)
@@ -32,6 +29,9 @@ slice-aggregate-list-on-2 c = part-length _ _ (search (states-few, needs))
 list-on-requires : tie.Need-list-on-requires
 list-on-requires c κs = (length-take-le _ _ (search (registers-fit, needs)), length-take-le _ _ (search (states-few, needs)), search needs, search needs)
 
+returns : tie.Need-returns
+returns c = search needs
+
 returns-2 : tie.Need-returns-2
 returns-2 c = search needs
 
@@ -39,13 +39,13 @@ pub list-accepted-spec : {M : Type 1} → statement M
 list-accepted-spec =
     tie.close
     (tie.spec
-    print-header-requires
-    returns
     read-requires
     mul-r
+    print-header-requires
     array-borrow-prefix-registers
     slice-aggregate-list-on
     array-borrow-prefix-targets
     slice-aggregate-list-on-2
     list-on-requires
+    returns
     returns-2)
