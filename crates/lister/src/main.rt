@@ -12,6 +12,7 @@ use model::Refusal;
 ghost use Prim.Native.Nat.{_+_, _*_, _<_, _≤_};
 ghost use mathlib.Core.Path.{_≡_};
 ghost use lib.ListN.{length};
+ghost use Rattle.model.specs.Limits.{wordLength};
 ghost use Rattle.model.specs.Image.{designOf};
 ghost use Rattle.model.specs.Rules.{Keeps};
 ghost use Rattle.model.specs.Machine.{resetAreas, afterCycles};
@@ -104,7 +105,7 @@ fn list_on(
     targets: &mut [u8],
     count: u32,
 ) -> bool
-    requires { ⌜ (length (now registers) ≡ 4 * design .registers) × (length (now targets) ≡ design .states) × Describes (now image) design × Keeps (now image) ⌝ }
+    requires { ⌜ (length (now registers) ≡ wordLength * design .registers) × (length (now targets) ≡ design .states) × Describes (now image) design × Keeps (now image) ⌝ }
     ensures { λ r. ⌜ Ran (λ cycles. areasIn (designOf (now (image .entry))) (now (registers .exit)) (now (targets .exit)) ≡ afterCycles (designOf (now (image .entry))) cycles (resetAreas (designOf (now (image .entry))))) count r ⌝ }
 {
     let mut defaults = [0u8; Design::STATES];
