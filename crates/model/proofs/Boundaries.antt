@@ -1,4 +1,4 @@
--- Cases that each hold one sentence of document 01 in place: at its boundary the definition gives what the sentence says, and a definition that is off by
+-- Cases that each hold one sentence of document 01 or 02 in place: at its boundary the definition gives what the sentence says, and a definition that is off by
 -- one, or leaves a part out, does not. They are named for what they show. `tests/definitions` has the wrong definitions that they refuse.
 pub mod Images
 pub mod Lattices
@@ -6,6 +6,7 @@ pub mod Records
 pub mod Nodes
 pub mod Depths
 pub mod Bodies
+pub mod Ports
 pub mod Flows
 pub mod Cycles
 pub mod Calls

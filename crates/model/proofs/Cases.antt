@@ -1,4 +1,4 @@
--- The table of proved cases: document 01's P1 to P10, its examples and the small points that are decided. Each holds because both sides compute to the same.
+-- The table of proved cases: document 01's P1 to P10, its examples and document 02's, and the small points that are decided. Each holds because both sides compute to the same.
 use Prim.Native.Nat.{_+_}
 use mathlib.Core.Path.{_≡_, refl, ap}
 use mathlib.Core.List.{[], _∷_, _++_, map}
@@ -18,7 +18,7 @@ use Rattle.model.specs.Calls.{leaves, areasOf, lentOf, check, reset, run
 use Rattle.model.specs.Listing.{bytesOfText, decimal, lines, listing}
 use Rattle.model.specs.Parties.{resets, writes, runs, perform, events, atEnd}
 use Rattle.model.proofs.Opened.{checks, everything, accepted, refused, judged, told, lent, areas, faultOfRows, cyclesOf, walks, pairOf, anyLent, resetLent, shortLent, longLent, longTargets, unsoundLent, groupsLent}
-use Rattle.model.proofs.Designs.{lease, deep, deepCondition, twoGroups, tower, ofRows, smallest, kindTwo, ownParent, noCommands, kindSix, expressionKindNine, sharedCommand, twiceInSequence, halfTransferring, halfInside, transfersFirst, onlySkips, rootGoes, gotoRoot, rootAlone, lowUnderHigh, highToLow, acrossLabels, secretBranch, flatLease, secretGotos, gotoBelowAssign, secretFalls, fallOrGoto}
+use Rattle.model.proofs.Designs.{lease, deep, deepCondition, twoGroups, tower, ofRows, smallest, kindTwo, ownParent, noCommands, kindSix, expressionKindNine, sharedCommand, twiceInSequence, halfTransferring, halfInside, transfersFirst, onlySkips, rootGoes, gotoRoot, rootAlone, portAssigned, lowUnderHigh, highToLow, acrossLabels, secretBranch, flatLease, secretGotos, gotoBelowAssign, secretFalls, fallOrGoto}
 
 -- 01, 'Proved cases, one table'.
 
@@ -213,6 +213,10 @@ refusal-08-root-goes = unfold checks in refl
 refusal-08-root-alone : judged rootAlone ≡ refused 8 0
 refusal-08-root-alone = unfold checks in refl
 
+-- 02, E1, 16: a design that overwrites "a reading before anyone has used it"
+refusal-16-port-assigned : judged portAssigned ≡ refused 16 1
+refusal-16-port-assigned = unfold checks in refl
+
 -- 9: "label 0 under label 1"
 refusal-09-low-under-high : judged lowUnderHigh ≡ refused 9 2
 refusal-09-low-under-high = unfold checks in refl
@@ -249,7 +253,7 @@ refusal-12-secret-falls = unfold checks in refl
 refusal-12-fall-or-goto : judged fallOrGoto ≡ refused 12 1
 refusal-12-fall-or-goto = unfold checks in refl
 
--- "Every call makes the image checks 1 to 12 first": with a refused image, though the area is too short
+-- "Every call makes the image checks .. first": with a refused image, though the area is too short
 image-first
     : map (λ call. told (perform highToLow shortLent call)) (resets ∷ writes 0 7 ∷ runs 1 ∷ [])
     ≡ (refused 10 1, shortLent) ∷ (refused 10 1, shortLent) ∷ (refused 10 1, shortLent) ∷ []

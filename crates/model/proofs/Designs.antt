@@ -287,6 +287,16 @@ gotoRoot = oneState (1 ∷ []) [] 1 (goesTo 0 ∷ []) []
 abbrev pub rootAlone : List ℕ
 rootAlone = assemble (1 ∷ []) [] (stateRecord 0 0 0 ∷ []) (falls ∷ []) []
 
+-- 16: r0 := 0; r1 := r0; goto 1, where r0 is a port: the reading is overwritten before it is used
+abbrev pub portAssigned : List ℕ
+portAssigned =
+    oneState
+    (1 ∷ [])
+    (registerRecord 0 1 0 ∷ registerRecord 0 0 0 ∷ [])
+    5
+    (assigns 0 0 ∷ assigns 1 1 ∷ goesTo 1 ∷ sequences 2 3 ∷ sequences 1 4 ∷ [])
+    (constant 0 ∷ reads 0 ∷ [])
+
 -- 9: state 2 with label 0 under state 1 with label 1
 abbrev pub lowUnderHigh : List ℕ
 lowUnderHigh = assemble chain [] (stateRecord 0 0 0 ∷ stateRecord 0 1 1 ∷ stateRecord 1 0 2 ∷ []) (falls ∷ falls ∷ goesTo 2 ∷ []) []

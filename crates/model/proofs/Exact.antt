@@ -3,7 +3,7 @@ use Prim.Native.Nat.{ℕ}
 use mathlib.Core.Path.{_≡_}
 use mathlib.Core.Logic.{_↔_, Iff·trans}
 use mathlib.Core.List.{List}
-use Rattle.model.specs.declared.Refusal.the-variants.{Directory, LabelRow, RegisterRecord, StateRecord, NodeRecord, NodeUse, Depth, Shape, ChildLabel}
+use Rattle.model.specs.declared.Refusal.the-variants.{Directory, LabelRow, RegisterRecord, StateRecord, NodeRecord, NodeUse, Depth, Shape, ChildLabel, PortAssigned}
 use Rattle.model.specs.declared.Answer.the-variants.{Accepted}
 use Rattle.model.specs.Answers.{numbersOf}
 use Rattle.model.specs.Calls.{check}
@@ -15,7 +15,7 @@ use Rattle.model.proofs.Laws.Numbers.{told-accepted}
 use Rattle.model.proofs.Laws.Verdict.{before-iff}
 use Directories.{directory-iff}
 use Labels.{lattice-iff}
-use Records.{register-iff, state-iff, child-label-iff, command-iff, expression-iff, command-used-iff, expression-used-iff, command-depth-iff, expression-depth-iff}
+use Records.{register-iff, state-iff, port-iff, child-label-iff, command-iff, expression-iff, command-used-iff, expression-used-iff, command-depth-iff, expression-depth-iff}
 use Shapes.{shape-iff}
 use Flows.{flow-iff}
 pub mod Directories
@@ -29,7 +29,7 @@ infixr 5 _and_
 _and_ : {P Q : Type 0} → P → Q → P × Q
 p and q = (p, q)
 
--- checks 2 to 12
+-- checks 2 to 12 and 16
 pub design-verdict-exact : (d : Design) → (designVerdict d ≡ Accepted 0) ↔ DesignKeeps d
 unfolding designVerdict
 design-verdict-exact d =
@@ -41,9 +41,10 @@ design-verdict-exact d =
     (before-iff NodeUse (node-iff d (command-used-iff d) (expression-used-iff d))
     (before-iff Depth (node-iff d (command-depth-iff d) (expression-depth-iff d))
     (before-iff Shape (shape-iff d)
+    (before-iff PortAssigned (failing-iff (port-iff d))
     (before-iff ChildLabel (failing-iff (child-label-iff d))
-    (flow-iff d))))))))) (
-      λ (lattice, (registers, (states, (nodes, (uses, (depths, (shapes, (children, flows)))))))).
+    (flow-iff d)))))))))) (
+      λ (lattice, (registers, (states, (nodes, (uses, (depths, (shapes, (ports, (children, flows))))))))).
           record {
             lattice = lattice;
             registers = registers;
@@ -56,6 +57,7 @@ design-verdict-exact d =
             expressions-depth = depths .1;
             transferring = λ s l. shapes s l .0;
             shaped = λ s l. shapes s l .1;
+            ports = ports;
             child-labels = children;
             flowing = flows;
           },
@@ -67,11 +69,12 @@ design-verdict-exact d =
           and (k .commands-used and k .expressions-used)
           and (k .commands-depth and k .expressions-depth)
           and (λ s l. k .transferring s l and k .shaped s l)
+          and k .ports
           and k .child-labels
           and k .flowing,
     )
 
--- checks 1 to 12
+-- all image checks
 pub verdict-exact : (image : List ℕ) → (verdict image ≡ Accepted 0) ↔ Keeps image
 unfolding verdict
 verdict-exact image =

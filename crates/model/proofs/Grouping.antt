@@ -44,18 +44,18 @@ after-good d step (suc n) areas good = after-good d step n (cycle d areas .after
 -- ---- what a run judges beside its count
 module _ (image : List ℕ) (lent : Lent) where
   -- a run is accepted where its count is allowed
-  record Ready : Type 0 where
+  pub record Ready : Type 0 where
     pub accepted : verdict image ≡ Accepted 0
     pub lengths : RightLengths (designOf image) lent
     pub sound : (s : ℕ) → s < length (designOf image .states) → targetSound (designOf image) (lent .targets) s ≡ true
 
   -- a run is refused, whatever its count
-  record Refuses : Type 0 where
+  pub record Refuses : Type 0 where
     pub refusal : Refusal
     pub place : ℕ
     pub refused : (n : ℕ) → run image lent n ≡ record { answer = Refused refusal place; lent = lent }
 
-  ready-or-refuses : Ready ⊎ Refuses
+  pub ready-or-refuses : Ready ⊎ Refuses
   ready-or-refuses = by-verdict (image-decides image .either)
     where
       d : Design
@@ -104,7 +104,7 @@ module _ (image : List ℕ) (lent : Lent) where
         }
 
     -- the bytes of an area of the right length are those of its values
-    ready-back : AreBytes (lent .registers) → lentOf (areasOf (designOf image) lent) ≡ lent
+    pub ready-back : AreBytes (lent .registers) → lentOf (areasOf (designOf image) lent) ≡ lent
     unfolding areasOf lentOf
     ready-back bytes = rw (bytes-of-words (length (designOf image .registers)) (lent .registers) bytes (ready .lengths .registers))
 

@@ -6,6 +6,7 @@ pub mod Independence
 pub mod Unchanged
 pub mod Grouping
 pub mod Writing
+pub mod Ports
 pub mod Promises
 pub mod Designs
 pub mod Opened

@@ -10,6 +10,7 @@ use Rattle.model.specs.Limits.{cyclesMax, wordLength}
 use Rattle.model.specs.Image.{AreBytes, designOf}
 use Rattle.model.specs.Answers.{numberOf, numbersOf}
 use Rattle.model.specs.Rules.{Keeps}
+use Rattle.model.specs.Ports.{PortsKept}
 use Rattle.model.specs.Calls.{Lent, check, registersLength, targetsLength, writePort, run}
 use Rattle.model.specs.Refusals.{AllKept, FirstBroken, imageTable, callTable, callCount, AnswersBy}
 use Rattle.model.specs.Parties.{Call, perform, Independent}
@@ -19,6 +20,7 @@ use Rattle.model.proofs.Independence.Theorem.{independent}
 use Rattle.model.proofs.Unchanged.{refused-lent}
 use Rattle.model.proofs.Grouping.{Grouped, grouped, none-left}
 use Rattle.model.proofs.Writing.{ChangesOnly, changes-only}
+use Rattle.model.proofs.Ports.{run-keeps-ports}
 
 -- Demand 2, for check: an image is accepted, with number 0, place 0 and count 0, exactly when it keeps the rules.
 pub accepted-exactly : (image : List ℕ) → (numbersOf (check image) ≡ record { number = 0; place = 0; count = 0 }) ↔ Keeps image
@@ -70,3 +72,7 @@ run-of-none = none-left
 pub write-changes-only : (image registers : List ℕ) → AreBytes registers → (r v : ℕ)
     → ChangesOnly r v registers (numbersOf (writePort image registers r v .answer)) (writePort image registers r v .registers)
 write-changes-only = changes-only
+
+-- 02, E1, "Ports belong to the host": a run of any number of cycles, whatever it answers, leaves every byte of every port.
+pub ports-kept : (image : List ℕ) (lent : Lent) → AreBytes (lent .registers) → (n : ℕ) → PortsKept (designOf image) (lent .registers) (run image lent n .lent .registers)
+ports-kept = run-keeps-ports

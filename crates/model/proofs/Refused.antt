@@ -29,7 +29,7 @@ use Rattle.model.proofs.Laws.Broken.{Finds, Decides, decides-one, decid
 use Rattle.model.proofs.Laws.Finds.{finds-each, finds-charged, finds-zero, finds-node}
 use Rattle.model.proofs.Exact.Directories.{directory-iff}
 use Rattle.model.proofs.Exact.Labels.{label-iff}
-use Rattle.model.proofs.Exact.Records.{register-iff, state-iff, child-label-iff, command-iff, expression-iff, command-used-iff, expression-used-iff, command-depth-iff, expression-depth-iff}
+use Rattle.model.proofs.Exact.Records.{register-iff, state-iff, port-iff, child-label-iff, command-iff, expression-iff, command-used-iff, expression-used-iff, command-depth-iff, expression-depth-iff}
 use Rattle.model.proofs.Exact.{verdict-exact}
 use Rattle.model.proofs.Refused.Standing.{child-iff, has-child-iff}
 use Rattle.model.proofs.Refused.Shapes.{shape-finds}
@@ -64,8 +64,9 @@ image-decides image =
     (stage (finds-node d few (command-used-iff d) (expression-used-iff d))
     (stage (finds-node d few (command-depth-iff d) (expression-depth-iff d))
     (stage (shape-finds d)
+    (stage (finds-each (port-iff d))
     (stage (finds-each (child-label-iff d))
-    (flow-decides d)))))))))
+    (flow-decides d))))))))))
 
 -- an image keeps the rules exactly where nothing of the table is broken
 pub keeps-table : (image : List ℕ) → Keeps image ↔ AllKept (imageTable image)

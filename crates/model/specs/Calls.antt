@@ -68,7 +68,7 @@ lentOf areas = record { registers = bytesOf (areas .registers); targets = areas 
 unfoldable pub cyclesAnswer : ℕ → Answer
 cyclesAnswer n = refusedAt CycleCount (atZeroUnless (leb n cyclesMax))
 
--- check: "every call makes the image checks 1 to 12 first"
+-- check: "Every call makes the image checks .. first"
 unfoldable pub check : List ℕ → Answer
 check image = verdict image
 

@@ -1,5 +1,6 @@
--- All that a reader has to believe, in the order of document 01. Every definition here computes, but for
--- the propositions of `Rules`, `Standing` and `Refusals` and the statement of demand 3 in `Parties`.
+-- All that a reader has to believe, in the order of document 01, as document 02 changes it. Every definition here computes, but for
+-- the propositions of `Rules`, `Standing` and `Refusals`, and what is promised of ports (`Ports`) and of
+-- parties (`Parties`, demand 3).
 -- 'The image'
 pub mod Limits
 pub mod Indices
@@ -11,6 +12,7 @@ pub mod Trees
 pub mod Nodes
 -- 'Shape and flow'
 pub mod Shape
+pub mod Ports
 pub mod Flow
 -- 'A cycle'
 pub mod Values

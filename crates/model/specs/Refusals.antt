@@ -6,10 +6,10 @@ use mathlib.Core.Logic.{_↔_, _⊎_}
 use mathlib.Core.List.{List, [], _∷_, _++_}
 use lib.ListN.{length, getD}
 use Rattle.model.specs.declared.Refusal.{Refusal}
-use Rattle.model.specs.declared.Refusal.the-variants.{Directory, LabelRow, RegisterRecord, StateRecord, NodeRecord, NodeUse, Depth, Shape, ChildLabel, AssignFlow, GotoFlow, FallFlow, NoPort, Area, CycleCount}
+use Rattle.model.specs.declared.Refusal.the-variants.{Directory, LabelRow, RegisterRecord, StateRecord, NodeRecord, NodeUse, Depth, Shape, ChildLabel, AssignFlow, GotoFlow, FallFlow, NoPort, Area, CycleCount, PortAssigned}
 use Rattle.model.specs.Limits.{expressionPlace, cyclesMax, wordLength}
 use Rattle.model.specs.Image.{Design, designOf, registerAt}
-use Rattle.model.specs.Rules.{DirectoryKeeps, LabelKeeps, RegisterKeeps, StateKeeps, CommandKeeps, ExpressionKeeps, CommandUsedOnce, ExpressionUsedOnce, CommandDepthKeeps, ExpressionDepthKeeps, ChildLabelKeeps}
+use Rattle.model.specs.Rules.{DirectoryKeeps, LabelKeeps, RegisterKeeps, StateKeeps, CommandKeeps, ExpressionKeeps, CommandUsedOnce, ExpressionUsedOnce, CommandDepthKeeps, ExpressionDepthKeeps, ChildLabelKeeps, NamesNoPort}
 use Rattle.model.specs.Standing.{ChildOf, ShapeKeeps, AssignKeeps, GotoKeeps, FallKeeps}
 use Rattle.model.specs.Answers.{Numbers, numberOf}
 use Rattle.model.specs.Calls.{Lent}
@@ -64,7 +64,7 @@ pub record eachNode (d : Design) (P Q : ℕ → Type 0) (place : ℕ) : Type 0 w
   pub expression : (e : ℕ) → place ≡ expressionPlace + e → e < length (d .expressions) → Q e
 
 -- ---- the table
--- the image checks 1 to 12: "The lowest number that applies comes first, except that 10 to 12 are one pass"
+-- the image checks: "The lowest number that applies comes first, except that 10 to 12 are one pass". 02, E1: 16 comes "after 8 and before 9".
 abbrev pub imageTable : List ℕ → List Pass
 imageTable image =
     let d = designOf image in
@@ -76,6 +76,7 @@ imageTable image =
     ∷ (NodeUse asks eachNode d (CommandUsedOnce d) (ExpressionUsedOnce d) ∷ [])
     ∷ (Depth asks eachNode d (CommandDepthKeeps d) (ExpressionDepthKeeps d) ∷ [])
     ∷ (Shape asks ShapeKeeps d ∷ [])
+    ∷ (PortAssigned asks each (length (d .commands)) (NamesNoPort d) ∷ [])
     ∷ (ChildLabel asks each (length (d .states)) (ChildLabelKeeps d) ∷ [])
     ∷ (AssignFlow asks AssignKeeps d ∷ GotoFlow asks GotoKeeps d ∷ FallFlow asks FallKeeps d ∷ [])
     ∷ []
@@ -84,7 +85,7 @@ imageTable image =
 abbrev pub TargetKeeps : Design → List ℕ → ℕ → Type 0
 TargetKeeps d targets s = ChildOf d s (getD targets s 0) ⊎ (((q : ℕ) → ChildOf d s q → ⊥) × (getD targets s 0 ≡ s))
 
--- "Every call makes the image checks 1 to 12 first."
+-- "Every call makes the image checks .. first."
 module _ (image : List ℕ) where
   -- reset: lengths only
   abbrev pub resetTable : Lent → List Pass

@@ -1,4 +1,4 @@
--- The rules of document 01 as propositions. `Keeps` is what "keeps the rules" means; that the verdict accepts exactly the images that keep them is
+-- The rules of document 01, as document 02 changes them, as propositions. `Keeps` is what "keeps the rules" means; that the verdict accepts exactly the images that keep them is
 -- the law `verdict-exact` of `proofs/Exact.antt`.
 use Prim.Native.Nat.{ℕ, _%_, _≤_, _<_, _^_}
 use mathlib.Core.Path.{_≡_}
@@ -122,6 +122,10 @@ module _ (d : Design) where
   Shaped s (goto n t) = siblingOrSelf d s t ≡ true
   Shaped s (branch n e p q) = (transfers p ≡ transfers q) × Shaped s p × Shaped s q
 
+  -- 02, E1: "no assignment may name a port"
+  abbrev pub NamesNoPort : ℕ → Type 0
+  NamesNoPort n = commandKind (commandAt d n .kind) ≡ assigns → registerAt d (commandAt d n .item) .kind ≡ 1 → ⊥
+
   -- the flow rules of a command of state s in a context
   abbrev pub Flows : ℕ → List ℕ → Cmd → Type 0
   Flows s context (skip n) = Unit {0}
@@ -131,7 +135,7 @@ module _ (d : Design) where
   Flows s context (goto n t) = gotoFlows d context t ≡ true
   Flows s context (branch n e p q) = Flows s (context ++ labelsRead d e) p × Flows s (context ++ labelsRead d e) q
 
-  -- the rules behind refusals 2 to 12
+  -- the rules behind refusals 2 to 12 and 16
   pub record DesignKeeps : Type 0 where
     pub lattice : IsLattice (d .rows)
     pub registers : (r : ℕ) → r < length (d .registers) → RegisterKeeps r
@@ -144,6 +148,7 @@ module _ (d : Design) where
     pub expressions-depth : (n : ℕ) → n < length (d .expressions) → ExpressionDepthKeeps n
     pub transferring : (s : ℕ) → s < length (d .states) → transfers (bodyOf d s) ≡ true
     pub shaped : (s : ℕ) → s < length (d .states) → Shaped s (bodyOf d s)
+    pub ports : (n : ℕ) → n < length (d .commands) → NamesNoPort n
     pub child-labels : (s : ℕ) → s < length (d .states) → ChildLabelKeeps s
     pub flowing : (s : ℕ) → s < length (d .states) → Flows s (stateLabel d s ∷ []) (bodyOf d s)
 

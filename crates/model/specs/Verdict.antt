@@ -1,4 +1,4 @@
--- 01, 'When the box says no': the image checks 1 to 12, each with its place, in the order of the table.
+-- 01, 'When the box says no': the image checks, each with its place, in the order of the table; 02, E1, puts 16 between 8 and 9.
 use Prim.Native.Nat.{ℕ, _+_}
 use mathlib.Core.Bool.{Bool, true, false}
 use mathlib.Core.List.{List}
@@ -6,7 +6,7 @@ use lib.ListN.{length}
 use Rattle.model.specs.declared.Found.{Found}
 use Rattle.model.specs.declared.Found.the-variants.{At, Nowhere}
 use Rattle.model.specs.declared.Refusal.{Refusal}
-use Rattle.model.specs.declared.Refusal.the-variants.{Directory, LabelRow, RegisterRecord, StateRecord, NodeRecord, NodeUse, Depth, Shape, ChildLabel}
+use Rattle.model.specs.declared.Refusal.the-variants.{Directory, LabelRow, RegisterRecord, StateRecord, NodeRecord, NodeUse, Depth, Shape, ChildLabel, PortAssigned}
 use Rattle.model.specs.declared.Answer.{Answer}
 use Rattle.model.specs.declared.Answer.the-variants.{Accepted, Refused}
 use Rattle.model.specs.Limits.{expressionPlace}
@@ -17,6 +17,7 @@ use Rattle.model.specs.States.{registerKept, stateKept, childLabelKept}
 use Rattle.model.specs.Kinds.{commandKept, expressionKept}
 use Rattle.model.specs.Nodes.{commandUsedOnce, expressionUsedOnce, commandDepthKept, expressionDepthKept}
 use Rattle.model.specs.Shape.{shapeFault}
+use Rattle.model.specs.Ports.{namesNoPort}
 use Rattle.model.specs.Flow.{flowAnswer}
 
 -- "The lowest number that applies comes first": the first answer where it refuses, else the second
@@ -46,7 +47,7 @@ unfoldable pub lowestNode : Design → (ℕ → Bool) → (ℕ → Bool) → Fou
 lowestNode d command expression =
     commandsFirst (lowestFailing command (length (d .commands))) (lowestFailing expression (length (d .expressions)))
 
--- refusals 2 to 12
+-- refusals 2 to 12 and 16. 02, E1: "It refuses with 16 at the lowest such assignment, after 8 and before 9."
 unfoldable pub designVerdict : Design → Answer
 designVerdict d =
     refusedAt LabelRow (lowestFailing (labelKept (d .rows)) (length (d .rows)))
@@ -56,9 +57,10 @@ designVerdict d =
     before refusedAt NodeUse (lowestNode d (commandUsedOnce d) (expressionUsedOnce d))
     before refusedAt Depth (lowestNode d (commandDepthKept d) (expressionDepthKept d))
     before refusedAt Shape (shapeFault d)
+    before refusedAt PortAssigned (lowestFailing (namesNoPort d) (length (d .commands)))
     before refusedAt ChildLabel (lowestFailing (childLabelKept d) (length (d .states)))
     before flowAnswer d
 
--- the image checks 1 to 12: what every call makes first
+-- the image checks, 1 to 12 and 16: what every call makes first
 unfoldable pub verdict : List ℕ → Answer
 verdict image = refusedAt Directory (atZeroUnless (directoryKept image)) before designVerdict (designOf image)

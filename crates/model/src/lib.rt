@@ -19,7 +19,7 @@ pub enum Found {
     Nowhere,
 }
 
-// Why the box says no: a case for each number of document 01's table, in its order from 1 to 15.
+// Why the box says no: a case for each number of document 01's table, in its order from 1 to 15, and then those of document 02's requests.
 pub enum Refusal {
     Directory,
     LabelRow,
@@ -36,6 +36,7 @@ pub enum Refusal {
     NoPort,
     Area,
     CycleCount,
+    PortAssigned,
 }
 
 // What a call answers: an acceptance with its count (a run's cycles, else 0), or a refusal with its place.

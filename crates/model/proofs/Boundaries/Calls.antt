@@ -10,7 +10,7 @@ use Rattle.model.specs.Parties.{resets, writes, runs, perform}
 use Rattle.model.proofs.Opened.{everything, accepted, refused, told, lent, anyLent, resetLent, shortLent, groupsLent}
 use Rattle.model.proofs.Designs.{lease, twoGroups, smallest, highToLow}
 
--- "Every call makes the image checks 1 to 12 first": check too, and every call where areas, register and count are right
+-- "Every call makes the image checks .. first": check too, and every call where areas, register and count are right
 shows-check-refuses : numbersOf (check highToLow) ∷ numbersOf (check []) ∷ [] ≡ refused 10 1 ∷ refused 1 0 ∷ []
 shows-check-refuses = unfold everything in refl
 

@@ -54,33 +54,39 @@ shows-empty-remains = unfold whole in refl
 shows-empty-end : seenAtEnd lease 1 noCalls ≡ 3 ∷ 0 ∷ []
 shows-empty-end = unfold whole in refl
 
--- Four labels of which 1 and 2 cannot be compared, and a port of each. State 1: if r0 then goto 2 else goto 3. State 2 of label 1: r1 := r1 + 1; goto 2.
--- State 3 of label 2 falls to 4 of label 3: r3 := r2; goto 4.
+-- Four labels of which 1 and 2 cannot be compared, a port of each, and the inner registers r4 of label 1 and r5 of label 3. State 1: if r0 then goto 2 else
+-- goto 3. State 2 of label 1: r4 := r4 + 1; goto 2. State 3 of label 2 falls to 4 of label 3: r5 := r2; goto 4.
 abbrev diamond : List ℕ
 diamond =
     assemble
     (15 ∷ 10 ∷ 12 ∷ 8 ∷ [])
-    (registerRecord 0 1 0 ∷ registerRecord 1 1 11 ∷ registerRecord 2 1 20 ∷ registerRecord 3 1 13 ∷ [])
+    (registerRecord 0 1 0
+    ∷ registerRecord 1 1 11
+    ∷ registerRecord 2 1 20
+    ∷ registerRecord 3 1 13
+    ∷ registerRecord 1 0 41
+    ∷ registerRecord 3 0 53
+    ∷ [])
     (stateRecord 0 0 0 ∷ stateRecord 0 0 3 ∷ stateRecord 0 1 6 ∷ stateRecord 0 2 7 ∷ stateRecord 3 3 10 ∷ [])
     (falls
     ∷ goesTo 2
     ∷ goesTo 3
     ∷ branches 0 1 2
-    ∷ assigns 1 3
+    ∷ assigns 4 3
     ∷ goesTo 2
     ∷ sequences 4 5
     ∷ falls
-    ∷ assigns 3 4
+    ∷ assigns 5 4
     ∷ goesTo 4
     ∷ sequences 8 9
     ∷ [])
-    (reads 0 ∷ reads 1 ∷ constant 1 ∷ adds 1 2 ∷ reads 2 ∷ [])
+    (reads 0 ∷ reads 4 ∷ constant 1 ∷ adds 1 2 ∷ reads 2 ∷ [])
 
 -- two cycles by the states 3 and 4, two writes, a reset, two more writes, two cycles by state 2, and a run of 0; register r is given 100 + r
 abbrev bothWays : Use (designOf diamond)
 bothWays =
     record {
-      lent = lent (replicate 16 9) (replicate 5 9);
+      lent = lent (replicate 24 9) (replicate 5 9);
       lengths = record { registers = unfold everything in refl; targets = unfold everything in refl };
       given = λ r. 100 + r;
       calls = runs 2 ∷ writes 1 21 ∷ writes 2 22 ∷ resets ∷ writes 0 5 ∷ writes 3 33 ∷ runs 2 ∷ runs 0 ∷ [];
@@ -89,17 +95,21 @@ bothWays =
 -- "Each starts with a reset; then the registers not at or below the level are given any values": at level 1 those of labels 2 and 3, at level 2 of 1 and 3
 shows-start
     : map (λ level. start diamond level bothWays) (0 ∷ 1 ∷ 2 ∷ 3 ∷ [])
-    ≡ lent (bytesOf (0 ∷ 101 ∷ 102 ∷ 103 ∷ [])) (1 ∷ 1 ∷ 2 ∷ 4 ∷ 4 ∷ [])
-    ∷ lent (bytesOf (0 ∷ 11 ∷ 102 ∷ 103 ∷ [])) (1 ∷ 1 ∷ 2 ∷ 4 ∷ 4 ∷ [])
-    ∷ lent (bytesOf (0 ∷ 101 ∷ 20 ∷ 103 ∷ [])) (1 ∷ 1 ∷ 2 ∷ 4 ∷ 4 ∷ [])
-    ∷ lent (bytesOf (0 ∷ 11 ∷ 20 ∷ 13 ∷ [])) (1 ∷ 1 ∷ 2 ∷ 4 ∷ 4 ∷ [])
+    ≡ lent (bytesOf (0 ∷ 101 ∷ 102 ∷ 103 ∷ 104 ∷ 105 ∷ [])) (1 ∷ 1 ∷ 2 ∷ 4 ∷ 4 ∷ [])
+    ∷ lent (bytesOf (0 ∷ 11 ∷ 102 ∷ 103 ∷ 41 ∷ 105 ∷ [])) (1 ∷ 1 ∷ 2 ∷ 4 ∷ 4 ∷ [])
+    ∷ lent (bytesOf (0 ∷ 101 ∷ 20 ∷ 103 ∷ 104 ∷ 105 ∷ [])) (1 ∷ 1 ∷ 2 ∷ 4 ∷ 4 ∷ [])
+    ∷ lent (bytesOf (0 ∷ 11 ∷ 20 ∷ 13 ∷ 41 ∷ 53 ∷ [])) (1 ∷ 1 ∷ 2 ∷ 4 ∷ 4 ∷ [])
     ∷ []
 shows-start = unfold whole in refl
 
 -- "for each cycle in order, the values of all registers at or below the level after it, and its walk without the states not at or below the level"
 shows-views-left
     : views diamond 1 bothWays
-    ≡ seen (0 ∷ 11 ∷ []) (0 ∷ 1 ∷ []) ∷ seen (0 ∷ 11 ∷ []) (0 ∷ []) ∷ seen (5 ∷ 11 ∷ []) (0 ∷ 1 ∷ []) ∷ seen (5 ∷ 12 ∷ []) (0 ∷ 2 ∷ []) ∷ []
+    ≡ seen (0 ∷ 11 ∷ 41 ∷ []) (0 ∷ 1 ∷ [])
+    ∷ seen (0 ∷ 11 ∷ 41 ∷ []) (0 ∷ [])
+    ∷ seen (5 ∷ 11 ∷ 41 ∷ []) (0 ∷ 1 ∷ [])
+    ∷ seen (5 ∷ 11 ∷ 42 ∷ []) (0 ∷ 2 ∷ [])
+    ∷ []
 shows-views-left = unfold whole in refl
 
 shows-views-right
@@ -109,10 +119,10 @@ shows-views-right = unfold whole in refl
 
 shows-views-top
     : views diamond 3 bothWays
-    ≡ seen (0 ∷ 11 ∷ 20 ∷ 13 ∷ []) (0 ∷ 1 ∷ [])
-    ∷ seen (0 ∷ 11 ∷ 20 ∷ 20 ∷ []) (0 ∷ 3 ∷ 4 ∷ [])
-    ∷ seen (5 ∷ 11 ∷ 20 ∷ 33 ∷ []) (0 ∷ 1 ∷ [])
-    ∷ seen (5 ∷ 12 ∷ 20 ∷ 33 ∷ []) (0 ∷ 2 ∷ [])
+    ≡ seen (0 ∷ 11 ∷ 20 ∷ 13 ∷ 41 ∷ 53 ∷ []) (0 ∷ 1 ∷ [])
+    ∷ seen (0 ∷ 11 ∷ 20 ∷ 13 ∷ 41 ∷ 20 ∷ []) (0 ∷ 3 ∷ 4 ∷ [])
+    ∷ seen (5 ∷ 11 ∷ 20 ∷ 33 ∷ 41 ∷ 53 ∷ []) (0 ∷ 1 ∷ [])
+    ∷ seen (5 ∷ 11 ∷ 20 ∷ 33 ∷ 42 ∷ 53 ∷ []) (0 ∷ 2 ∷ [])
     ∷ []
 shows-views-top = unfold whole in refl
 
@@ -127,7 +137,7 @@ shows-remains
 shows-remains = unfold whole in refl
 
 -- "equal registers at or below the level at their end"
-shows-ends : map (λ level. seenAtEnd diamond level bothWays) (1 ∷ 2 ∷ []) ≡ (5 ∷ 12 ∷ []) ∷ (5 ∷ 20 ∷ []) ∷ []
+shows-ends : map (λ level. seenAtEnd diamond level bothWays) (1 ∷ 2 ∷ []) ≡ (5 ∷ 11 ∷ 42 ∷ []) ∷ (5 ∷ 20 ∷ []) ∷ []
 shows-ends = unfold whole in refl
 
 -- "at their end": behind the last call, be it a port write or a reset

@@ -1,20 +1,28 @@
 -- A register, a state or a node is kept exactly where its record obeys its rules: the test of each field says the rule of that field.
 use Prim.Native.Nat.{ℕ, zero, suc, _<_}
-use mathlib.Core.Path.{_≡_, refl}
+use mathlib.Core.Path.{_≡_, refl, ap}
 use mathlib.Core.Logic.{_↔_, Iff·trans}
 use mathlib.Core.Bool.{true, false, false≢true}
 use native.Mathlib.Omega.{arith}
-use Rattle.model.specs.Image.{Design, Node, commandAt, expressionAt}
+use borrow.Author.Tests.{eqb-true, eq-eqb}
+use Rattle.model.specs.Image.{Design, Node, registerAt, commandAt, expressionAt}
 use Rattle.model.specs.Lattice.{stateLabel}
-use Rattle.model.specs.States.{parent, registerKept, parentKept, stateKept, childLabelKept}
+use Rattle.model.specs.States.{parent, isPort, registerKept, parentKept, stateKept, childLabelKept}
 use Rattle.model.specs.Kinds.{CommandKind, skips, assigns, sequences, falls, goes, branches, unknownCommand, ExpressionKind, constants, reads, unknownExpression, operates, commandKind, expressionKind, commandHolds, expressionHolds, commandKept, expressionKept}
+use Rattle.model.specs.Ports.{sparesPorts, namesNoPort}
 use Rattle.model.specs.Nodes.{commandUsedOnce, expressionUsedOnce, commandDepthKept, expressionDepthKept}
-use Rattle.model.specs.Rules.{RegisterKeeps, StateKeeps, CommandHolds, ExpressionHolds, CommandKeeps, ExpressionKeeps, CommandUsedOnce, ExpressionUsedOnce, CommandDepthKeeps, ExpressionDepthKeeps, ChildLabelKeeps}
-use Rattle.model.proofs.Laws.Equivalences.{less-iff, at-most-iff, equal-iff, and-iff, and-three-iff, and-four-iff}
+use Rattle.model.specs.Rules.{RegisterKeeps, StateKeeps, CommandHolds, ExpressionHolds, CommandKeeps, ExpressionKeeps, CommandUsedOnce, ExpressionUsedOnce, CommandDepthKeeps, ExpressionDepthKeeps, ChildLabelKeeps, NamesNoPort}
+use Rattle.model.proofs.Laws.Booleans.{true-or-false, false-unless-true}
+use Rattle.model.proofs.Laws.Kinds.{commandNumber}
+use Rattle.model.proofs.Laws.Equivalences.{less-iff, at-most-iff, equal-iff, not-iff, and-iff, and-three-iff, and-four-iff}
 
 -- no node of an unknown kind is kept
 never-iff : (false ≡ true) ↔ ⊥
 never-iff = (false≢true, absurd)
+
+-- what is asked of assignments is not asked of another kind
+unasked : (kind : CommandKind) {P : Type 0} → (commandNumber kind ≡ 1 → ⊥) → (true ≡ true) ↔ (kind ≡ assigns → P)
+unasked kind other = (λ e k. absurd (other (ap commandNumber k)), λ h. refl)
 
 module _ (d : Design) where
   pub register-iff : (r : ℕ) → (registerKept d r ≡ true) ↔ RegisterKeeps d r
@@ -75,6 +83,24 @@ module _ (d : Design) where
   pub expression-iff : (n : ℕ) → (expressionKept d n ≡ true) ↔ ExpressionKeeps d n
   unfolding expressionKept
   expression-iff n = expression-holds-iff n (expressionKind (expressionAt d n .kind)) (expressionAt d n)
+
+  -- an assignment names no port; of any other kind nothing is asked
+  spares-iff : (kind : CommandKind) (x : Node) → (sparesPorts d kind x ≡ true) ↔ (kind ≡ assigns → registerAt d (x .item) .kind ≡ 1 → ⊥)
+  unfolding sparesPorts
+  spares-iff skips x = unasked skips (λ z. omega arith)
+  spares-iff assigns x = Iff·trans not-iff (
+    λ e k port. true-or-false (isPort d (x .item)) (eq-eqb _ _ port) e,
+    λ h. false-unless-true (isPort d (x .item)) (λ e. h refl (eqb-true _ _ e)),
+  )
+  spares-iff sequences x = unasked sequences (λ z. omega arith)
+  spares-iff falls x = unasked falls (λ z. omega arith)
+  spares-iff goes x = unasked goes (λ z. omega arith)
+  spares-iff branches x = unasked branches (λ z. omega arith)
+  spares-iff unknownCommand x = unasked unknownCommand (λ z. omega arith)
+
+  pub port-iff : (n : ℕ) → (namesNoPort d n ≡ true) ↔ NamesNoPort d n
+  unfolding namesNoPort
+  port-iff n = spares-iff (commandKind (commandAt d n .kind)) (commandAt d n)
 
   pub command-used-iff : (n : ℕ) → (commandUsedOnce d n ≡ true) ↔ CommandUsedOnce d n
   unfolding commandUsedOnce

@@ -70,7 +70,7 @@ set-bounded (x ∷ values) (suc i) v l h (suc r) = set-bounded values i v l (λ 
 
 -- what holds of what the parts leave holds of what a sequence or a branch leaves
 module _ (P : Executed → Type 0) (values : List ℕ) (n : ℕ) where
-  sequence-all : (p q : Cmd) → P (exec values p) → P (exec (exec values p .registers) q) → P (exec values (sequence n p q))
+  pub sequence-all : (p q : Cmd) → P (exec values p) → P (exec (exec values p .registers) q) → P (exec values (sequence n p q))
   unfolding exec
   sequence-all p q h k = go (exec values p .outcome)
     where
@@ -78,7 +78,7 @@ module _ (P : Executed → Type 0) (values : List ℕ) (n : ℕ) where
       go Continued = k
       go (Transferred ending) = h
 
-  branch-all : (e : Expr) (p q : Cmd) → P (exec values p) → P (exec values q) → P (exec values (branch n e p q))
+  pub branch-all : (e : Expr) (p q : Cmd) → P (exec values p) → P (exec values q) → P (exec values (branch n e p q))
   unfolding exec
   branch-all e p q h k = go (eqb (eval values e) 0)
     where

@@ -36,7 +36,7 @@ unfolding commandKind
 no-command-kind l = List·getD-eq-default (skips ∷ assigns ∷ sequences ∷ falls ∷ goes ∷ branches ∷ []) unknownCommand l
 
 -- the number of a kind, and 6 where there is none
-abbrev commandNumber : CommandKind → ℕ
+abbrev pub commandNumber : CommandKind → ℕ
 commandNumber skips = 0
 commandNumber assigns = 1
 commandNumber sequences = 2

@@ -7,7 +7,7 @@ use native.Mathlib.Omega.{arith}
 use native.Mathlib.Nat.{mod-eq-of-lt}
 use lib.Arith.{mod-mul}
 use lib.ListN.{length, getD, drop, set, length-map, List·getD-map}
-use lib.Seq.{getD-drop, ext-getD}
+use lib.Seq.{getD-drop, getD-set-same, ext-getD}
 use Rattle.model.specs.Limits.{valueCount, wordLength}
 use Rattle.model.specs.Image.{byteAt, AreBytes, word16At, word32At, recordsOf}
 use Rattle.model.specs.Values.{wordsOf, bytesOf}
@@ -122,7 +122,7 @@ bytes-of-words (suc n) (a ∷ b ∷ c ∷ e ∷ more) h l =
     let digits = digit-of a b c e (h 0) (h 1) (h 2) (h 3) in
     rw (digits .0, digits .1, digits .2, digits .3, bytes-of-words n more (λ i. h (suc (suc (suc (suc i))))) (omega arith))
 
--- ---- a value among values: no byte of another changes, and its four bytes are its digits
+-- ---- a value among values: its four bytes are its digits, and no byte of another changes with it
 pub other-bytes : (values : List ℕ) (r v i : ℕ) → (i < wordLength * r) ⊎ (wordLength * r + wordLength ≤ i)
     → byteAt (bytesOf (set values r v)) i ≡ byteAt (bytesOf values) i
 unfolding bytesOf
@@ -140,18 +140,25 @@ other-bytes (x ∷ values) (suc r) v (suc (suc (suc zero))) h = refl
 other-bytes (x ∷ values) (suc r) v (suc (suc (suc (suc i)))) (inl l) = other-bytes values r v i (inl (omega arith))
 other-bytes (x ∷ values) (suc r) v (suc (suc (suc (suc i)))) (inr l) = other-bytes values r v i (inr (omega arith))
 
-pub own-bytes : (values : List ℕ) (r v k : ℕ) → r < length values → k < wordLength
-    → byteAt (bytesOf (set values r v)) (wordLength * r + k) ≡ byteAt (bytesOf (v ∷ [])) k
+pub value-bytes : (values : List ℕ) (r k : ℕ) → k < wordLength → byteAt (bytesOf values) (wordLength * r + k) ≡ byteAt (bytesOf (getD values r 0 ∷ [])) k
 unfolding bytesOf
-own-bytes [] r v k l h = absurd (omega arith)
-own-bytes (x ∷ values) zero v k l h = let first : wordLength * 0 + k ≡ k = omega arith in rw first (within k h)
+value-bytes [] r zero h = refl
+value-bytes [] r (suc zero) h = refl
+value-bytes [] r (suc (suc zero)) h = refl
+value-bytes [] r (suc (suc (suc zero))) h = refl
+value-bytes [] r (suc (suc (suc (suc k)))) h = absurd (omega arith)
+value-bytes (x ∷ values) zero k h = let first : wordLength * 0 + k ≡ k = omega arith in rw first (within k h)
   where
-    within : (k : ℕ) → k < wordLength → byteAt (bytesOf (v ∷ values)) k ≡ byteAt (bytesOf (v ∷ [])) k
+    within : (k : ℕ) → k < wordLength → byteAt (bytesOf (x ∷ values)) k ≡ byteAt (bytesOf (x ∷ [])) k
     within zero h = refl
     within (suc zero) h = refl
     within (suc (suc zero)) h = refl
     within (suc (suc (suc zero))) h = refl
     within (suc (suc (suc (suc k)))) h = absurd (omega arith)
-own-bytes (x ∷ values) (suc r) v k l h =
+value-bytes (x ∷ values) (suc r) k h =
     let next : wordLength * suc r + k ≡ suc (suc (suc (suc (wordLength * r + k)))) = omega arith in
-    rw next (own-bytes values r v k (omega arith) h)
+    rw next (value-bytes values r k h)
+
+pub own-bytes : (values : List ℕ) (r v k : ℕ) → r < length values → k < wordLength
+    → byteAt (bytesOf (set values r v)) (wordLength * r + k) ≡ byteAt (bytesOf (v ∷ [])) k
+own-bytes values r v k l h = value-bytes (set values r v) r k h ∙ ap (λ (x : ℕ). byteAt (bytesOf (x ∷ [])) k) (getD-set-same values r v 0 l)
