@@ -9,6 +9,7 @@ use Rattle.model.specs.Limits.{cyclesMax, wordLength}
 use Rattle.model.specs.Image.{AreBytes, designOf}
 use Rattle.model.specs.Answers.{Numbers, numberOf, numbersOf}
 use Rattle.model.specs.Rules.{Keeps}
+use Rattle.model.specs.Ports.{PortsKept}
 use Rattle.model.specs.Values.{wordsOf}
 use Rattle.model.specs.Calls.{Lent}
 use Rattle.model.specs.Refusals.{FirstBroken, imageTable, callTable, callCount, AnswersBy}
@@ -167,3 +168,14 @@ unfolding perform
 write-changes-only image before after bytes r v h called =
     let left = called-leaves image before after (writes r v) h called in
     rw (left, called-told image before after (writes r v) h called) (meaning.write-changes-only image (before .registers) bytes r v, refl)
+
+-- 02, E1, "Ports belong to the host": a run of any number of cycles, whatever it answers, leaves every byte of every port as it was.
+pub ports-kept :
+    (image : List ℕ) (before after : Lent)
+    → AreBytes (before .registers)
+    → (n : ℕ)
+    → (h : HostAnswer)
+    → Called image before (runs n) h after
+    → PortsKept (designOf image) (before .registers) (after .registers)
+unfolding perform
+ports-kept image before after bytes n h called = rw (called-leaves image before after (runs n) h called) (meaning.ports-kept image before bytes n)

@@ -1,4 +1,4 @@
-// Refusals by the numbers of document 01.
+// Refusals by the numbers of documents 01 and 02.
 use model::Refusal;
 ghost use mathlib.Core.Path.{_≡_};
 ghost use Rattle.model.specs.Answers.{numberOf};
@@ -23,5 +23,6 @@ pub fn number(refusal: Refusal) -> u32
         Refusal::NoPort => 13,
         Refusal::Area => 14,
         Refusal::CycleCount => 15,
+        Refusal::PortAssigned => 16,
     }
 }

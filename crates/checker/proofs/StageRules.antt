@@ -32,7 +32,7 @@ use Rattle.checker_nodes.proofs.CountRules.{count-append}
 use Rattle.checker_nodes.proofs.UseRules.{command-uses-told, expression-uses-told}
 use Rattle.checker_nodes.proofs.DepthRules.{command-depths-told, expression-depths-told}
 use Rattle.checker_bodies.specs.Shapes.{ShapeKnown}
-use Rattle.checker.specs.Stages.{fromChildren, fromShape, fromDepths, fromUses, fromNodes, fromStates, fromRegisters, fromLabels}
+use Rattle.checker.specs.Stages.{fromChildren, fromPorts, fromShape, fromDepths, fromUses, fromNodes, fromStates, fromRegisters, fromLabels}
 
 -- ---- a pass, and all that follow
 pub stage-refuses : (r : Refusal) (g : Found) (rest : Answer) {f : Found} {p : ℕ} → f ≡ g → f ≡ At p → Refused r p ≡ (refusedAt r g before rest)
@@ -143,7 +143,7 @@ unfolding verdict refusedAt _before_
 directory-refuses image {b} e h = rw (← e, not-true b h)
 
 pub directory-passes : (image : List ℕ) {b : Bool} {a : Answer} → b ≡ directoryKept image → not b ≡ false → a ≡ fromLabels (designOf image) → a ≡ verdict image
-unfolding verdict designVerdict refusedAt _before_ fromLabels fromRegisters fromStates fromNodes fromUses fromDepths fromShape fromChildren
+unfolding verdict designVerdict refusedAt _before_ fromLabels fromRegisters fromStates fromNodes fromUses fromDepths fromShape fromPorts fromChildren
 directory-passes image {b} e h k = k ∙ rw (← e, not-false b h)
 
 pub directory-keeps : (image : List ℕ) {b : Bool} → b ≡ directoryKept image → not b ≡ false → DirectoryKeeps image

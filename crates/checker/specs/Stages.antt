@@ -1,6 +1,6 @@
 -- The verdict from each pass on, in the order of the table: each is the pass's refusal, if it has one, before all that follow.
 use lib.ListN.{length}
-use Rattle.model.specs.declared.Refusal.the-variants.{LabelRow, RegisterRecord, StateRecord, NodeRecord, NodeUse, Depth, Shape, ChildLabel}
+use Rattle.model.specs.declared.Refusal.the-variants.{LabelRow, RegisterRecord, StateRecord, NodeRecord, NodeUse, Depth, Shape, ChildLabel, PortAssigned}
 use Rattle.model.specs.declared.Answer.{Answer}
 use Rattle.model.specs.Indices.{lowestFailing}
 use Rattle.model.specs.Image.{Design}
@@ -9,14 +9,18 @@ use Rattle.model.specs.States.{registerKept, stateKept, childLabelKept}
 use Rattle.model.specs.Kinds.{commandKept, expressionKept}
 use Rattle.model.specs.Nodes.{commandUsedOnce, expressionUsedOnce, commandDepthKept, expressionDepthKept}
 use Rattle.model.specs.Shape.{shapeFault}
+use Rattle.model.specs.Ports.{namesNoPort}
 use Rattle.model.specs.Flow.{flowAnswer}
 use Rattle.model.specs.Verdict.{_before_, refusedAt, lowestNode}
 
 unfoldable pub fromChildren : Design → Answer
 fromChildren d = refusedAt ChildLabel (lowestFailing (childLabelKept d) (length (d .states))) before flowAnswer d
 
+unfoldable pub fromPorts : Design → Answer
+fromPorts d = refusedAt PortAssigned (lowestFailing (namesNoPort d) (length (d .commands))) before fromChildren d
+
 unfoldable pub fromShape : Design → Answer
-fromShape d = refusedAt Shape (shapeFault d) before fromChildren d
+fromShape d = refusedAt Shape (shapeFault d) before fromPorts d
 
 unfoldable pub fromDepths : Design → Answer
 fromDepths d = refusedAt Depth (lowestNode d (commandDepthKept d) (expressionDepthKept d)) before fromShape d

@@ -15,7 +15,7 @@ ghost use Rattle.model.specs.Verdict.{commandsFirst, lowestNode, verdict as ver
 ghost use Rattle.design.specs.Describes.{Describes};
 ghost use Rattle.design.specs.Kept.{RegistersKept, StatesKept, RecordsKept};
 ghost use Rattle.checker_nodes.specs.Tables.{NodesPassed, OnceWhere, ShallowWhere, NodesTold};
-ghost use Rattle.checker.specs.Stages.{fromChildren, fromShape, fromDepths, fromUses, fromNodes, fromStates, fromRegisters, fromLabels};
+ghost use Rattle.checker.specs.Stages.{fromChildren, fromPorts, fromShape, fromDepths, fromUses, fromNodes, fromStates, fromRegisters, fromLabels};
 
 // A command's number, else an expression's place.
 fn commands_first(command: Found, expression: Found) -> Found
@@ -102,6 +102,18 @@ fn from_children(image: &[u8], design: Design) -> Answer
     }
 }
 
+// Refusal 16, and on.
+fn from_ports(image: &[u8], design: Design) -> Answer
+    requires { ⌜ RecordsKept (now image) design ⌝ }
+    ensures { λ a. ⌜ a ≡ fromPorts (designOf (now (image .entry))) ⌝ }
+{
+    let found = checker_nodes::ports::ports_named(image, design);
+    match found {
+        Found::At(place) => Answer::Refused(Refusal::PortAssigned, place),
+        Found::Nowhere => from_children(image, design),
+    }
+}
+
 // Refusal 8, and on.
 fn from_shape(image: &[u8], design: Design) -> Answer
     requires { ⌜ RecordsKept (now image) design ⌝ }
@@ -110,7 +122,7 @@ fn from_shape(image: &[u8], design: Design) -> Answer
     let found = checker_bodies::shape::shapes(image, design);
     match found {
         Found::At(place) => Answer::Refused(Refusal::Shape, place),
-        Found::Nowhere => from_children(image, design),
+        Found::Nowhere => from_ports(image, design),
     }
 }
 
@@ -219,7 +231,7 @@ fn from_labels(image: &[u8], design: Design) -> Answer
     }
 }
 
-// The image checks 1 to 12.
+// The image checks: 1 to 8, 16, 9, and 10 to 12 in one pass.
 pub fn verdict(image: &[u8]) -> Answer
     ensures { λ a. ⌜ a ≡ verdictOf (now (image .entry)) ⌝ }
 {

@@ -4,3 +4,4 @@ pub mod PartRules
 pub mod DepthRules
 pub mod CountRules
 pub mod UseRules
+pub mod PortRules

@@ -222,8 +222,9 @@ module _ (d : Table) (rows : length (d .rows) ≤ 3072) (registers : length (d .
       (λ e4. placed-before 3072 NodeUse _ _ (node-below _ _)
       (λ e5. placed-before 3072 Depth _ _ (node-below _ _)
       (λ e6. placed-before 3072 Shape _ _ (shape-fault-below d 3072 (command-below e3))
-      (λ e7. placed-before 3072 ChildLabel _ _ (failing-below _ (length (d .states)) 3072 states)
-      (λ e8. flow-answer-below d 3072 (command-below e3)))))))))
+      (λ e7. placed-before 3072 PortAssigned _ _ (failing-below _ (length (d .commands)) 3072 (omega arith))
+      (λ e8. placed-before 3072 ChildLabel _ _ (failing-below _ (length (d .states)) 3072 states)
+      (λ e9. flow-answer-below d 3072 (command-below e3))))))))))
 
 zero-below : (w : Bool) → FoundBelow 3072 (atZeroUnless w)
 zero-below true = found-nowhere 3072

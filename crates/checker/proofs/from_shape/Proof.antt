@@ -6,7 +6,7 @@ use Rattle.checker.proofs.from_shape.Tie as tie
 use Rattle.checker.proofs.from_shape.Reads as reads
 use Rattle.checker.proofs.from_shape.Lts as lts
 use Rattle.checker_bodies.proofs.shape.shapes.Reads as shapes-reads
-use Rattle.checker.proofs.from_children.Reads as from-children-reads
+use Rattle.checker.proofs.from_ports.Reads as from-ports-reads
 
 shapes-requires : tie.Need-shapes-requires
 shapes-requires c κs = search needs
@@ -17,8 +17,8 @@ enum-known-found c = search needs
 enum-told : tie.Need-enum-told
 enum-told c = search needs
 
-from-children-requires : tie.Need-from-children-requires
-from-children-requires c κs = search needs
+from-ports-requires : tie.Need-from-ports-requires
+from-ports-requires c κs = search needs
 
 returns : tie.Need-returns
 unfolding fromShape
@@ -31,4 +31,4 @@ returns-2 c = search (stage-refuses, stage-passes, needs)
 pub from-shape-spec : {M : Type 1} → statement M
 from-shape-spec =
     tie.close
-    (tie.spec shapes-requires enum-known-found enum-told from-children-requires returns returns-2)
+    (tie.spec shapes-requires enum-known-found enum-told from-ports-requires returns returns-2)
