@@ -5,7 +5,7 @@ use std::fmt;
 #[repr(C)]
 #[derive(Clone, Copy, Debug, PartialEq, Eq)]
 pub struct Answer {
-    /// 0: accepted; otherwise the refusal's number in document 01.
+    /// 0: accepted; otherwise the refusal's number in documents 01 and 02.
     pub number: u32,
     /// The offending label, register, state or node; an expression is 1,024 plus its number.
     pub place: usize,

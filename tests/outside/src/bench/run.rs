@@ -12,7 +12,7 @@ use crate::{library, reference};
 const LONGEST: u32 = 1_000_000;
 
 /// The seed of a largest design with long cycles and walks, found by trying some hundreds.
-const LARGEST_SEED: u64 = 277;
+const LARGEST_SEED: u64 = 40;
 
 pub fn print() {
     let largest = design(&mut Random::new(LARGEST_SEED), Size::LARGEST);

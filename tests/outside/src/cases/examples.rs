@@ -4,6 +4,7 @@ use crate::designs::largest;
 use crate::examples;
 use crate::reference;
 use crate::reference::limits::LARGEST_IMAGE;
+use crate::reference::refusal;
 
 #[test]
 fn verdicts() {
@@ -17,8 +18,8 @@ fn verdicts() {
 
 #[test]
 fn every_refusal_of_an_image_has_an_example() {
-    for number in 0..=12 {
-        let examples = examples::all();
+    let examples = examples::all();
+    for number in [&[0], refusal::IMAGE].concat() {
         assert!(examples.iter().any(|example| example.verdict.0 == number));
     }
 }

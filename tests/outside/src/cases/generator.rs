@@ -3,16 +3,28 @@
 use crate::generate::random::Random;
 use crate::generate::{design, faults, Size};
 use crate::reference;
+use crate::reference::image::PORT;
 use crate::reference::limits::LARGEST_IMAGE;
+use crate::reference::refusal;
+use crate::table::Table;
 
 #[test]
 fn designs_are_accepted() {
     let mut random = Random::new(11);
+    let mut read_ports = 0;
     for _ in 0..300 {
         let size = Size::random(&mut random);
-        let image = design(&mut random, size).image();
-        assert_eq!(reference::check(&image).number, 0);
+        let table = design(&mut random, size);
+        assert_eq!(reference::check(&table.image()).number, 0);
+        read_ports += usize::from(reads_port(&table));
     }
+    assert!(read_ports >= 150, "{read_ports} of 300 read a port");
+}
+
+fn reads_port(table: &Table) -> bool {
+    let ports = table.of_kind(PORT);
+    let mut expressions = table.expressions.iter();
+    expressions.any(|node| node.kind == 1 && ports.contains(&node.which))
 }
 
 #[test]
@@ -28,20 +40,43 @@ fn the_largest_design_is_the_largest_image() {
 #[test]
 fn faults_are_met() {
     let mut random = Random::new(13);
-    let mut met = [0; 13];
+    let mut met = [0; refusal::LAST as usize + 1];
     for _ in 0..200 {
         let size = Size::random(&mut random);
         let table = design(&mut random, size);
         let answer = reference::check(&faults::spoil_directory(&table, &mut random));
         met[1] += usize::from(answer.number == 1);
-        for number in 2..=12 {
-            let mut spoiled = table.clone();
-            faults::spoil(&mut spoiled, number, &mut random);
+        for &number in faults::NUMBERS {
+            let spoiled = faults::spoiled(&table, &[number], &mut random);
             let answer = reference::check(&spoiled.image());
             met[number as usize] += usize::from(answer.number == number);
         }
     }
-    for (number, met) in met.iter().enumerate().skip(1) {
-        assert!(*met >= 20, "refusal {number} met {met} times in 200");
+    for &number in refusal::IMAGE {
+        let met = met[number as usize];
+        assert!(met >= 20, "refusal {number} met {met} times in 200");
     }
+}
+
+/// A fault of 8 goes before an assigned port, and that goes before the faults of 9 to 12.
+#[test]
+fn assigned_ports_beside_other_faults() {
+    let mut random = Random::new(14);
+    let mut met = [0; 13];
+    for _ in 0..200 {
+        let size = Size::random(&mut random);
+        let table = design(&mut random, size);
+        let assigns = table.commands.iter().any(|node| node.kind == 1);
+        for other in [8, 9, 10, 11, 12] {
+            let mut spoiled = faults::spoiled(&table, &[other], &mut random);
+            let alone = reference::check(&spoiled.image()).number;
+            faults::spoil(&mut spoiled, 16, &mut random);
+            if assigns && alone == other {
+                let both = reference::check(&spoiled.image()).number;
+                assert_eq!(both, if other == 8 { 8 } else { 16 });
+                met[other as usize] += 1;
+            }
+        }
+    }
+    assert!(met[8..].iter().all(|&met| met >= 10), "{met:?}");
 }

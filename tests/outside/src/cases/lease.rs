@@ -1,7 +1,7 @@
 //! The lease design: its bytes, its listing, P1 to P3.
 
 use super::Areas;
-use crate::designs::lease;
+use crate::designs::{lease, timer_is_a_port};
 use crate::reference::listing;
 
 fn listed(count: u16) -> String {
@@ -51,9 +51,10 @@ fn listing_refuses() {
     assert_eq!(refused(&[4, 0]), "refused;1;0\n");
     let mut table = lease();
     table.states[3].parent = 3;
-    let mut input = vec![4, 0];
-    input.extend(table.image());
-    assert_eq!(refused(&input), "refused;4;3\n");
+    let counted = |image: Vec<u8>| [vec![4, 0], image].concat();
+    assert_eq!(refused(&counted(table.image())), "refused;4;3\n");
+    let image = timer_is_a_port().image();
+    assert_eq!(refused(&counted(image)), "refused;16;1\n");
 }
 
 #[test]

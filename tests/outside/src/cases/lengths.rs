@@ -3,7 +3,7 @@
 
 use super::Areas;
 use crate::answer::Answer;
-use crate::designs::{lease, smallest, two_groups};
+use crate::designs::{lease, smallest, timer_is_a_port, two_groups};
 use crate::reference;
 
 /// Makes the call on copies and sees that a refusal leaves them alone.
@@ -120,14 +120,18 @@ fn cycle_counts() {
 #[test]
 fn image_checks_come_first() {
     let mut areas = Areas::reset(&lease());
-    areas.image.push(0);
-    areas.registers.clear();
-    assert_eq!(refused_run(&areas, 1_000_001), (1, 0));
-    assert_eq!(refused(&areas, |i, r, t| reference::reset(i, r, t)), (1, 0));
-    assert_eq!(
-        refused(&areas, |i, r, _| reference::write_port(i, r, 9, 9)),
-        (1, 0)
-    );
+    let too_long = [&areas.image[..], &[0]].concat();
+    // 16 too, though 13 to 15 are lower numbers.
+    for (image, verdict) in [(too_long, (1, 0)), (timer_is_a_port().image(), (16, 1))] {
+        areas.image = image;
+        for registers in [8, 0] {
+            areas.registers.resize(registers, 0);
+            let reset = refused(&areas, |i, r, t| reference::reset(i, r, t));
+            let write = refused(&areas, |i, r, _| reference::write_port(i, r, 9, 9));
+            let run = refused_run(&areas, 1_000_001);
+            assert_eq!([reset, write, run], [verdict; 3]);
+        }
+    }
 }
 
 #[test]

@@ -5,6 +5,7 @@ mod generator;
 mod groups;
 mod lease;
 mod lengths;
+mod ports;
 mod values;
 
 use crate::answer::Answer;

@@ -52,9 +52,8 @@ fn any_input(random: &mut Random) -> Vec<u8> {
         0 => faults::damaged(table.image(), random),
         1 => faults::spoil_directory(&table, random),
         2 => {
-            let mut spoiled = table.clone();
-            faults::spoil(&mut spoiled, random.between(2, 12) as u32, random);
-            spoiled.image()
+            let number = *random.pick(faults::NUMBERS);
+            faults::spoiled(&table, &[number], random).image()
         }
         _ => table.image(),
     });

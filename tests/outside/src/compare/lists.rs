@@ -8,6 +8,7 @@ use super::tally::Tally;
 use crate::designs;
 use crate::generate::random::Random;
 use crate::generate::{design, faults, Size};
+use crate::reference::image::{Image, PORT};
 use crate::reference::refusal;
 use crate::table::Table;
 
@@ -36,10 +37,8 @@ impl Tallies {
             ("port write", &self.write_port, &[15]),
             ("run", &self.run, &[13]),
         ] {
-            for number in tally.missing(refusal::LAST) {
-                if !never.contains(&number) {
-                    missing.push(format!("{number} of {name}"));
-                }
+            for number in tally.missing(never) {
+                missing.push(format!("{number} of {name}"));
             }
         }
         missing
@@ -65,6 +64,7 @@ struct Pair<'a> {
 impl Pair<'_> {
     fn make(&mut self, call: Call, registers: usize, targets: usize) -> Result<(), Difference> {
         let image = self.image.to_vec().into_boxed_slice();
+        let ports = self.port_values();
         let given = LIBRARY.make(
             call,
             &image,
@@ -85,8 +85,24 @@ impl Pair<'_> {
             let what = format!("{what}: other bytes in an area, a guard or the image");
             return Err(Difference::new(self.image, &what, given, expected));
         }
+        if matches!(call, Call::Run { .. }) && given.number == 0 && self.port_values() != ports {
+            let what = format!("{what}: a run that changed a port, by both");
+            return Err(Difference::new(self.image, &what, given, expected));
+        }
         self.tallies.of(call).add(expected, self.image.len());
         Ok(())
+    }
+
+    /// The ports in the library's areas, as far as the image has registers.
+    fn port_values(&mut self) -> Vec<u32> {
+        let Ok(image) = Image::open(self.image) else {
+            return Vec::new();
+        };
+        let values = image.registers().zip(self.library.values());
+        values
+            .filter(|(register, _)| register.kind == PORT)
+            .map(|(_, value)| value)
+            .collect()
     }
 
     /// The host writes the areas between two calls.
@@ -103,13 +119,9 @@ pub fn lists_of_seed(seed: u64, tallies: &mut Tallies) -> Result<(), Difference>
     let table = design(&mut random, size);
     let mut image = table.image();
     if random.percent(20) {
-        image = match random.between(1, 12) as u32 {
+        image = match *random.pick(refusal::IMAGE) {
             1 => faults::spoil_directory(&table, &mut random),
-            number => {
-                let mut table = table.clone();
-                faults::spoil(&mut table, number, &mut random);
-                table.image()
-            }
+            number => faults::spoiled(&table, &[number], &mut random).image(),
         };
     }
     let areas = Areas::new(&table, &mut random);

@@ -1,6 +1,7 @@
 //! How often each answer was met, and at how many different places.
 
 use crate::answer::Answer;
+use crate::reference::refusal;
 use std::collections::{BTreeMap, HashSet};
 
 #[derive(Default)]
@@ -45,9 +46,10 @@ impl Tally {
         }
     }
 
-    /// The numbers up to the last that were never met.
-    pub fn missing(&self, last: u32) -> Vec<u32> {
-        (0..=last)
+    /// The numbers that were not met, without those that the call never gives.
+    pub fn missing(&self, never: &[u32]) -> Vec<u32> {
+        (0..=refusal::LAST)
+            .filter(|number| !never.contains(number))
             .filter(|number| !self.answers.contains_key(number))
             .collect()
     }

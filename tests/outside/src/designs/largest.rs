@@ -5,8 +5,8 @@ use crate::reference::limits::{
 };
 use crate::table::Table;
 
-/// The labels are a chain, the registers ports in turn. The root falls; each other state assigns
-/// seven or eight times and goes to the next.
+/// The labels are a chain, the odd registers ports. The root falls; each other state assigns seven
+/// or eight times and goes to the next.
 pub fn largest() -> Table {
     let rows: Vec<u16> = (0..MOST_LABELS).map(|label| u16::MAX << label).collect();
     let mut table = Table::new(&rows);
@@ -34,7 +34,8 @@ pub fn largest() -> Table {
     table
 }
 
-/// The first 304 assignments take five expressions, the others three.
+/// The first 304 assignments take five expressions, the others three. All read any register and
+/// name an even one, which is inner.
 fn assign(table: &mut Table) -> u16 {
     let number = table.commands.len();
     let kind = 2 + (number % 7) as u8;
@@ -45,5 +46,5 @@ fn assign(table: &mut Table) -> u16 {
         let constant = table.constant(number as u32);
         value = table.add(value, constant);
     }
-    table.assign((number % 5 * 13 % MOST_REGISTERS) as u8, value)
+    table.assign((number % 5 * 14 % MOST_REGISTERS) as u8, value)
 }

@@ -7,7 +7,7 @@ mod small;
 pub use largest::largest;
 pub use small::{
     assigns_twice, low_child, nested_commands, nested_sums, one_operation, seen_by_the_child,
-    three_levels, three_states, timer_counted_by_a_high_state,
+    three_levels, three_states, timer_counted_by_a_high_state, timer_is_a_port,
 };
 
 use crate::table::Table;

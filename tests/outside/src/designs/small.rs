@@ -1,5 +1,6 @@
 //! Small designs.
 
+use crate::reference::image::PORT;
 use crate::table::Table;
 
 /// Root falls; state 1 with the given body, state 2 beside it, all of label 0; r0 low and inner, r1 high and a port.
@@ -64,6 +65,13 @@ pub fn low_child() -> Table {
     let mut table = super::lease();
     table.states[2].label = 1;
     table.states[4].label = 0;
+    table
+}
+
+/// The lease design with its timer, which two assignments name, a port.
+pub fn timer_is_a_port() -> Table {
+    let mut table = super::lease();
+    table.registers[0].kind = PORT;
     table
 }
 

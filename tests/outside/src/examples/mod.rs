@@ -1,9 +1,10 @@
-//! Images with the verdict that a sentence of document 01, a decided point or a worked design
+//! Images with the verdict that a sentence of document 01 or 02, a decided point or a worked design
 //! gives them. They are asserted of the reference, and stored for the proved program.
 
 mod flow;
 mod lattices;
 mod nodes;
+mod ports;
 mod records;
 mod shape;
 
@@ -21,6 +22,7 @@ pub fn all() -> Vec<Example> {
     examples.extend(lattices::examples());
     examples.extend(nodes::examples());
     examples.extend(shape::examples());
+    examples.extend(ports::examples());
     examples.extend(flow::examples());
     examples
 }

@@ -1,7 +1,7 @@
 //! Writes bodies and expressions that keep shape and flow by construction.
 
 use super::random::Random;
-use crate::reference::image::LAST_OPERATION;
+use crate::reference::image::{INNER, LAST_OPERATION};
 use crate::reference::limits;
 use crate::table::{Node, Table};
 
@@ -169,8 +169,11 @@ impl<'a> Author<'a> {
 
     /// An assignment where one is allowed, otherwise a skip.
     fn act(&mut self, context: &[u8]) -> u16 {
-        let writable =
-            self.registers(|table, label| context.iter().all(|&from| table.flows(from, label)));
+        let mut writable = self.table.of_kind(INNER);
+        writable.retain(|&register| {
+            let label = self.table.registers[usize::from(register)].label;
+            self.flows(context, label)
+        });
         if writable.is_empty() || self.random.percent(15) {
             return self.table.skip();
         }

@@ -4,6 +4,7 @@ use super::body::Author;
 use super::lattice::{largest_lattice, lattice};
 use super::random::Random;
 use super::size::Size;
+use crate::reference::image::{INNER, PORT};
 use crate::reference::limits::MOST_LABELS;
 use crate::table::{Node, State, Table};
 
@@ -16,7 +17,8 @@ pub fn design(random: &mut Random, size: Size) -> Table {
     let mut table = Table::new(&rows);
     for _ in 0..size.registers {
         let label = random.below(rows.len()) as u8;
-        let kind = random.below(2) as u8;
+        // Rather an inner one: only these are assigned to.
+        let kind = if random.percent(40) { PORT } else { INNER };
         table.register(label, kind, random.value());
     }
     table.states = states(random, &table, size.states);

@@ -1,6 +1,6 @@
 //! Check, the lengths of the areas, reset, port write and run on bytes. A refusal changes no lent byte.
 
-use super::image::Image;
+use super::image::{Image, PORT};
 use super::labels::Labels;
 use super::limits::MOST_CYCLES;
 use super::machine::Machine;
@@ -8,7 +8,7 @@ use super::refusal::Refusal;
 use super::{nodes, records, rules};
 use crate::answer::Answer;
 
-/// The image checks 1 to 12, which every call makes first.
+/// The image checks, 1 to 12 and 16, which every call makes first.
 pub fn judge(bytes: &[u8]) -> Result<Image<'_>, Refusal> {
     let image = Image::open(bytes)?;
     let labels = Labels::judge(&image)?;
@@ -86,7 +86,7 @@ fn try_write_port(
     judge_areas(&image, registers, None)?;
     let place = number as usize;
     match image.registers().nth(place) {
-        Some(register) if register.kind == 1 => {
+        Some(register) if register.kind == PORT => {
             registers[4 * place..4 * place + 4].copy_from_slice(&value.to_le_bytes());
             Ok(0)
         }

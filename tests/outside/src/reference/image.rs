@@ -3,6 +3,9 @@
 use super::limits::*;
 use super::refusal::Refusal;
 
+pub const INNER: u8 = 0;
+pub const PORT: u8 = 1;
+
 pub const CONSTANT: u8 = 0;
 pub const READ: u8 = 1;
 pub const LAST_OPERATION: u8 = 8;

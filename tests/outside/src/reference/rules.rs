@@ -1,4 +1,5 @@
-//! Shape and flow (refusals 8 to 12), on an image whose nodes form one tree for each state.
+//! Shape, assigned ports and flow (refusals 8, 16 and 9 to 12), on an image whose nodes form one
+//! tree for each state.
 
 use super::image::*;
 use super::labels::{only, LabelSet, Labels};
@@ -23,6 +24,7 @@ pub fn judge(image: &Image, labels: &Labels) -> Result<(), Refusal> {
     let states = States::of(image);
     let around = Surroundings::of(image);
     judge_shape(image, &states, &around)?;
+    judge_ports(image)?;
     judge_children(&states, labels)?;
     judge_flow(image, &states, &around, labels)
 }
@@ -129,6 +131,20 @@ fn judge_shape(image: &Image, states: &States, around: &Surroundings) -> Result<
         transfers[number] = transfer;
         if !holds || (heads_state[number] && !transfer) {
             return Err(Refusal::new(8, number));
+        }
+    }
+    Ok(())
+}
+
+/// Refusal 16, request E1: no assignment names a port. Reading one is free.
+fn judge_ports(image: &Image) -> Result<(), Refusal> {
+    let mut is_port = [false; MOST_REGISTERS];
+    for (is_port, register) in is_port.iter_mut().zip(image.registers()) {
+        *is_port = register.kind == PORT;
+    }
+    for (number, node) in image.commands().enumerate() {
+        if node.kind == ASSIGN && is_port[usize::from(node.which)] {
+            return Err(Refusal::new(16, number));
         }
     }
     Ok(())

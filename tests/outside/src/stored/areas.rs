@@ -1,7 +1,7 @@
 //! Wrong lengths, and refused images with good areas. No lent byte changes.
 
 use super::Script;
-use crate::designs::{lease, low_child};
+use crate::designs::{lease, low_child, timer_is_a_port};
 
 pub fn add(script: &mut Script) {
     let image = lease().image();
@@ -50,4 +50,13 @@ fn refused_images(script: &mut Script, image: &[u8]) {
         .note("the image checks come first")
         .areas(&[1, 2, 3], &[9]);
     script.reset().write(9, 9).run(1_000_001);
+    script
+        .note("16 before 13 to 15: wrong areas")
+        .image(&timer_is_a_port().image());
+    script.reset().write(9, 9).run(1_000_001);
+    script
+        .note("an image refused by 16, good areas")
+        .areas(&[3, 0, 0, 0, 0, 0, 0, 0], &[1, 1, 3, 3, 4]);
+    script.reset().write(0, 7).write(9, 9);
+    script.run(0).run(1).run(1_000_001);
 }

@@ -20,4 +20,8 @@ pub fn add(script: &mut Script) {
         .note("port write takes the register area only")
         .areas(&[0; 8], &[])
         .write(1, 5);
+    script
+        .note("a run leaves every port as it was")
+        .areas(&[3, 0, 0, 0, 5, 6, 7, 8], &[1, 1, 3, 3, 4])
+        .run(1_000);
 }

@@ -1,9 +1,7 @@
 //! Adding records one by one; each call gives the new record's number.
 
 use super::{Node, Register, State, Table};
-
-pub const INNER: u8 = 0;
-pub const PORT: u8 = 1;
+use crate::reference::image::{INNER, PORT};
 
 impl Table {
     pub fn new(rows: &[u16]) -> Table {

@@ -130,6 +130,14 @@ impl Table {
         to < 16 && row >> to & 1 == 1
     }
 
+    /// The registers of this kind.
+    pub fn of_kind(&self, kind: u8) -> Vec<u8> {
+        (0..self.registers.len())
+            .filter(|&register| self.registers[register].kind == kind)
+            .map(|register| register as u8)
+            .collect()
+    }
+
     /// The states with this parent; the root is nobody's child.
     pub fn children(&self, parent: usize) -> Vec<u8> {
         (1..self.states.len())

@@ -1,6 +1,7 @@
 //! Faults in flow (refusals 10 to 12): a name or a read becomes one that is not allowed.
 
 use crate::generate::random::Random;
+use crate::reference::image::INNER;
 use crate::reference::limits::{MOST_COMMANDS, MOST_EXPRESSIONS};
 use crate::table::{Family, Node, Table};
 
@@ -72,7 +73,8 @@ pub fn spoil_assign(table: &mut Table, random: &mut Random) {
     };
     let written = table.registers[usize::from(table.commands[number].which)].label;
     match random.below(3) {
-        0 => table.commands[number].which = random.below(table.registers.len()) as u8,
+        // Of a port 16 speaks.
+        0 => table.commands[number].which = *random.pick(&table.of_kind(INNER)),
         1 => read_too_much(
             table,
             usize::from(table.commands[number].a),

@@ -9,12 +9,28 @@ mod records;
 mod shape;
 
 use super::random::Random;
+use crate::reference::refusal;
 use crate::table::Table;
 
 pub use directory::spoil_directory;
 pub use raw::{damaged, resized, senseless};
 
-/// Puts a fault into the table that refusal 2 to 12 speaks of.
+/// The numbers of faults in a table, in the order of the checks: all but 1, the directory's.
+pub const NUMBERS: &[u32] = refusal::IMAGE.split_at(1).1;
+
+/// The design with faults of these numbers.
+pub fn spoiled(table: &Table, numbers: &[u32], random: &mut Random) -> Table {
+    let mut table = table.clone();
+    // The later checks' faults first: they expect a design that passes the earlier ones.
+    for &number in NUMBERS.iter().rev() {
+        for _ in numbers.iter().filter(|&&wanted| wanted == number) {
+            spoil(&mut table, number, random);
+        }
+    }
+    table
+}
+
+/// Puts a fault into the table that the refusal of this number speaks of.
 pub fn spoil(table: &mut Table, number: u32, random: &mut Random) {
     match number {
         2 => records::spoil_rows(table, random),
@@ -24,6 +40,7 @@ pub fn spoil(table: &mut Table, number: u32, random: &mut Random) {
         6 => nodes::spoil_use(table, random),
         7 => nodes::spoil_depth(table, random),
         8 => shape::spoil_shape(table, random),
+        16 => shape::spoil_port(table, random),
         9 => shape::spoil_child(table, random),
         10 => flow::spoil_assign(table, random),
         11 => flow::spoil_goto(table, random),

@@ -1,7 +1,8 @@
-//! Faults in shape and in the labels of children (refusals 8 and 9).
+//! Faults in shape, in what assignments name and in the labels of children (refusals 8, 16 and 9).
 
 use super::flow::Tree;
 use crate::generate::random::Random;
+use crate::reference::image::PORT;
 use crate::table::{Node, Table};
 
 pub fn spoil_shape(table: &mut Table, random: &mut Random) {
@@ -64,6 +65,23 @@ fn spoil_goto_name(table: &mut Table, tree: &Tree, random: &mut Random) {
     let parent = table.states[own].parent;
     let any = random.below(table.states.len()) as u8;
     table.commands[number].which = *random.pick(&[0, parent, child, any]);
+}
+
+/// Some assignment, not only the first, names a port.
+pub fn spoil_port(table: &mut Table, random: &mut Random) {
+    let assigns = numbers(table, |node| node.kind == 1);
+    if assigns.is_empty() {
+        return;
+    }
+    let number = assigns[random.index(assigns.len())];
+    let ports = table.of_kind(PORT);
+    if ports.is_empty() || random.percent(30) {
+        // And with it every other assignment to its register; all flows stay as they were.
+        let register = usize::from(table.commands[number].which);
+        table.registers[register].kind = PORT;
+    } else {
+        table.commands[number].which = *random.pick(&ports);
+    }
 }
 
 /// A label that is not at or above the parent's, in a parent or in a child.
