@@ -10,8 +10,9 @@
  * slices of one call must not overlap. Nothing is read or written outside them.
  *
  * Every call answers a caisson_answer. `number` is 0 on acceptance, else the refusal's number, one of
- * the caisson_refusal values below: the lowest number that applies, except that 10 to 12 are judged
- * in one pass where the lowest node counts. `place` says where:
+ * the caisson_refusal values below: of those that apply, the one judged first. Every call begins with
+ * the image checks, in this order: 1 to 8, then 16, then 9, then 10 to 12 in one pass where the lowest
+ * node counts. What it judges after them stands at the call. `place` says where:
  *
  *   a label, register or state   its number, from 0
  *   a command                    its node number, from 0
@@ -41,7 +42,7 @@ extern "C" {
 
 /* The version of the library and the number of the image's format. CHANGELOG.md says when each moves;
    docs/FORMAT.md has the format byte by byte. */
-#define CAISSON_VERSION "1.1.0"
+#define CAISSON_VERSION "1.2.0"
 #define CAISSON_FORMAT 1
 
 /* Limits of a design table. */
@@ -64,8 +65,8 @@ extern "C" {
 #define CAISSON_WORD 4u                /* bytes of a register in its area */
 #define CAISSON_CYCLES 1000000u        /* most cycles of one run */
 
-/* What is wrong, and where `place` points. 1 to 12 are about the image, and every call judges them
-   first. caisson_refusals.def has the same words for a program to show. */
+/* What is wrong, and where `place` points. 1 to 12 and 16 are about the image: they are the image
+   checks. caisson_refusals.def has the same words for a program to show. */
 enum caisson_refusal {
     CAISSON_ACCEPTED = 0,
     /* The directory, a count of records or the length of a section is wrong. The directory is five
@@ -124,7 +125,11 @@ enum caisson_refusal {
        0 for a length; the lowest state for a target. */
     CAISSON_AREA = 14,
     /* A run asks for more than 1,000,000 cycles. Place: 0. */
-    CAISSON_CYCLE_COUNT = 15
+    CAISSON_CYCLE_COUNT = 15,
+    /* An assignment names a port. Ports belong to the host: only a reset and a port write change
+       them. Any expression may read them. It is judged after 8 and before 9. Place: the
+       assignment. */
+    CAISSON_PORT_ASSIGNED = 16
 };
 
 /* What a call answers. */
@@ -142,9 +147,9 @@ typedef struct {
 #endif
 
 /*
- * Accepts an image exactly when it keeps the rules 1 to 12, or refuses it. Whatever the bytes and
- * the length, the answer is defined. Each pass looks at each record a fixed number of times, within
- * the limits above.
+ * Accepts an image exactly when it keeps the rules 1 to 12 and 16, or refuses it. Whatever the bytes
+ * and the length, the answer is defined. Each pass looks at each record a fixed number of times,
+ * within the limits above. Refusals: the image checks.
  */
 CAISSON_LOOK_AT_ANSWER
 caisson_answer caisson_check(const uint8_t *image, /* the image's bytes */
@@ -153,7 +158,7 @@ caisson_answer caisson_check(const uint8_t *image, /* the image's bytes */
 /*
  * Answers the length in bytes of the register area as `count`: CAISSON_WORD for each register of the
  * image, so 0 for an image without registers and never more than CAISSON_REGISTERS * CAISSON_WORD.
- * Refusals: 1 to 12, as from caisson_check.
+ * Refusals: the image checks, as from caisson_check.
  */
 CAISSON_LOOK_AT_ANSWER
 caisson_answer caisson_registers_length(const uint8_t *image, /* the image's bytes */
@@ -161,7 +166,7 @@ caisson_answer caisson_registers_length(const uint8_t *image, /* the image's byt
 
 /*
  * Answers the length in bytes of the target area as `count`: one for each state of the image, so at
- * least 1 and never more than CAISSON_STATES. Refusals: 1 to 12, as from caisson_check.
+ * least 1 and never more than CAISSON_STATES. Refusals: the image checks, as from caisson_check.
  */
 CAISSON_LOOK_AT_ANSWER
 caisson_answer caisson_targets_length(const uint8_t *image, /* the image's bytes */
@@ -169,8 +174,8 @@ caisson_answer caisson_targets_length(const uint8_t *image, /* the image's bytes
 
 /*
  * Writes each register's reset value and each state's default target: its lowest-numbered child, or
- * its own number where it has none. What the areas held before does not matter. Refusals: 1 to 12,
- * then 14 for a length.
+ * its own number where it has none. What the areas held before does not matter. Refusals: the image
+ * checks, then 14 for a length.
  */
 CAISSON_LOOK_AT_ANSWER
 caisson_answer caisson_reset(const uint8_t *image, size_t image_len,
@@ -179,7 +184,8 @@ caisson_answer caisson_reset(const uint8_t *image, size_t image_len,
 
 /*
  * Sets one register, which must be a port, to a value, and changes nothing else. It takes the
- * register area only. Refusals: 1 to 12, then 14 for its length, then 13.
+ * register area only. No design changes a port: it keeps the value until the next write to it or the
+ * next reset. Refusals: the image checks, then 14 for its length, then 13.
  */
 CAISSON_LOOK_AT_ANSWER
 caisson_answer caisson_write_port(const uint8_t *image, size_t image_len,
@@ -190,8 +196,9 @@ caisson_answer caisson_write_port(const uint8_t *image, size_t image_len,
 /*
  * Runs so many cycles, from 0 to CAISSON_CYCLES, and answers that number as `count`. Each cycle runs
  * the root's command and goes on along the targets; what it leaves in the areas is what the next one
- * starts from. A run of 0 changes nothing. The image is judged once for all cycles of a run.
- * Refusals: 1 to 12, then 14 for a length, 14 for an unsound target, then 15.
+ * starts from. A run, of however many cycles, leaves every port as it was. A run of 0 changes
+ * nothing. The image is judged once for all cycles of a run. Refusals: the image checks, then 14 for
+ * a length, 14 for an unsound target, then 15.
  */
 CAISSON_LOOK_AT_ANSWER
 caisson_answer caisson_run(const uint8_t *image, size_t image_len,

@@ -90,6 +90,8 @@ static void checks(void)
     memcpy(damaged, lease, sizeof lease);
     damaged[49] = 0; /* the label of state 3, which branches on the port of label 1 */
     expect("a secret branch in a low state", caisson_check(damaged, sizeof damaged), CAISSON_GOTO_FLOW, 10, 0);
+    damaged[65] = 1; /* the register of command 1: r1, a port. It is judged before the flow */
+    expect("an assignment to a port", caisson_check(damaged, sizeof damaged), CAISSON_PORT_ASSIGNED, 1, 0);
 }
 
 /* Each length is told for an accepted image alone; a refusal is that of caisson_check. */
@@ -138,6 +140,20 @@ static void cycles(void)
     expect_bytes("registers after no cycle", registers, after[3], 8);
 }
 
+/* However long it is, a run leaves a port as the host wrote it. */
+static void ports(void)
+{
+    static const uint8_t written[CAISSON_WORD] = {1, 2, 3, 4};
+    uint8_t registers[8], targets[5];
+
+    expect("reset", caisson_reset(lease, sizeof lease, registers, 8, targets, 5), CAISSON_ACCEPTED, 0, 0);
+    expect("a port write", caisson_write_port(lease, sizeof lease, registers, 8, 1, 0x04030201), CAISSON_ACCEPTED, 0,
+           0);
+    expect("a long run", caisson_run(lease, sizeof lease, registers, 8, targets, 5, CAISSON_CYCLES), CAISSON_ACCEPTED,
+           0, CAISSON_CYCLES);
+    expect_bytes("the port after a long run", registers + CAISSON_WORD, written, CAISSON_WORD);
+}
+
 static void refusals(void)
 {
     uint8_t registers[8], targets[5], registers_before[8], targets_before[5];
@@ -173,6 +189,7 @@ int main(void)
     checks();
     lengths();
     cycles();
+    ports();
     refusals();
     if (failures == 0)
         printf("calls from C: %d answers as expected\n", answers);

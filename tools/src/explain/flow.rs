@@ -1,5 +1,5 @@
 //! Why a flow is refused: which labels of the context, or of registers read, do not flow to the
-//! label they must. It serves refusals 10 to 12, where the table has kept rules 1 to 9.
+//! label they must. It serves refusals 10 to 12, where the table has kept all rules before.
 
 use crate::print::records::{label_name, register_name, state_name};
 use crate::table::node::{Command, Expression};

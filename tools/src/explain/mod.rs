@@ -3,6 +3,7 @@
 mod flow;
 mod lattice;
 mod place;
+mod ports;
 mod rules;
 mod shape;
 mod uses;

@@ -1,6 +1,6 @@
 //! What stands at the place of a refusal, in source form.
 
-use super::{flow, lattice, shape, uses};
+use super::{flow, lattice, ports, shape, uses};
 use crate::print::body::{self, Reader};
 use crate::print::{layout, records};
 use crate::table::limits::EXPRESSION_PLACE;
@@ -36,6 +36,7 @@ fn node(table: &Table, number: u32, place: usize) -> String {
         6 => format!("{text}\n{}", uses::of_command(table, place as u16)),
         8 => format!("{text}\nBecause:\n{}", shape::reasons(table, place)),
         10..=12 => format!("{text}\nBecause:\n{}", flow::reasons(table, place)),
+        16 => format!("{text}\nBecause:\n{}", ports::reasons(table, place)),
         _ => text,
     }
 }

@@ -166,6 +166,12 @@ fn explain_shows_the_place() {
             12,
             "Because:\n    r0 : l1 does not flow to s1 : l0\n",
         ),
+        (
+            "port_assigned",
+            16,
+            "Command 1 (bytes 1 0 0 0 0 0 0 0):\n    r0 := 0\n\nIn the body of state 1:\n",
+        ),
+        ("port_assigned", 16, "Because:\n    r0 is a port\n"),
     ] {
         let output = caisson(&["explain", &format!("{table}.table")]);
         assert_eq!(output.status.code(), Some(1), "{table}");

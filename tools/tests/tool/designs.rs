@@ -71,7 +71,7 @@ fn designs_are_complete() {
         .collect();
     met.sort();
     met.dedup();
-    assert_eq!(met, (0..=12).collect::<Vec<u32>>());
+    assert_eq!(met, (0..=12).chain([16]).collect::<Vec<u32>>());
 }
 
 /// The README lists every table with its verdict.
