@@ -2,7 +2,7 @@
 use Prim.Native.Nat.{ℕ, _*_, _≤_, _<_}
 use mathlib.Core.Path.{_≡_, refl, sym, _∙_}
 use mathlib.Core.Logic.{_↔_, Iff·trans, Iff·symm, _⊎_, inl, inr}
-use mathlib.Core.Bool.{true, false, _&&_}
+use mathlib.Core.Bool.{true, not, _&&_}
 use mathlib.Core.List.{List, [], _∷_}
 use lib.ListN.{length, getD}
 use Rattle.model.specs.declared.Found.{Found}
@@ -20,8 +20,7 @@ use Rattle.model.specs.Calls.{Lent, registerAreaKept, targetAreaKept, re
 use Rattle.model.specs.Parties.{RightLengths, Call, resets, writes, runs, perform}
 use Rattle.model.specs.Standing.{ChildOf}
 use Rattle.model.specs.Refusals.{Pass, _asks_, TargetKeeps, AllKept, imageTable, resetTable, writePortTable, runTable, callTable, callCount, AnswersBy}
-use Rattle.model.proofs.Laws.Booleans.{true-or-false, false-unless-true}
-use Rattle.model.proofs.Laws.Equivalences.{less-iff, at-most-iff, equal-iff, and-iff, or-iff, not-iff}
+use Rattle.model.proofs.Laws.Equivalences.{less-iff, at-most-iff, equal-iff, refutes-iff, and-iff, or-iff}
 use Rattle.model.proofs.Laws.Images.{section-length}
 use Rattle.model.proofs.Laws.Numbers.{told-accepted, told-refused}
 use Rattle.model.proofs.Laws.Verdict.{refused-is-not-accepted}
@@ -79,13 +78,10 @@ module _ (d : Design) where
 
   target-iff : (targets : List ℕ) (s : ℕ) → (targetSound d targets s ≡ true) ↔ TargetKeeps d targets s
   unfolding targetSound
-  target-iff targets s = or-iff (child-iff d s (getD targets s 0)) (and-iff (Iff·trans not-iff childless) equal-iff)
-    where
-      childless : (hasChild d s ≡ false) ↔ ((q : ℕ) → ChildOf d s q → ⊥)
-      childless = (
-        λ e q child. true-or-false (hasChild d s) (has-child-iff d s .1 (q, child)) e,
-        λ none. false-unless-true (hasChild d s) (λ e. let found = has-child-iff d s .0 e in none (found .0) (found .1)),
-      )
+  target-iff targets s =
+      let childless : (not (hasChild d s) ≡ true) ↔ ((q : ℕ) → ChildOf d s q → ⊥) =
+      Iff·trans (refutes-iff (has-child-iff d s)) (λ h q child. h (q, child), λ none found. none (found .0) (found .1)) in
+      or-iff (child-iff d s (getD targets s 0)) (and-iff childless equal-iff)
 
   writable-iff : (r : ℕ) → (isWritable d r ≡ true) ↔ ((r < length (d .registers)) × (registerAt d r .kind ≡ 1))
   unfolding isWritable

@@ -21,6 +21,10 @@ assignsOne r = withKinds 0 1 0 3 (assigns r 0 ∷ goesTo 1 ∷ sequences 1 2 ∷
 shows-assign-port : map (λ (r : ℕ). judged (assignsOne r)) (0 ∷ 1 ∷ 2 ∷ []) ≡ accepted 0 ∷ refused 16 1 ∷ accepted 0 ∷ []
 shows-assign-port = unfold checks in refl
 
+-- nor to itself: r1 := r1; goto 1
+shows-port-to-itself : judged (withKinds 0 1 0 3 (assigns 1 0 ∷ goesTo 1 ∷ sequences 1 2 ∷ []) (reads 1 ∷ [])) ≡ refused 16 1
+shows-port-to-itself = unfold checks in refl
+
 -- A port may be read: r0 := r1; if r1 then goto 1 else goto 1
 shows-port-read
     : judged (withKinds 0 1 1 5 (assigns 0 0 ∷ goesTo 1 ∷ goesTo 1 ∷ branches 1 2 3 ∷ sequences 1 4 ∷ []) (reads 1 ∷ reads 1 ∷ [])) ≡ accepted 0

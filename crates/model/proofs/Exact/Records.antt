@@ -4,17 +4,15 @@ use mathlib.Core.Path.{_≡_, refl, ap}
 use mathlib.Core.Logic.{_↔_, Iff·trans}
 use mathlib.Core.Bool.{true, false, false≢true}
 use native.Mathlib.Omega.{arith}
-use borrow.Author.Tests.{eqb-true, eq-eqb}
 use Rattle.model.specs.Image.{Design, Node, registerAt, commandAt, expressionAt}
 use Rattle.model.specs.Lattice.{stateLabel}
-use Rattle.model.specs.States.{parent, isPort, registerKept, parentKept, stateKept, childLabelKept}
+use Rattle.model.specs.States.{parent, registerKept, parentKept, stateKept, childLabelKept}
 use Rattle.model.specs.Kinds.{CommandKind, skips, assigns, sequences, falls, goes, branches, unknownCommand, ExpressionKind, constants, reads, unknownExpression, operates, commandKind, expressionKind, commandHolds, expressionHolds, commandKept, expressionKept}
 use Rattle.model.specs.Ports.{sparesPorts, namesNoPort}
 use Rattle.model.specs.Nodes.{commandUsedOnce, expressionUsedOnce, commandDepthKept, expressionDepthKept}
 use Rattle.model.specs.Rules.{RegisterKeeps, StateKeeps, CommandHolds, ExpressionHolds, CommandKeeps, ExpressionKeeps, CommandUsedOnce, ExpressionUsedOnce, CommandDepthKeeps, ExpressionDepthKeeps, ChildLabelKeeps, NamesNoPort}
-use Rattle.model.proofs.Laws.Booleans.{true-or-false, false-unless-true}
 use Rattle.model.proofs.Laws.Kinds.{commandNumber}
-use Rattle.model.proofs.Laws.Equivalences.{less-iff, at-most-iff, equal-iff, not-iff, and-iff, and-three-iff, and-four-iff}
+use Rattle.model.proofs.Laws.Equivalences.{less-iff, at-most-iff, equal-iff, refutes-iff, and-iff, and-three-iff, and-four-iff}
 
 -- no node of an unknown kind is kept
 never-iff : (false ≡ true) ↔ ⊥
@@ -88,10 +86,7 @@ module _ (d : Design) where
   spares-iff : (kind : CommandKind) (x : Node) → (sparesPorts d kind x ≡ true) ↔ (kind ≡ assigns → registerAt d (x .item) .kind ≡ 1 → ⊥)
   unfolding sparesPorts
   spares-iff skips x = unasked skips (λ z. omega arith)
-  spares-iff assigns x = Iff·trans not-iff (
-    λ e k port. true-or-false (isPort d (x .item)) (eq-eqb _ _ port) e,
-    λ h. false-unless-true (isPort d (x .item)) (λ e. h refl (eqb-true _ _ e)),
-  )
+  spares-iff assigns x = Iff·trans (refutes-iff equal-iff) (λ h k. h, λ h. h refl)
   spares-iff sequences x = unasked sequences (λ z. omega arith)
   spares-iff falls x = unasked falls (λ z. omega arith)
   spares-iff goes x = unasked goes (λ z. omega arith)

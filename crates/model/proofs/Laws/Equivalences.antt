@@ -7,7 +7,7 @@ use lib.Dec.{ltb, leb, eqb}
 use borrow.Author.Tests.{ltb-true, lt-ltb, leb-true, le-leb, eqb-true, eq-eqb}
 use Rattle.model.specs.Indices.{allBelow, someBelow}
 use Rattle.model.specs.Lattice.{implies}
-use Rattle.model.proofs.Laws.Booleans.{and-first, and-second, and-both, or-cases, or-first, or-second, not-true, false-not, implies-apply, implies-make, beq-same, beq-make}
+use Rattle.model.proofs.Laws.Booleans.{true-or-false, false-unless-true, and-first, and-second, and-both, or-cases, or-first, or-second, not-true, false-not, implies-apply, implies-make, beq-same, beq-make}
 use Rattle.model.proofs.Laws.Indices.{all-at, all-make, some-at, some-make}
 
 pub less-iff : {a b : ℕ} → (ltb a b ≡ true) ↔ (a < b)
@@ -21,6 +21,10 @@ equal-iff {a} {b} = (eqb-true a b, eq-eqb a b)
 
 pub not-iff : {a : Bool} → (not a ≡ true) ↔ (a ≡ false)
 not-iff {a} = (not-true a, false-not a)
+
+-- a test that fails refutes what it says
+pub refutes-iff : {a : Bool} {P : Type 0} → ((a ≡ true) ↔ P) → (not a ≡ true) ↔ (P → ⊥)
+refutes-iff {a} f = (λ e p. true-or-false a (f .1 p) (not-true a e), λ h. false-not a (false-unless-true a (λ e. h (f .0 e))))
 
 pub same-iff : {a b : Bool} → (Bool·beq a b ≡ true) ↔ (a ≡ b)
 same-iff {a} {b} = (beq-same a b, beq-make a b)
