@@ -74,14 +74,14 @@ p10-refused = unfold checks in refl
 
 -- 01, 'The lease design'.
 
--- "208 bytes"
-lease-length : length lease ≡ 208
+-- "208 bytes"; with 02's E2, which gives each of its two registers a byte more, 210
+lease-length : length lease ≡ 210
 lease-length = refl
 
--- "with pairs 20,4 24,12 36,20 56,104 160,48"
+-- "with pairs 20,4 24,12 36,20 56,104 160,48"; with E2 the registers take 14
 lease-directory
     : map (pairOf lease) (Labels ∷ Registers ∷ States ∷ Commands ∷ Expressions ∷ [])
-    ≡ (20, 4) ∷ (24, 12) ∷ (36, 20) ∷ (56, 104) ∷ (160, 48) ∷ []
+    ≡ (20, 4) ∷ (24, 14) ∷ (38, 20) ∷ (58, 104) ∷ (162, 48) ∷ []
 lease-directory = refl
 
 -- check accepts it

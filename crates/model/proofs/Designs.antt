@@ -15,9 +15,12 @@ abbrev pub joined : List (List ℕ) → List ℕ
 joined [] = []
 joined (x ∷ xs) = x ++ joined xs
 
--- label, kind, reset value
+-- label, kind, reset value, width; and the widest
+abbrev pub widthRecord : ℕ → ℕ → ℕ → ℕ → List ℕ
+widthRecord label kind reset width = label ∷ kind ∷ word32 reset ++ (width ∷ [])
+
 abbrev pub registerRecord : ℕ → ℕ → ℕ → List ℕ
-registerRecord label kind reset = label ∷ kind ∷ word32 reset
+registerRecord label kind reset = widthRecord label kind reset 32
 
 -- parent, label, command number
 abbrev pub stateRecord : ℕ → ℕ → ℕ → List ℕ

@@ -1,12 +1,12 @@
 -- Runs may be cut: a run of n and then one of m leave what a run of n + m leaves. A refused run depends on its areas alone, as long as the counts are
 -- allowed; an accepted one leaves areas that the next one accepts, and bytes that read back as the values it wrote. A run of 0 leaves every byte.
 use Prim.Native.Nat.{ℕ, zero, suc, _+_, _≤_, _<_}
-use mathlib.Core.Path.{_≡_, refl}
+use mathlib.Core.Path.{_≡_, refl, ap}
 use mathlib.Core.Logic.{_⊎_, inl, inr}
 use mathlib.Core.Bool.{Bool, true, false, _&&_}
 use mathlib.Core.List.{List}
 use native.Mathlib.Omega.{arith}
-use lib.ListN.{length}
+use lib.ListN.{length, getD}
 use borrow.Author.Tests.{eqb-true}
 use Rattle.model.specs.declared.Found.{Found}
 use Rattle.model.specs.declared.Found.the-variants.{At, Nowhere}
@@ -16,21 +16,23 @@ use Rattle.model.specs.declared.Answer.the-variants.{Accepted, Refused}
 use Rattle.model.specs.Limits.{cyclesMax}
 use Rattle.model.specs.Indices.{lowestFailing}
 use Rattle.model.specs.Image.{Design, AreBytes, designOf}
+use Rattle.model.specs.Rules.{Keeps}
+use Rattle.model.specs.Values.{modulus, wordsOf, bytesOf}
 use Rattle.model.specs.Verdict.{verdict, refusedAt, _before_}
 use Rattle.model.specs.Answers.{Numbers, numbersOf}
 use Rattle.model.specs.Machine.{Areas, targetSound, cycle, cycles, afterLast, afterCycles}
-use Rattle.model.specs.Calls.{Lent, registerAreaKept, targetAreaKept, lengthAnswer, targetsAnswer, areasOf, lentOf, runAnswer, run}
+use Rattle.model.specs.Calls.{Lent, registerAreaKept, targetAreaKept, lengthAnswer, contentKept, contentsAnswer, targetsAnswer, areasOf, lentOf, runAnswer, run}
 use Rattle.model.specs.Parties.{perform, runs, RightLengths}
 use Rattle.model.proofs.Laws.Booleans.{and-first, and-second}
-use Rattle.model.proofs.Laws.Equivalences.{at-most-iff}
+use Rattle.model.proofs.Laws.Equivalences.{less-iff, at-most-iff}
 use Rattle.model.proofs.Laws.Indices.{failing-none}
-use Rattle.model.proofs.Laws.Words.{length-wordsOf, words-bounded, bytes-of-words}
+use Rattle.model.proofs.Laws.Words.{length-wordsOf, bytes-of-words}
 use Rattle.model.proofs.Laws.Cycles.{after-none, after-sum}
 use Rattle.model.proofs.Laws.Numbers.{no-number-zero}
 use Rattle.model.proofs.Exact.{verdict-exact}
 use Rattle.model.proofs.Refused.{image-decides}
 use Rattle.model.proofs.Independence.Relation.{Good}
-use Rattle.model.proofs.Independence.Bounded.{body-bounded}
+use Rattle.model.proofs.Independence.Widths.{fitting-each}
 use Rattle.model.proofs.Independence.Path.{run-good}
 use Rattle.model.proofs.Independence.Calls.{areas-of-lent, length-lent, run-accepted}
 use Rattle.model.proofs.Independence.Theorem.{rooted}
@@ -47,6 +49,7 @@ module _ (image : List ℕ) (lent : Lent) where
   pub record Ready : Type 0 where
     pub accepted : verdict image ≡ Accepted 0
     pub lengths : RightLengths (designOf image) lent
+    pub contents : (r : ℕ) → r < length (designOf image .registers) → contentKept (designOf image) (lent .registers) r ≡ true
     pub sound : (s : ℕ) → s < length (designOf image .states) → targetSound (designOf image) (lent .targets) s ≡ true
 
   -- a run is refused, whatever its count
@@ -62,23 +65,32 @@ module _ (image : List ℕ) (lent : Lent) where
       d = designOf image
 
       by-targets : verdict image ≡ Accepted 0 → (registerAreaKept d (lent .registers) && targetAreaKept d (lent .targets)) ≡ true
+          → lowestFailing (contentKept d (lent .registers)) (length (d .registers)) ≡ Nowhere
           → (f : Found) → lowestFailing (targetSound d (lent .targets)) (length (d .states)) ≡ f
           → Ready ⊎ Refuses
-      by-targets accepted kept (At s) e =
-          inr (record { refusal = Area; place = s; refused = λ n. unfold run runAnswer lengthAnswer targetsAnswer refusedAt _before_ in rw (accepted, kept, e) })
-      by-targets accepted kept Nowhere e =
+      by-targets accepted kept fit (At s) e =
+          inr (record { refusal = Area; place = s; refused = λ n. unfold run runAnswer lengthAnswer contentsAnswer targetsAnswer refusedAt _before_ in rw (accepted, kept, fit, e) })
+      by-targets accepted kept fit Nowhere e =
           let registers = and-first (registerAreaKept d (lent .registers)) (targetAreaKept d (lent .targets)) kept in
           let targets = and-second (registerAreaKept d (lent .registers)) (targetAreaKept d (lent .targets)) kept in
           inl (
           record {
             accepted = accepted;
             lengths = record { registers = eqb-true _ _ registers; targets = eqb-true _ _ targets };
+            contents = failing-none (contentKept d (lent .registers)) (length (d .registers)) fit;
             sound = failing-none (targetSound d (lent .targets)) (length (d .states)) e;
           }
           )
 
+      by-contents : verdict image ≡ Accepted 0 → (registerAreaKept d (lent .registers) && targetAreaKept d (lent .targets)) ≡ true
+          → (f : Found) → lowestFailing (contentKept d (lent .registers)) (length (d .registers)) ≡ f
+          → Ready ⊎ Refuses
+      by-contents accepted kept (At r) e =
+          inr (record { refusal = Area; place = r; refused = λ n. unfold run runAnswer lengthAnswer contentsAnswer refusedAt _before_ in rw (accepted, kept, e) })
+      by-contents accepted kept Nowhere e = by-targets accepted kept e (lowestFailing (targetSound d (lent .targets)) (length (d .states))) refl
+
       by-lengths : verdict image ≡ Accepted 0 → (b : Bool) → (registerAreaKept d (lent .registers) && targetAreaKept d (lent .targets)) ≡ b → Ready ⊎ Refuses
-      by-lengths accepted true e = by-targets accepted e (lowestFailing (targetSound d (lent .targets)) (length (d .states))) refl
+      by-lengths accepted true e = by-contents accepted e (lowestFailing (contentKept d (lent .registers)) (length (d .registers))) refl
       by-lengths accepted false e =
           inr (record { refusal = Area; place = 0; refused = λ n. unfold run runAnswer lengthAnswer refusedAt _before_ in rw (accepted, e) })
 
@@ -90,16 +102,17 @@ module _ (image : List ℕ) (lent : Lent) where
   module _ (ready : Ready) where
     ready-run : (n : ℕ) → n ≤ cyclesMax → run image lent n ≡ record { answer = Accepted n; lent = lentOf (afterCycles (designOf image) n (areasOf (designOf image) lent)) }
     unfolding perform
-    ready-run n l = run-accepted image (ready .accepted) lent (ready .lengths) (ready .sound) n (at-most-iff .1 l)
+    ready-run n l = run-accepted image (ready .accepted) lent (ready .lengths) (ready .contents) (ready .sound) n (at-most-iff .1 l)
 
-    ready-good : AreBytes (lent .registers) → Good (designOf image) (areasOf (designOf image) lent)
-    unfolding areasOf
-    ready-good bytes =
-        let n = length (designOf image .registers) in
+    pub ready-good : Good (designOf image) (areasOf (designOf image) lent)
+    unfolding areasOf contentKept
+    ready-good =
+        let registers = designOf image .registers in
+        let size = length-wordsOf (length registers) (lent .registers) in
         record {
-          registers-length = length-wordsOf n (lent .registers);
+          registers-length = size;
           targets-length = ready .lengths .targets;
-          bounded = words-bounded n (lent .registers) bytes;
+          fitting = fitting-each registers (wordsOf (length registers) (lent .registers)) size (λ r l. less-iff .0 (ready .contents r l));
           sound = ready .sound;
         }
 
@@ -109,18 +122,27 @@ module _ (image : List ℕ) (lent : Lent) where
     ready-back bytes = rw (bytes-of-words (length (designOf image .registers)) (lent .registers) bytes (ready .lengths .registers))
 
 -- an accepted run of any length leaves areas that are good
-module _ (image : List ℕ) (bytes : AreBytes image) (accepted : verdict image ≡ Accepted 0) where
-  cycles-good : (n : ℕ) (areas : Areas) → Good (designOf image) areas → Good (designOf image) (afterCycles (designOf image) n areas)
+module _ (image : List ℕ) (accepted : verdict image ≡ Accepted 0) where
+  keeps : Keeps image
+  keeps = verdict-exact image .0 accepted
+
+  pub cycles-good : (n : ℕ) (areas : Areas) → Good (designOf image) areas → Good (designOf image) (afterCycles (designOf image) n areas)
   unfolding cycle
   cycles-good =
-      let keeps = verdict-exact image .0 accepted in
-      after-good (designOf image) (λ areas. run-good (designOf image) (keeps .design) (body-bounded image bytes) (length (designOf image .states)) 0 areas (rooted image (keeps .directory)))
+      after-good (designOf image) (λ areas. run-good (designOf image) (keeps .design) (length (designOf image .states)) 0 areas (rooted image (keeps .directory)))
 
   -- good areas, written as bytes, are ready
   good-ready : (areas : Areas) → Good (designOf image) areas → Ready image (lentOf areas)
-  unfolding lentOf
+  unfolding lentOf contentKept areasOf
   good-ready areas good =
-      record { accepted = accepted; lengths = record { registers = length-lent (designOf image) areas good; targets = good .targets-length }; sound = good .sound }
+      let d = designOf image in
+      let back : wordsOf (length (d .registers)) (bytesOf (areas .registers)) ≡ areas .registers = ap (λ (a : Areas). a .registers) (areas-of-lent d (keeps .design) areas good) in
+      record {
+        accepted = accepted;
+        lengths = record { registers = length-lent d (keeps .design) areas good; targets = good .targets-length };
+        contents = λ r l. less-iff {a = getD (wordsOf (length (d .registers)) (bytesOf (areas .registers))) r 0} {b = modulus (d .registers) r} .1 (rw back (good .fitting r));
+        sound = good .sound;
+      }
 
 -- ---- runs one after the other
 -- three answers in numbers: all accepted, each with its count, or all refused alike
@@ -131,10 +153,10 @@ Grouped n m first second whole =
     × (whole ≡ record { number = 0; place = 0; count = n + m }))
     ⊎ ((first .number ≡ 0 → ⊥) × (second ≡ first) × (whole ≡ first))
 
-pub grouped : (image : List ℕ) → AreBytes image → (lent : Lent) → AreBytes (lent .registers) → (n m : ℕ) → n + m ≤ cyclesMax
+pub grouped : (image : List ℕ) (lent : Lent) (n m : ℕ) → n + m ≤ cyclesMax
     → (run image (run image lent n .lent) m .lent ≡ run image lent (n + m) .lent)
     × Grouped n m (numbersOf (run image lent n .answer)) (numbersOf (run image (run image lent n .lent) m .answer)) (numbersOf (run image lent (n + m) .answer))
-grouped image image-bytes lent bytes n m l = go (ready-or-refuses image lent)
+grouped image lent n m l = go (ready-or-refuses image lent)
   where
     d : Design
     d = designOf image
@@ -147,11 +169,11 @@ grouped image image-bytes lent bytes n m l = go (ready-or-refuses image lent)
         × Grouped n m (numbersOf (run image lent n .answer)) (numbersOf (run image (run image lent n .lent) m .answer)) (numbersOf (run image lent (n + m) .answer))
     go (inl ready) =
         let first = ready-run image lent ready n (omega arith) in
-        let good = cycles-good image image-bytes (ready .accepted) n areas (ready-good image lent ready bytes) in
-        let between = good-ready image image-bytes (ready .accepted) (afterCycles d n areas) good in
+        let good = cycles-good image (ready .accepted) n areas (ready-good image lent ready) in
+        let between = good-ready image (ready .accepted) (afterCycles d n areas) good in
         let second = ready-run image (lentOf (afterCycles d n areas)) between m (omega arith) in
         let whole = ready-run image lent ready (n + m) l in
-        rw (first, second, whole, areas-of-lent d (afterCycles d n areas) good, after-sum d n m areas) (refl, inl (refl, refl, refl))
+        rw (first, second, whole, areas-of-lent d (keeps image (ready .accepted) .design) (afterCycles d n areas) good, after-sum d n m areas) (refl, inl (refl, refl, refl))
     go (inr refuses) =
         rw (refuses .refused n, refuses .refused m, refuses .refused (n + m)) (refl, inr (no-number-zero (refuses .refusal), refl, refl))
 

@@ -5,7 +5,7 @@ pub mod Endings
 pub mod Unnumbered
 pub mod Agreement
 pub mod Commands
-pub mod Bounded
+pub mod Widths
 pub mod Path
 pub mod Rising
 pub mod Enough

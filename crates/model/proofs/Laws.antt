@@ -8,6 +8,7 @@ pub mod Images
 pub mod Found
 pub mod States
 pub mod Gotos
+pub mod Commands
 pub mod Cycles
 pub mod Verdict
 pub mod Nearest

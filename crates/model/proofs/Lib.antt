@@ -7,6 +7,7 @@ pub mod Unchanged
 pub mod Grouping
 pub mod Writing
 pub mod Ports
+pub mod Widths
 pub mod Promises
 pub mod Designs
 pub mod Opened

@@ -7,7 +7,7 @@ use Rattle.model.specs.declared.Found.{Found}
 use Rattle.model.specs.Indices.{allBelow, someBelow, lowest, lowestFailing, lowestOf, occurrences, tabulateFrom, tabulate, joinBelow, upTo, recursively}
 use Rattle.model.specs.Image.{Section, offset, size, sectionKept, offsetsKept, directoryKept, recordsOf, sectionOf, designOf}
 use Rattle.model.specs.Lattice.{flowsTo, rowInside, reflexive, antisymmetric, transitive, leastFull, leastAbove, joined, labelKept, allFlowTo}
-use Rattle.model.specs.States.{registerKept, parentKept, stateKept, childLabelKept, isChild, hasChild, defaultTarget, siblingOrSelf, within}
+use Rattle.model.specs.States.{widthKept, registerKept, parentKept, stateKept, childLabelKept, isChild, hasChild, defaultTarget, siblingOrSelf, within}
 use Rattle.model.specs.Kinds.{commandKind, expressionKind, commandHolds, expressionHolds, commandKept, expressionKept}
 use Rattle.model.specs.Trees.{exprOfKind, cmdOfKind, exprStep, exprOf, cmdStep, cmdOf, bodyOf, exprDepth, cmdDepth, registersRead}
 use Rattle.model.specs.Nodes.{commandParts, expressionsOf, expressionParts, commandUses, expressionUses, commandUsedOnce, expressionUsedOnce, commandDepthKept, expressionDepthKept}
@@ -18,18 +18,18 @@ use Rattle.model.specs.Answers.{Numbers, numbersOf}
 use Rattle.model.specs.Verdict.{_before_, refusedAt, lowestNode, designVerdict, verdict}
 use Rattle.model.specs.Values.{apply, wordsOf, bytesOf}
 use Rattle.model.specs.Machine.{Areas, Cycle, eval, exec, resetAreas, targetSound, cleared, goneTo, afterBody, runFrom, cycle, cycles, afterLast, afterCycles}
-use Rattle.model.specs.Calls.{Lent, Left, registerAreaAnswer, lengthAnswer, targetsAnswer, isWritable, portAnswer, areasOf, lentOf, cyclesAnswer, check, registersLength, targetsLength, resetAnswer, reset, runAnswer, run, writePortAnswer, writePort}
+use Rattle.model.specs.Calls.{Lent, Left, registerAreaAnswer, lengthAnswer, contentKept, contentsAnswer, targetsAnswer, isWritable, portAnswer, valueAnswer, areasOf, lentOf, cyclesAnswer, check, registersLength, targetsLength, resetAnswer, reset, runAnswer, run, writePortAnswer, writePort}
 use Rattle.model.specs.Listing.{bytesOfText, decimal, spaced, header, line, lines, refusalLine, listed, listing}
 use Rattle.model.specs.Parties.{Event, wasReset, wasWritten, cycled, perform, eventsOf, events, atEnd}
 
 -- every definition of the image checks
 unfoldable pub checks : ℕ
-unfolding allBelow someBelow lowest lowestFailing lowestOf occurrences tabulateFrom tabulate joinBelow upTo recursively sectionKept offsetsKept directoryKept recordsOf sectionOf designOf flowsTo rowInside reflexive antisymmetric transitive leastFull leastAbove joined labelKept allFlowTo registerKept parentKept stateKept childLabelKept isChild hasChild defaultTarget siblingOrSelf within commandKind expressionKind commandHolds expressionHolds commandKept expressionKept exprOfKind cmdOfKind exprStep exprOf cmdStep cmdOf bodyOf exprDepth cmdDepth registersRead commandParts expressionsOf expressionParts commandUses expressionUses commandUsedOnce expressionUsedOnce commandDepthKept expressionDepthKept transfers shapeFaults stateShapeFaults shapeFault sparesPorts namesNoPort labelsRead flowFaults stateFlowFaults nearer nearest flowAnswer _before_ refusedAt lowestNode designVerdict verdict
+unfolding allBelow someBelow lowest lowestFailing lowestOf occurrences tabulateFrom tabulate joinBelow upTo recursively sectionKept offsetsKept directoryKept recordsOf sectionOf designOf flowsTo rowInside reflexive antisymmetric transitive leastFull leastAbove joined labelKept allFlowTo widthKept registerKept parentKept stateKept childLabelKept isChild hasChild defaultTarget siblingOrSelf within commandKind expressionKind commandHolds expressionHolds commandKept expressionKept exprOfKind cmdOfKind exprStep exprOf cmdStep cmdOf bodyOf exprDepth cmdDepth registersRead commandParts expressionsOf expressionParts commandUses expressionUses commandUsedOnce expressionUsedOnce commandDepthKept expressionDepthKept transfers shapeFaults stateShapeFaults shapeFault sparesPorts namesNoPort labelsRead flowFaults stateFlowFaults nearer nearest flowAnswer _before_ refusedAt lowestNode designVerdict verdict
 checks = 0
 
 -- and with these every definition of the cycle, the calls, the lists of calls and the listing
 unfoldable pub everything : ℕ
-unfolding checks apply wordsOf bytesOf eval exec resetAreas targetSound cleared goneTo afterBody runFrom cycle cycles afterLast afterCycles registerAreaAnswer lengthAnswer targetsAnswer isWritable portAnswer areasOf lentOf cyclesAnswer check registersLength targetsLength resetAnswer reset runAnswer run writePortAnswer writePort bytesOfText decimal spaced header line lines refusalLine listed listing perform eventsOf events atEnd
+unfolding checks apply wordsOf bytesOf eval exec resetAreas targetSound cleared goneTo afterBody runFrom cycle cycles afterLast afterCycles registerAreaAnswer lengthAnswer contentKept contentsAnswer targetsAnswer isWritable portAnswer valueAnswer areasOf lentOf cyclesAnswer check registersLength targetsLength resetAnswer reset runAnswer run writePortAnswer writePort bytesOfText decimal spaced header line lines refusalLine listed listing perform eventsOf events atEnd
 everything = 0
 
 -- Short ways to put a case.

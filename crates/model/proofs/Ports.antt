@@ -19,15 +19,15 @@ use Rattle.model.specs.Kinds.{CommandKind, skips, assigns, sequences, fa
 use Rattle.model.specs.Trees.{Expr, Cmd, skip, assign, sequence, fall, goto, branch, cmdOfKind, cmdStep, cmdOf, bodyOf}
 use Rattle.model.specs.Rules.{NamesNoPort, DesignKeeps}
 use Rattle.model.specs.Values.{wordsOf, bytesOf}
-use Rattle.model.specs.Machine.{eval, exec, Executed, Areas, Cycle, afterBody, runFrom, cycle, afterCycles}
+use Rattle.model.specs.Machine.{exec, Executed, Areas, Cycle, afterBody, runFrom, cycle, afterCycles}
 use Rattle.model.specs.Calls.{Lent, areasOf, lentOf, runAnswer, run}
 use Rattle.model.specs.Ports.{PortsKept}
 use Rattle.model.proofs.Laws.Indices.{recursively-all}
 use Rattle.model.proofs.Laws.Kinds.{commandNumber, kind-skips}
 use Rattle.model.proofs.Laws.Words.{value-bytes, bytes-of-words}
+use Rattle.model.proofs.Laws.Commands.{sequence-all, branch-all}
 use Rattle.model.proofs.Laws.Cycles.{after-none, after-first}
 use Rattle.model.proofs.Exact.{verdict-exact}
-use Rattle.model.proofs.Independence.Bounded.{sequence-all, branch-all}
 use Rattle.model.proofs.Grouping.{Ready, Refuses, ready-or-refuses}
 
 module _ (d : Design) where
@@ -80,17 +80,17 @@ module _ (d : Design) where
 
     -- ---- commands, cycles: the value of a port stays
     module _ (r : ℕ) (port : registerAt d r .kind ≡ 1) where
-      exec-keeps : (values : List ℕ) (c : Cmd) → SparesPorts c → getD (exec values c .registers) r 0 ≡ getD values r 0
+      exec-keeps : (values : List ℕ) (c : Cmd) → SparesPorts c → getD (exec (d .registers) values c .registers) r 0 ≡ getD values r 0
       unfolding exec
       exec-keeps values (skip n) spares = refl
-      exec-keeps values (assign n w e) spares = getD-set-other values w r (eval values e) 0 (λ same. spares (rw (← same) port))
+      exec-keeps values (assign n w e) spares = getD-set-other values w r _ 0 (λ same. spares (rw (← same) port))
       exec-keeps values (sequence n p q) spares =
           let first = exec-keeps values p (spares .0) in
-          sequence-all (λ x. getD (x .registers) r 0 ≡ getD values r 0) values n p q first (exec-keeps (exec values p .registers) q (spares .1) ∙ first)
+          sequence-all (d .registers) (λ x. getD (x .registers) r 0 ≡ getD values r 0) values n p q first (exec-keeps (exec (d .registers) values p .registers) q (spares .1) ∙ first)
       exec-keeps values (fall n) spares = refl
       exec-keeps values (goto n t) spares = refl
       exec-keeps values (branch n e p q) spares =
-          branch-all (λ x. getD (x .registers) r 0 ≡ getD values r 0) values n e p q (exec-keeps values p (spares .0)) (exec-keeps values q (spares .1))
+          branch-all (d .registers) (λ x. getD (x .registers) r 0 ≡ getD values r 0) values n e p q (exec-keeps values p (spares .0)) (exec-keeps values q (spares .1))
 
       -- the cycle ends with what the body left, or with what the fall left
       after-body-keeps : (o : Outcome) (s v : ℕ) (left : Areas) (fell : Cycle) → getD (left .registers) r 0 ≡ v → getD (fell .after .registers) r 0 ≡ v
@@ -104,9 +104,9 @@ module _ (d : Design) where
       unfolding runFrom
       run-from-keeps zero s areas = refl
       run-from-keeps (suc bodies) s areas =
-          let left : Areas = record { registers = exec (areas .registers) (bodyOf d s) .registers; targets = areas .targets } in
+          let left : Areas = record { registers = exec (d .registers) (areas .registers) (bodyOf d s) .registers; targets = areas .targets } in
           let own = exec-keeps (areas .registers) (bodyOf d s) (body-spares s) in
-          after-body-keeps (exec (areas .registers) (bodyOf d s) .outcome) s _ left _ own (run-from-keeps bodies (getD (areas .targets) s 0) left ∙ own)
+          after-body-keeps (exec (d .registers) (areas .registers) (bodyOf d s) .outcome) s _ left _ own (run-from-keeps bodies (getD (areas .targets) s 0) left ∙ own)
 
       after-keeps : (n : ℕ) (areas : Areas) → getD (afterCycles d n areas .registers) r 0 ≡ getD (areas .registers) r 0
       unfolding cycle

@@ -6,14 +6,16 @@ use mathlib.Core.List.{List}
 use Prim.Native.Nat.{ℕ, _+_, _*_, _≤_}
 use lib.ListN.{length}
 use Rattle.model.specs.declared.Refusal.{Refusal}
+use Rattle.model.specs.declared.Answer.the-variants.{Accepted}
 use Rattle.model.specs.Limits.{cyclesMax, wordLength}
 use Rattle.model.specs.Image.{AreBytes, designOf}
 use Rattle.model.specs.Answers.{numberOf, numbersOf}
 use Rattle.model.specs.Rules.{Keeps}
 use Rattle.model.specs.Ports.{PortsKept}
 use Rattle.model.specs.Calls.{Lent, check, registersLength, targetsLength, writePort, run}
-use Rattle.model.specs.Refusals.{AllKept, FirstBroken, imageTable, callTable, callCount, AnswersBy}
-use Rattle.model.specs.Parties.{Call, perform, Independent}
+use Rattle.model.specs.Refusals.{AllKept, FirstBroken, imageTable, callTable, callCount, AnswersBy, WithinWidths}
+use Rattle.model.specs.Verdict.{verdict}
+use Rattle.model.specs.Parties.{Call, perform, atEnd, Use, start, Independent}
 use Rattle.model.proofs.Exact.{check-exact}
 use Rattle.model.proofs.Refused.{keeps-table, check-answers, registers-length-answers, targets-length-answers, call-answers}
 use Rattle.model.proofs.Independence.Theorem.{independent}
@@ -21,6 +23,7 @@ use Rattle.model.proofs.Unchanged.{refused-lent}
 use Rattle.model.proofs.Grouping.{Grouped, grouped, none-left}
 use Rattle.model.proofs.Writing.{ChangesOnly, changes-only}
 use Rattle.model.proofs.Ports.{run-keeps-ports}
+use Rattle.model.proofs.Widths.{accepted-within, list-within}
 
 -- Demand 2, for check: an image is accepted, with number 0, place 0 and count 0, exactly when it keeps the rules.
 pub accepted-exactly : (image : List ℕ) → (numbersOf (check image) ≡ record { number = 0; place = 0; count = 0 }) ↔ Keeps image
@@ -58,7 +61,7 @@ independent-parties = independent
 
 -- "An accepted run of n counts as n cycles": so a run may be cut. A run of n and then one of m leave what one of n + m leaves; all three are accepted, each
 -- with its count, or all are refused alike.
-pub runs-grouped : (image : List ℕ) → AreBytes image → (lent : Lent) → AreBytes (lent .registers) → (n m : ℕ) → n + m ≤ cyclesMax
+pub runs-grouped : (image : List ℕ) (lent : Lent) (n m : ℕ) → n + m ≤ cyclesMax
     → (run image (run image lent n .lent) m .lent ≡ run image lent (n + m) .lent)
     × Grouped n m (numbersOf (run image lent n .answer)) (numbersOf (run image (run image lent n .lent) m .answer)) (numbersOf (run image lent (n + m) .answer))
 runs-grouped = grouped
@@ -76,3 +79,12 @@ write-changes-only = changes-only
 -- 02, E1, "Ports belong to the host": a run of any number of cycles, whatever it answers, leaves every byte of every port.
 pub ports-kept : (image : List ℕ) (lent : Lent) → AreBytes (lent .registers) → (n : ℕ) → PortsKept (designOf image) (lent .registers) (run image lent n .lent .registers)
 ports-kept = run-keeps-ports
+
+-- 02, E2: an accepted reset, port write or run leaves every register within its width, whatever the areas held before.
+pub within-widths : (image : List ℕ) (lent : Lent) (call : Call) → numbersOf (perform image lent call .answer) .number ≡ 0 → WithinWidths (designOf image) (perform image lent call .lent .registers)
+within-widths = accepted-within
+
+-- So in a list that starts as demand 3 has it the contents are never at fault: after any calls every register is within its width.
+pub lists-within-widths : (image : List ℕ) → verdict image ≡ Accepted 0 → (level : ℕ) (u : Use (designOf image)) (calls : List Call)
+    → WithinWidths (designOf image) (atEnd image (start image level u) calls .registers)
+lists-within-widths = list-within

@@ -16,7 +16,7 @@ use Rattle.model.specs.States.{hasChild}
 use Rattle.model.specs.Answers.{numbersOf}
 use Rattle.model.specs.Verdict.{_before_, refusedAt, designVerdict, verdict}
 use Rattle.model.specs.Rules.{DirectoryKeeps, Keeps}
-use Rattle.model.specs.Calls.{Lent, registerAreaKept, targetAreaKept, registerAreaAnswer, lengthAnswer, targetsAnswer, isWritable, portAnswer, cyclesAnswer, leaves, leavesRegisters, check, registersLength, targetsLength, resetAnswer, reset, runAnswer, run, writePortAnswer, writePort}
+use Rattle.model.specs.Calls.{Lent, registerAreaKept, targetAreaKept, registerAreaAnswer, lengthAnswer, contentKept, contentsAnswer, targetsAnswer, isWritable, portAnswer, valueAnswer, cyclesAnswer, leaves, leavesRegisters, check, registersLength, targetsLength, resetAnswer, reset, runAnswer, run, writePortAnswer, writePort}
 use Rattle.model.specs.Parties.{RightLengths, Call, resets, writes, runs, perform}
 use Rattle.model.specs.Standing.{ChildOf}
 use Rattle.model.specs.Refusals.{Pass, _asks_, TargetKeeps, AllKept, imageTable, resetTable, writePortTable, runTable, callTable, callCount, AnswersBy}
@@ -92,20 +92,26 @@ module _ (image : List ℕ) where
   unfolding resetAnswer lengthAnswer
   reset-decides lent = decides-before (image-decides image) (λ kept. decides-one (finds-zero (lengths-iff (designOf image) lent)))
 
-  pub write-port-decides : (registers : List ℕ) (r v : ℕ) → Decides (writePortAnswer image registers r v) 0 (writePortTable image registers r)
-  unfolding writePortAnswer registerAreaAnswer portAnswer
+  pub write-port-decides : (registers : List ℕ) (r v : ℕ) → Decides (writePortAnswer image registers r v) 0 (writePortTable image registers r v)
+  unfolding writePortAnswer registerAreaAnswer contentsAnswer contentKept portAnswer valueAnswer
   write-port-decides registers r v =
-      decides-before (image-decides image) (λ kept. stage (finds-zero equal-iff) (decides-one (finds-charged r (writable-iff (designOf image) r))))
+      decides-before
+      (image-decides image)
+      (λ kept. stage (finds-zero equal-iff)
+      (stage (finds-each (λ k. less-iff))
+      (stage (finds-charged r (writable-iff (designOf image) r))
+      (decides-one (finds-charged r less-iff)))))
 
   pub run-decides : (lent : Lent) (n : ℕ) → Decides (runAnswer image lent n) n (runTable image lent n)
-  unfolding runAnswer lengthAnswer targetsAnswer cyclesAnswer
+  unfolding runAnswer lengthAnswer contentsAnswer contentKept targetsAnswer cyclesAnswer
   run-decides lent n =
       decides-before
       (image-decides image)
       (λ kept. stage (finds-zero (lengths-iff (designOf image) lent))
+      (stage (finds-each (λ k. less-iff))
       (stage (finds-each (target-iff (designOf image) (lent .targets)))
       (stage (finds-zero at-most-iff)
-      (decides-none n))))
+      (decides-none n)))))
 
 -- ---- the same through the numbers that the host is given
 answers-by : {a : Answer} {n : ℕ} {passes : List Pass} → Decides a n passes → AnswersBy passes n (numbersOf a)

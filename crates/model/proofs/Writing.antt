@@ -54,8 +54,8 @@ module _ (image registers : List ℕ) (r v : ℕ) {c : ℕ} (accepted : writePor
   register-there : r < length (designOf image .registers)
   unfolding writePortAnswer portAnswer isWritable
   register-there =
-      let judged = later-accepts _ _ (later-accepts (verdict image) _ accepted) in
-      ltb-true _ _ (and-first _ (isPort (designOf image) r) (writable (isWritable (designOf image) r) (found-nothing NoPort _ judged)))
+      let judged = later-accepts _ _ (later-accepts _ _ (later-accepts (verdict image) _ accepted)) in
+      ltb-true _ _ (and-first _ (isPort (designOf image) r) (writable (isWritable (designOf image) r) (found-nothing NoPort _ (first-accepts _ _ judged .1))))
     where
       writable : (b : Bool) → cond b Nowhere (At r) ≡ Nowhere → b ≡ true
       writable true e = refl

@@ -1,7 +1,7 @@
 -- The number and the values that document 01 gives to each case of an answer. The promises about answers go through these definitions.
 use Prim.Native.Nat.{ℕ}
 use Rattle.model.specs.declared.Refusal.{Refusal}
-use Rattle.model.specs.declared.Refusal.the-variants.{Directory, LabelRow, RegisterRecord, StateRecord, NodeRecord, NodeUse, Depth, Shape, ChildLabel, AssignFlow, GotoFlow, FallFlow, NoPort, Area, CycleCount, PortAssigned}
+use Rattle.model.specs.declared.Refusal.the-variants.{Directory, LabelRow, RegisterRecord, StateRecord, NodeRecord, NodeUse, Depth, Shape, ChildLabel, AssignFlow, GotoFlow, FallFlow, NoPort, Area, CycleCount, PortAssigned, PortValue}
 use Rattle.model.specs.declared.Answer.{Answer}
 use Rattle.model.specs.declared.Answer.the-variants.{Accepted, Refused}
 
@@ -24,6 +24,8 @@ numberOf Area = 14
 numberOf CycleCount = 15
 -- 02, E1
 numberOf PortAssigned = 16
+-- 02, E2
+numberOf PortValue = 17
 
 -- what the host is given
 pub record Numbers : Type 0 where

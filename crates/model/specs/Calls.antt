@@ -4,9 +4,9 @@ use Prim.Native.Nat.{ℕ, _*_}
 use mathlib.Core.Bool.{Bool, _&&_, cond}
 use mathlib.Core.List.{List}
 use lib.Dec.{leb, ltb, eqb}
-use lib.ListN.{length, set}
+use lib.ListN.{length, getD, set}
 use Rattle.model.specs.declared.Found.the-variants.{At, Nowhere}
-use Rattle.model.specs.declared.Refusal.the-variants.{NoPort, Area, CycleCount}
+use Rattle.model.specs.declared.Refusal.the-variants.{NoPort, Area, CycleCount, PortValue}
 use Rattle.model.specs.declared.Answer.{Answer}
 use Rattle.model.specs.declared.Answer.the-variants.{Accepted, Refused}
 use Rattle.model.specs.Limits.{cyclesMax, wordLength}
@@ -14,7 +14,7 @@ use Rattle.model.specs.Indices.{lowestFailing}
 use Rattle.model.specs.Image.{Design, designOf}
 use Rattle.model.specs.States.{isPort}
 use Rattle.model.specs.Verdict.{verdict, refusedAt, atZeroUnless, _before_}
-use Rattle.model.specs.Values.{wordsOf, bytesOf}
+use Rattle.model.specs.Values.{fits, wordsOf, bytesOf}
 use Rattle.model.specs.Machine.{Areas, resetAreas, targetSound, afterCycles}
 
 -- the bytes of the two areas that the host lends
@@ -47,6 +47,14 @@ module _ (d : Design) where
   unfoldable pub lengthAnswer : Lent → Answer
   lengthAnswer lent = refusedAt Area (atZeroUnless (registerAreaKept (lent .registers) && targetAreaKept (lent .targets)))
 
+  -- 02, E2: "A register area holding a value too large is refusal 14." 01: "then any fault that a request adds in the registers' contents, at the lowest
+  -- register"
+  unfoldable pub contentKept : List ℕ → ℕ → Bool
+  contentKept registers r = fits (d .registers) r (getD (wordsOf (length (d .registers)) registers) r 0)
+
+  unfoldable pub contentsAnswer : List ℕ → Answer
+  contentsAnswer registers = refusedAt Area (lowestFailing (contentKept registers) (length (d .registers)))
+
   unfoldable pub targetsAnswer : Lent → Answer
   targetsAnswer lent = refusedAt Area (lowestFailing (targetSound d (lent .targets)) (length (d .states)))
 
@@ -56,6 +64,10 @@ module _ (d : Design) where
 
   unfoldable pub portAnswer : ℕ → Answer
   portAnswer r = refusedAt NoPort (cond (isWritable r) Nowhere (At r))
+
+  -- 02, E2: "It refuses with 17 a port value too large for its port, after 13."
+  unfoldable pub valueAnswer : ℕ → ℕ → Answer
+  valueAnswer r v = refusedAt PortValue (cond (fits (d .registers) r v) Nowhere (At r))
 
   -- the values of lent areas, and the bytes of values
   unfoldable pub areasOf : Lent → Areas
@@ -92,6 +104,7 @@ module _ (image : List ℕ) (lent : Lent) where
   runAnswer n =
       verdict image
       before lengthAnswer (designOf image) lent
+      before contentsAnswer (designOf image) (lent .registers)
       before targetsAnswer (designOf image) lent
       before cyclesAnswer n
       before Accepted n
@@ -111,7 +124,12 @@ leavesRegisters (Refused refusal place) registers made = record { answer = Refus
 module _ (image registers : List ℕ) (r v : ℕ) where
   -- "port write judges 14 before 13"
   unfoldable pub writePortAnswer : Answer
-  writePortAnswer = verdict image before registerAreaAnswer (designOf image) registers before portAnswer (designOf image) r
+  writePortAnswer =
+      verdict image
+      before registerAreaAnswer (designOf image) registers
+      before contentsAnswer (designOf image) registers
+      before portAnswer (designOf image) r
+      before valueAnswer (designOf image) r v
 
   -- "An accepted port write sets its register to its value and changes nothing else."
   unfoldable pub writePort : LeftRegisters

@@ -93,11 +93,12 @@ directoryKept image =
     && sectionKept image Commands
     && sectionKept image Expressions
 
--- "registers: 6 bytes: label, kind (0 inner, 1 port), 32-bit reset value"
+-- "label, kind (0 inner, 1 port), 32-bit reset value"; 02, E2: "7 bytes, the new last byte being a width"
 pub record Register : Type 0 where
   pub label : ℕ
   pub kind : ℕ
   pub reset : ℕ
+  pub width : ℕ
 
 -- "states: 4 bytes: parent, label, 16-bit command number"
 pub record State : Type 0 where
@@ -118,7 +119,7 @@ abbrev pub rowOf : List ℕ → ℕ
 rowOf bytes = word16At bytes 0
 
 abbrev pub registerOf : List ℕ → Register
-registerOf bytes = record { label = byteAt bytes 0; kind = byteAt bytes 1; reset = word32At bytes 2 }
+registerOf bytes = record { label = byteAt bytes 0; kind = byteAt bytes 1; reset = word32At bytes 2; width = byteAt bytes 6 }
 
 abbrev pub stateOf : List ℕ → State
 stateOf bytes = record { parent = byteAt bytes 0; label = byteAt bytes 1; command = word16At bytes 2 }
@@ -159,8 +160,11 @@ designOf image =
     }
 
 -- a record by its number
+abbrev pub noRegister : Register
+noRegister = record { label = 0; kind = 0; reset = 0; width = 0 }
+
 abbrev pub registerAt : Design → ℕ → Register
-registerAt d r = getD (d .registers) r (record { label = 0; kind = 0; reset = 0 })
+registerAt d r = getD (d .registers) r noRegister
 
 abbrev pub stateAt : Design → ℕ → State
 stateAt d s = getD (d .states) s (record { parent = 0; label = 0; command = 0 })

@@ -1,6 +1,6 @@
 -- The limits of a design table, each named once. 01: "The limits belong to the design table and are named there once."
 -- The code's associated constants of `Design` are tied to these names by proved functions.
-use Prim.Native.Nat.{ℕ, _^_}
+use Prim.Native.Nat.{ℕ, _+_, _*_, _^_}
 
 -- 01, 'The image': the directory is bytes 0 to 19
 abbrev pub directoryLength : ℕ
@@ -10,8 +10,9 @@ directoryLength = 20
 abbrev pub labelLength : ℕ
 labelLength = 2
 
+-- 02, E2: "The register record becomes 7 bytes"; 01 has 6
 abbrev pub registerLength : ℕ
-registerLength = 6
+registerLength = 7
 
 abbrev pub stateLength : ℕ
 stateLength = 4
@@ -53,6 +54,10 @@ expressionPlace = 1024
 abbrev pub cyclesMax : ℕ
 cyclesMax = 1000000
 
+-- 02, E2: "a width of 1 to 32": the greatest width of a register, in bits
+abbrev pub widthMax : ℕ
+widthMax = 32
+
 -- 01: "Values are 32 bits": the number of values
 abbrev pub valueCount : ℕ
 valueCount = 2 ^ 32
@@ -60,3 +65,8 @@ valueCount = 2 ^ 32
 -- the bytes that a register takes in its area
 abbrev pub wordLength : ℕ
 wordLength = 4
+
+-- the length of the largest image: each section has as many records as it may have
+abbrev pub largestImage : ℕ
+largestImage =
+    directoryLength + labelLength * labelsMax + registerLength * registersMax + stateLength * statesMax + nodeLength * commandsMax + nodeLength * expressionsMax

@@ -1,5 +1,5 @@
 -- 01, 'A cycle': evaluation, execution, reset, a goto, and one cycle with its walk.
-use Prim.Native.Nat.{ℕ, zero, suc}
+use Prim.Native.Nat.{ℕ, zero, suc, _%_}
 use mathlib.Core.Bool.{Bool, _&&_, _||_, not, cond}
 use mathlib.Core.List.{List, [], _∷_, map}
 use lib.Dec.{eqb}
@@ -11,7 +11,7 @@ use Rattle.model.specs.Indices.{tabulate}
 use Rattle.model.specs.Image.{Design, Register}
 use Rattle.model.specs.States.{parent, isChild, hasChild, defaultTarget, within}
 use Rattle.model.specs.Trees.{Expr, constant, register, binary, Cmd, skip, assign, sequence, fall, goto, branch, bodyOf}
-use Rattle.model.specs.Values.{apply}
+use Rattle.model.specs.Values.{apply, modulus}
 
 -- the value of an expression
 unfoldable pub eval : List ℕ → Expr → ℕ
@@ -30,22 +30,23 @@ unlessTransferred Continued first second = second
 unlessTransferred (Transferred ending) first second = first
 
 -- "A body ends by a goto, with the state it names, or by a fall, and that ending is held inside the outcome of the command."
-unfoldable pub exec : List ℕ → Cmd → Executed
-exec values (skip n) = record { registers = values; outcome = Continued }
--- "An assignment shows at the next read."
-exec values (assign n r e) = record { registers = set values r (eval values e); outcome = Continued }
-exec values (sequence n p q) =
-    let first = exec values p in
-    let second = exec (first .registers) q in
-    unlessTransferred (first .outcome) first second
-exec values (fall n) = record { registers = values; outcome = Transferred Fall }
-exec values (goto n t) = record { registers = values; outcome = Transferred (Goto t) }
--- "An if takes its first branch when the value is not 0"
-exec values (branch n e p q) =
-    let isZero = eqb (eval values e) 0 in
-    let taken = exec values p in
-    let other = exec values q in
-    cond isZero other taken
+module _ (registers : List Register) where
+  unfoldable pub exec : List ℕ → Cmd → Executed
+  exec values (skip n) = record { registers = values; outcome = Continued }
+  -- "An assignment shows at the next read." 02, E2: "An assignment stores the value modulo 2 to the power of the width."
+  exec values (assign n r e) = record { registers = set values r (eval values e % modulus registers r); outcome = Continued }
+  exec values (sequence n p q) =
+      let first = exec values p in
+      let second = exec (first .registers) q in
+      unlessTransferred (first .outcome) first second
+  exec values (fall n) = record { registers = values; outcome = Transferred Fall }
+  exec values (goto n t) = record { registers = values; outcome = Transferred (Goto t) }
+  -- "An if takes its first branch when the value is not 0"
+  exec values (branch n e p q) =
+      let isZero = eqb (eval values e) 0 in
+      let taken = exec values p in
+      let other = exec values q in
+      cond isZero other taken
 
 -- "The state is two lent areas: registers .. and targets, one byte per state": their values
 pub record Areas : Type 0 where
@@ -90,7 +91,7 @@ module _ (d : Design) where
   unfoldable pub runFrom : ℕ → ℕ → Areas → Cycle
   runFrom zero s areas = record { after = areas; walk = [] }
   runFrom (suc bodies) s areas =
-      let executed = exec (areas .registers) (bodyOf d s) in
+      let executed = exec (d .registers) (areas .registers) (bodyOf d s) in
       let left : Areas = record { registers = executed .registers; targets = areas .targets } in
       let fell = runFrom bodies (getD (areas .targets) s 0) left in
       afterBody (executed .outcome) s left fell

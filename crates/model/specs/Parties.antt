@@ -1,6 +1,6 @@
 -- 01, 'What a party sees': lists of calls, what remains of them at a level, the view, and demand 3 as one statement about whole lists.
 -- The calls are made by the very definitions that the contracts of the calls cite.
-use Prim.Native.Nat.{ℕ, _*_, _<_}
+use Prim.Native.Nat.{ℕ, _*_, _<_, _^_}
 use mathlib.Core.Path.{_≡_}
 use mathlib.Core.Bool.{Bool, cond}
 use mathlib.Core.List.{List, [], _∷_, _++_, map}
@@ -9,7 +9,7 @@ use Rattle.model.specs.declared.Answer.{Answer}
 use Rattle.model.specs.declared.Answer.the-variants.{Accepted, Refused}
 use Rattle.model.specs.Limits.{wordLength}
 use Rattle.model.specs.Indices.{joinBelow, tabulate}
-use Rattle.model.specs.Image.{Design, AreBytes, designOf}
+use Rattle.model.specs.Image.{Design, registerAt, designOf}
 use Rattle.model.specs.Lattice.{flowsTo, registerLabel, stateLabel}
 use Rattle.model.specs.Verdict.{verdict}
 use Rattle.model.specs.Values.{wordsOf, bytesOf}
@@ -108,11 +108,12 @@ pub record RightLengths (d : Design) (lent : Lent) : Type 0 where
   pub registers : length (lent .registers) ≡ wordLength * length (d .registers)
   pub targets : length (lent .targets) ≡ length (d .states)
 
--- One use of the box: two areas, the values given to registers, and a list of calls of any length.
+-- One use of the box: two areas, the values given to registers, and a list of calls of any length. 02, E2: "registers set freely stay within their widths".
 pub record Use (d : Design) : Type 0 where
   pub lent : Lent
   pub lengths : RightLengths d lent
   pub given : ℕ → ℕ
+  pub within : (r : ℕ) → r < length (d .registers) → given r < 2 ^ registerAt d r .width
   pub calls : List Call
 
 -- "then the registers not at or below the level are given any values", of the areas that a reset left
@@ -144,7 +145,6 @@ module _ (image : List ℕ) (level : ℕ) (u : Use (designOf image)) where
 abbrev pub Independent : Type 0
 Independent =
     (image : List ℕ)
-    → AreBytes image
     → verdict image ≡ Accepted 0
     → (level : ℕ)
     → level < length (designOf image .rows)

@@ -1,16 +1,17 @@
 -- 01, 'When the box says no': its table as propositions, the rules in the order in which they are judged. Beside it stand the computations of `Verdict`
 -- and `Calls`; `refused-exactly` and its sisters (proofs/Promises.antt) say that a call answers a refusal exactly where it is the first that this table has.
-use Prim.Native.Nat.{ℕ, _+_, _*_, _≤_, _<_}
+use Prim.Native.Nat.{ℕ, _+_, _*_, _≤_, _<_, _^_}
 use mathlib.Core.Path.{_≡_}
 use mathlib.Core.Logic.{_↔_, _⊎_}
 use mathlib.Core.List.{List, [], _∷_, _++_}
 use lib.ListN.{length, getD}
 use Rattle.model.specs.declared.Refusal.{Refusal}
-use Rattle.model.specs.declared.Refusal.the-variants.{Directory, LabelRow, RegisterRecord, StateRecord, NodeRecord, NodeUse, Depth, Shape, ChildLabel, AssignFlow, GotoFlow, FallFlow, NoPort, Area, CycleCount, PortAssigned}
+use Rattle.model.specs.declared.Refusal.the-variants.{Directory, LabelRow, RegisterRecord, StateRecord, NodeRecord, NodeUse, Depth, Shape, ChildLabel, AssignFlow, GotoFlow, FallFlow, NoPort, Area, CycleCount, PortAssigned, PortValue}
 use Rattle.model.specs.Limits.{expressionPlace, cyclesMax, wordLength}
 use Rattle.model.specs.Image.{Design, designOf, registerAt}
 use Rattle.model.specs.Rules.{DirectoryKeeps, LabelKeeps, RegisterKeeps, StateKeeps, CommandKeeps, ExpressionKeeps, CommandUsedOnce, ExpressionUsedOnce, CommandDepthKeeps, ExpressionDepthKeeps, ChildLabelKeeps, NamesNoPort}
 use Rattle.model.specs.Standing.{ChildOf, ShapeKeeps, AssignKeeps, GotoKeeps, FallKeeps}
+use Rattle.model.specs.Values.{wordsOf}
 use Rattle.model.specs.Answers.{Numbers, numberOf}
 use Rattle.model.specs.Calls.{Lent}
 use Rattle.model.specs.Parties.{RightLengths, Call, resets, writes, runs}
@@ -85,25 +86,37 @@ imageTable image =
 abbrev pub TargetKeeps : Design → List ℕ → ℕ → Type 0
 TargetKeeps d targets s = ChildOf d s (getD targets s 0) ⊎ (((q : ℕ) → ChildOf d s q → ⊥) × (getD targets s 0 ≡ s))
 
+-- 02, E2: no register holds "a value too large"
+abbrev pub ContentKeeps : Design → List ℕ → ℕ → Type 0
+ContentKeeps d registers r = getD (wordsOf (length (d .registers)) registers) r 0 < 2 ^ registerAt d r .width
+
+-- every register is within its width
+abbrev pub WithinWidths : Design → List ℕ → Type 0
+WithinWidths d registers = (r : ℕ) → r < length (d .registers) → ContentKeeps d registers r
+
 -- "Every call makes the image checks .. first."
 module _ (image : List ℕ) where
   -- reset: lengths only
   abbrev pub resetTable : Lent → List Pass
   resetTable lent = imageTable image ++ ((Area asks at 0 (RightLengths (designOf image) lent) ∷ []) ∷ [])
 
-  -- port write: "14 before 13"; "For 13 the place is the register number given."
-  abbrev pub writePortTable : List ℕ → ℕ → List Pass
-  writePortTable registers r =
+  -- port write: "14 before 13"; "For 13 the place is the register number given." 02, E2: 17 "after 13"; decided: at the same place
+  abbrev pub writePortTable : List ℕ → ℕ → ℕ → List Pass
+  writePortTable registers r v =
       imageTable image
       ++ ((Area asks at 0 (length registers ≡ wordLength * length (designOf image .registers)) ∷ [])
+      ∷ (Area asks each (length (designOf image .registers)) (ContentKeeps (designOf image) registers) ∷ [])
       ∷ (NoPort asks at r ((r < length (designOf image .registers)) × (registerAt (designOf image) r .kind ≡ 1)) ∷ [])
+      ∷ (PortValue asks at r (v < 2 ^ registerAt (designOf image) r .width) ∷ [])
       ∷ [])
 
-  -- run: "In 14 a wrong length comes first, with place 0, .. then an unsound target, at the lowest state."
+  -- run: "In 14 a wrong length comes first, with place 0, then any fault that a request adds in the registers' contents, at the lowest register, then an
+  -- unsound target, at the lowest state."
   abbrev pub runTable : Lent → ℕ → List Pass
   runTable lent n =
       imageTable image
       ++ ((Area asks at 0 (RightLengths (designOf image) lent) ∷ [])
+      ∷ (Area asks each (length (designOf image .registers)) (ContentKeeps (designOf image) (lent .registers)) ∷ [])
       ∷ (Area asks each (length (designOf image .states)) (TargetKeeps (designOf image) (lent .targets)) ∷ [])
       ∷ (CycleCount asks at 0 (n ≤ cyclesMax) ∷ [])
       ∷ [])
@@ -111,7 +124,7 @@ module _ (image : List ℕ) where
 -- the table of a call of a list, and the count that it answers where it is accepted
 abbrev pub callTable : List ℕ → Lent → Call → List Pass
 callTable image lent resets = resetTable image lent
-callTable image lent (writes r v) = writePortTable image (lent .registers) r
+callTable image lent (writes r v) = writePortTable image (lent .registers) r v
 callTable image lent (runs n) = runTable image lent n
 
 abbrev pub callCount : Call → ℕ

@@ -5,7 +5,7 @@ use mathlib.Core.Path.{_≡_}
 use mathlib.Core.Bool.{true, false}
 use mathlib.Core.List.{List, [], _∷_, _++_}
 use lib.ListN.{length, getD}
-use Rattle.model.specs.Limits.{directoryLength, depthMax}
+use Rattle.model.specs.Limits.{directoryLength, depthMax, widthMax}
 use Rattle.model.specs.Indices.{occurrences}
 use Rattle.model.specs.Image.{Section, Labels, Registers, States, Commands, Expressions, recordLength, fewest, most, offset, size, count, end, Design, Node, registerAt, stateAt, commandAt, expressionAt, designOf}
 use Rattle.model.specs.Lattice.{flowsTo, registerLabel, stateLabel}
@@ -66,6 +66,10 @@ module _ (d : Design) where
   pub record RegisterKeeps (r : ℕ) : Type 0 where
     pub label : registerLabel d r < length (d .rows)
     pub kind : registerAt d r .kind ≤ 1
+    -- 02, E2: "a width of 1 to 32", and no "reset value too large"
+    pub width-least : 1 ≤ registerAt d r .width
+    pub width-most : registerAt d r .width ≤ widthMax
+    pub reset : registerAt d r .reset < 2 ^ registerAt d r .width
 
   pub record StateKeeps (s : ℕ) : Type 0 where
     pub root-parent : s ≡ 0 → parent d s ≡ 0

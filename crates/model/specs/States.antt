@@ -1,5 +1,5 @@
 -- 01, the last paragraph of 'The image': the tree of states. And refusals 3, 4 and 9, which judge a register or a state by its record.
-use Prim.Native.Nat.{ℕ, zero, suc}
+use Prim.Native.Nat.{ℕ, zero, suc, _^_}
 use mathlib.Core.Bool.{Bool, true, false, _&&_, _||_, not}
 use lib.Dec.{leb, ltb, eqb}
 use lib.ListN.{length}
@@ -8,6 +8,7 @@ use Rattle.model.specs.declared.Found.the-variants.{At, Nowhere}
 use Rattle.model.specs.Indices.{lowest, someBelow, recursively}
 use Rattle.model.specs.Image.{Design, registerAt, stateAt}
 use Rattle.model.specs.Lattice.{flowsTo, stateLabel}
+use Rattle.model.specs.Limits.{widthMax}
 
 -- what was found, else s
 abbrev pub foundOr : ℕ → Found → ℕ
@@ -22,9 +23,13 @@ module _ (d : Design) where
   abbrev pub isPort : ℕ → Bool
   isPort r = eqb (registerAt d r .kind) 1
 
+  -- 02, E2: "A width outside its range, or a reset value too large, is refusal 3."
+  unfoldable pub widthKept : ℕ → Bool
+  widthKept r = leb 1 (registerAt d r .width) && leb (registerAt d r .width) widthMax && ltb (registerAt d r .reset) (2 ^ registerAt d r .width)
+
   -- refusal 3: "register label or kind"
   unfoldable pub registerKept : ℕ → Bool
-  registerKept r = ltb (registerAt d r .label) (length (d .rows)) && leb (registerAt d r .kind) 1
+  registerKept r = ltb (registerAt d r .label) (length (d .rows)) && leb (registerAt d r .kind) 1 && widthKept r
 
   -- "State 0 is the root: parent 0, label 0. Any other parent has a lower number than its child."
   unfoldable pub parentKept : ℕ → Bool

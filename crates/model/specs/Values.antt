@@ -1,11 +1,12 @@
--- 01, 'A cycle': "Values are 32 bits; adding and subtracting wrap." And the bytes of a register area.
-use Prim.Native.Nat.{ℕ, _+_, _-_, _/_, _%_}
+-- 01, 'A cycle': "Values are 32 bits; adding and subtracting wrap." The values that fit a register (02, E2). And the bytes of a register area.
+use Prim.Native.Nat.{ℕ, _+_, _-_, _/_, _%_, _^_}
 use mathlib.Core.Bool.{Bool, cond}
 use mathlib.Core.List.{List, [], _∷_}
 use lib.Bits.{bitAnd, bitOr, bitXor}
 use lib.Dec.{ltb, eqb}
+use lib.ListN.{getD}
 use Rattle.model.specs.Limits.{valueCount, wordLength}
-use Rattle.model.specs.Image.{word32At, recordsOf}
+use Rattle.model.specs.Image.{Register, noRegister, word32At, recordsOf}
 use Rattle.model.specs.Kinds.{Operation, add, subtract, bitwiseAnd, bitwiseOr, bitwiseXor, equal, less}
 
 -- "Equal and less (unsigned) give 1 or 0."
@@ -20,6 +21,14 @@ apply bitwiseOr x y = bitOr x y
 apply bitwiseXor x y = bitXor x y
 apply equal x y = oneOrZero (eqb x y)
 apply less x y = oneOrZero (ltb x y)
+
+-- 02, E2: "2 to the power of the width" of register r. A value fits the register where it is below this.
+module _ (registers : List Register) (r : ℕ) where
+  abbrev pub modulus : ℕ
+  modulus = 2 ^ getD registers r noRegister .width
+
+  abbrev pub fits : ℕ → Bool
+  fits value = ltb value modulus
 
 -- "registers, 4 bytes each": the first n values of a register area
 unfoldable pub wordsOf : ℕ → List ℕ → List ℕ

@@ -37,6 +37,7 @@ pub enum Refusal {
     Area,
     CycleCount,
     PortAssigned,
+    PortValue,
 }
 
 // What a call answers: an acceptance with its count (a run's cycles, else 0), or a refusal with its place.

@@ -73,13 +73,13 @@ shows-piece-of-register = unfold everything in refl
 shows-write-any-targets : told (perform lease anyLent (writes 1 7)) ≡ (accepted 0, lent (9 ∷ 9 ∷ 9 ∷ 9 ∷ 7 ∷ 0 ∷ 0 ∷ 0 ∷ []) (replicate 5 9))
 shows-write-any-targets = unfold everything in refl
 
--- "sets its register to its value": all 32 bits of it, and no more
+-- "sets its register to its value": all 32 bits of it; 02, E2: a value that does not fit is refused by 17
 shows-write-largest
     : told (perform lease anyLent (writes 1 4294967295)) ≡ (accepted 0, lent (9 ∷ 9 ∷ 9 ∷ 9 ∷ 255 ∷ 255 ∷ 255 ∷ 255 ∷ []) (replicate 5 9))
 shows-write-largest = unfold everything in refl
 
 shows-write-33-bits
-    : told (perform lease anyLent (writes 1 4294967301)) ≡ (accepted 0, lent (9 ∷ 9 ∷ 9 ∷ 9 ∷ 5 ∷ 0 ∷ 0 ∷ 0 ∷ []) (replicate 5 9))
+    : told (perform lease anyLent (writes 1 4294967301)) ≡ (refused 17 1, anyLent)
 shows-write-33-bits = unfold everything in refl
 
 -- 13: "the place is the register number given", also where its low byte is a port's number

@@ -81,7 +81,7 @@ shows-if-0 : listing (1 ∷ 0 ∷ eitherWay 0) ≡ bytesOfText "cycle;walk;regis
 shows-if-0 = unfold everything in refl
 
 -- "A body ends by a goto, with the state it names": where the first part of a sequence ended the body, the second does not run
-shows-body-ends : exec [] (sequence 2 (goto 0 3) (goto 1 4)) .outcome ≡ Transferred (Goto 3)
+shows-body-ends : exec [] [] (sequence 2 (goto 0 3) (goto 1 4)) .outcome ≡ Transferred (Goto 3)
 shows-body-ends = unfold everything in refl
 
 -- "registers, 4 bytes each", little-endian: r0 = 16777216 is read, and 16777215 is written; r1 keeps its four bytes

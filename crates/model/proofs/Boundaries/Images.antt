@@ -25,13 +25,13 @@ commands = joined (skips ∷ falls ∷ goesTo 1 ∷ goesTo 1 ∷ branches 0 2 3 
 
 -- its directory with these offsets, the bytes before its commands, and those from them on
 abbrev laid : ℕ → ℕ → ℕ → ℕ → ℕ → List ℕ → List ℕ
-laid l r s c e bytes = joined (rows (l ∷ 2 ∷ r ∷ 6 ∷ s ∷ 8 ∷ c ∷ 48 ∷ e ∷ 8 ∷ [])) ++ bytes
+laid l r s c e bytes = joined (rows (l ∷ 2 ∷ r ∷ 7 ∷ s ∷ 8 ∷ c ∷ 48 ∷ e ∷ 8 ∷ [])) ++ bytes
 
 abbrev records : List ℕ
 records = registers ++ states ++ commands ++ constant 1
 
 -- "Bytes 0 to 19 are five pairs of offset and length, 16 bits each, sorted by offset"
-shows-five-pairs : judged (laid 20 22 28 36 84 (labels ++ records)) ≡ accepted 0
+shows-five-pairs : judged (laid 20 22 29 37 85 (labels ++ records)) ≡ accepted 0
 shows-five-pairs = unfold checks in refl
 
 -- "The first offset is 20; each later one is the sum of offset and length before it; the last section ends at the image's end": a byte before each
@@ -39,12 +39,12 @@ shows-five-pairs = unfold checks in refl
 shows-byte-between
     : map
     judged
-    (laid 21 23 29 37 85 (0 ∷ labels ++ records)
-    ∷ laid 20 23 29 37 85 (labels ++ (0 ∷ records))
-    ∷ laid 20 22 29 37 85 (labels ++ registers ++ (0 ∷ states) ++ commands ++ constant 1)
-    ∷ laid 20 22 28 37 85 (labels ++ registers ++ states ++ (0 ∷ commands) ++ constant 1)
-    ∷ laid 20 22 28 36 85 (labels ++ registers ++ states ++ commands ++ (0 ∷ constant 1))
-    ∷ laid 20 22 28 36 84 (labels ++ records ++ (0 ∷ []))
+    (laid 21 23 30 38 86 (0 ∷ labels ++ records)
+    ∷ laid 20 23 30 38 86 (labels ++ (0 ∷ records))
+    ∷ laid 20 22 30 38 86 (labels ++ registers ++ (0 ∷ states) ++ commands ++ constant 1)
+    ∷ laid 20 22 29 38 86 (labels ++ registers ++ states ++ (0 ∷ commands) ++ constant 1)
+    ∷ laid 20 22 29 37 86 (labels ++ registers ++ states ++ commands ++ (0 ∷ constant 1))
+    ∷ laid 20 22 29 37 85 (labels ++ records ++ (0 ∷ []))
     ∷ [])
     ≡ replicate 6 (refused 1 0)
 shows-byte-between = unfold checks in refl
@@ -53,12 +53,12 @@ shows-byte-between = unfold checks in refl
 shows-byte-shared
     : map
     judged
-    (laid 19 21 27 35 83 (0 ∷ records)
-    ∷ laid 20 21 27 35 83 (1 ∷ records)
-    ∷ laid 20 22 27 35 83 (labels ++ replicate 5 0 ++ states ++ commands ++ constant 1)
-    ∷ laid 20 22 28 35 83 (labels ++ registers ++ (0 ∷ 0 ∷ 1 ∷ 0 ∷ 0 ∷ 0 ∷ 5 ∷ []) ++ commands ++ constant 1)
-    ∷ laid 20 22 28 36 83 (labels ++ registers ++ states ++ commands ++ replicate 7 0)
-    ∷ laid 20 22 28 36 84 (labels ++ registers ++ states ++ commands ++ replicate 7 0)
+    (laid 19 21 28 36 84 (0 ∷ records)
+    ∷ laid 20 21 28 36 84 (1 ∷ records)
+    ∷ laid 20 22 28 36 84 (labels ++ replicate 6 0 ++ states ++ commands ++ constant 1)
+    ∷ laid 20 22 29 36 84 (labels ++ registers ++ (0 ∷ 0 ∷ 1 ∷ 0 ∷ 0 ∷ 0 ∷ 5 ∷ []) ++ commands ++ constant 1)
+    ∷ laid 20 22 29 37 84 (labels ++ registers ++ states ++ commands ++ replicate 7 0)
+    ∷ laid 20 22 29 37 85 (labels ++ registers ++ states ++ commands ++ replicate 7 0)
     ∷ [])
     ≡ replicate 6 (refused 1 0)
 shows-byte-shared = unfold checks in refl
@@ -93,8 +93,8 @@ shows-labels-17 = unfold checks in refl
 
 -- registers, "0 to 64"
 shows-registers-65
-    : directoryKept (fromSections (1 ∷ 0 ∷ []) (replicate 390 0) (replicate 4 0) [] [])
-    ∷ directoryKept (fromSections (1 ∷ 0 ∷ []) (replicate 384 0) (replicate 4 0) [] [])
+    : directoryKept (fromSections (1 ∷ 0 ∷ []) (replicate 455 0) (replicate 4 0) [] [])
+    ∷ directoryKept (fromSections (1 ∷ 0 ∷ []) (replicate 448 0) (replicate 4 0) [] [])
     ∷ directoryKept (fromSections (1 ∷ 0 ∷ []) [] (replicate 4 0) [] [])
     ∷ []
     ≡ false ∷ true ∷ true ∷ []

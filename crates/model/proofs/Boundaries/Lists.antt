@@ -1,20 +1,27 @@
 -- Cases at the boundaries of 01's section 'What a party sees': lists of calls, what remains of them, and the views.
-use Prim.Native.Nat.{ℕ, _+_}
+use Prim.Native.Nat.{ℕ, zero, suc, _+_, _<_, _^_}
 use native.Mathlib.Omega.{arith}
 use mathlib.Core.Path.{_≡_, refl, ap}
 use mathlib.Core.Bool.{false≢true}
 use mathlib.Core.List.{List, [], _∷_, _++_, map}
 use lib.Dec.{eqb}
-use lib.ListN.{replicate}
-use Rattle.model.specs.Image.{AreBytes, designOf}
+use lib.ListN.{length, replicate}
+use Rattle.model.specs.Image.{registerAt, designOf}
 use Rattle.model.specs.Values.{bytesOf}
 use Rattle.model.specs.Parties.{Call, Seen, RightLengths, Use, Independent, resets, runs, writes, aReset, aWrite, aCycle, events, atEnd, givenUnseen, valuesSeen, walkSeen, view, remaining, withUnseen, start, history, remains, views, seenAtEnd}
-use Rattle.model.proofs.Opened.{everything, lent, anyLent, resetLent, shortLent, longTargets}
+use Rattle.model.proofs.Opened.{checks, everything, lent, anyLent, resetLent, shortLent, longTargets}
 use Rattle.model.proofs.Designs.{lease, assemble, registerRecord, stateRecord, assigns, sequences, falls, goesTo, branches, constant, reads, adds}
+
+-- both registers of the lease design have width 32
+leaseWithin : (given : ℕ → ℕ) → ((r : ℕ) → given r < 2 ^ 32) → (r : ℕ) → r < length (designOf lease .registers) → given r < 2 ^ registerAt (designOf lease) r .width
+unfolding checks
+leaseWithin given h zero l = h 0
+leaseWithin given h (suc zero) l = h 1
+leaseWithin given h (suc (suc r)) l = absurd (omega arith)
 
 -- two cycles of the lease design, a write to its port, one to its inner register, which is refused, and a third cycle
 abbrev aUse : Use (designOf lease)
-aUse = record { lent = anyLent; lengths = record { registers = unfold everything in refl; targets = unfold everything in refl }; given = λ r. 7; calls = runs 2 ∷ writes 1 5 ∷ writes 0 5 ∷ runs 1 ∷ [] }
+aUse = record { lent = anyLent; lengths = record { registers = unfold everything in refl; targets = unfold everything in refl }; given = λ r. 7; within = leaseWithin (λ r. 7) (λ r. omega arith); calls = runs 2 ∷ writes 1 5 ∷ writes 0 5 ∷ runs 1 ∷ [] }
 
 abbrev seen : List ℕ → List ℕ → Seen
 seen values walk = record { values = values; walk = walk }
@@ -43,7 +50,7 @@ shows-end = unfold whole in refl
 
 -- "the empty one included": an empty list has no view and leaves what its start left
 abbrev noCalls : Use (designOf lease)
-noCalls = record { lent = anyLent; lengths = record { registers = unfold everything in refl; targets = unfold everything in refl }; given = λ r. 7; calls = [] }
+noCalls = record { lent = anyLent; lengths = record { registers = unfold everything in refl; targets = unfold everything in refl }; given = λ r. 7; within = leaseWithin (λ r. 7) (λ r. omega arith); calls = [] }
 
 shows-empty-views : views lease 1 noCalls ≡ []
 shows-empty-views = unfold whole in refl
@@ -82,6 +89,16 @@ diamond =
     ∷ [])
     (reads 0 ∷ reads 4 ∷ constant 1 ∷ adds 1 2 ∷ reads 2 ∷ [])
 
+diamondWithin : (r : ℕ) → r < length (designOf diamond .registers) → 100 + r < 2 ^ registerAt (designOf diamond) r .width
+unfolding checks
+diamondWithin zero l = omega arith
+diamondWithin (suc zero) l = omega arith
+diamondWithin (suc (suc zero)) l = omega arith
+diamondWithin (suc (suc (suc zero))) l = omega arith
+diamondWithin (suc (suc (suc (suc zero)))) l = omega arith
+diamondWithin (suc (suc (suc (suc (suc zero))))) l = omega arith
+diamondWithin (suc (suc (suc (suc (suc (suc r)))))) l = absurd (omega arith)
+
 -- two cycles by the states 3 and 4, two writes, a reset, two more writes, two cycles by state 2, and a run of 0; register r is given 100 + r
 abbrev bothWays : Use (designOf diamond)
 bothWays =
@@ -89,6 +106,7 @@ bothWays =
       lent = lent (replicate 24 9) (replicate 5 9);
       lengths = record { registers = unfold everything in refl; targets = unfold everything in refl };
       given = λ r. 100 + r;
+      within = diamondWithin;
       calls = runs 2 ∷ writes 1 21 ∷ writes 2 22 ∷ resets ∷ writes 0 5 ∷ writes 3 33 ∷ runs 2 ∷ runs 0 ∷ [];
     }
 
@@ -147,6 +165,7 @@ endsBy call =
       lent = anyLent;
       lengths = record { registers = unfold everything in refl; targets = unfold everything in refl };
       given = λ r. 7;
+      within = leaseWithin (λ r. 7) (λ r. omega arith);
       calls = runs 2 ∷ call ∷ [];
     }
 
@@ -177,14 +196,15 @@ otherUse =
       lent = resetLent;
       lengths = record { registers = unfold everything in refl; targets = unfold everything in refl };
       given = λ r. 8;
+      within = leaseWithin (λ r. 8) (λ r. omega arith);
       calls = runs 1 ∷ runs 1 ∷ writes 2 6 ∷ writes 1 5 ∷ runs 1 ∷ [];
     }
 
 shows-claim-1
-    : Independent → AreBytes lease → (views lease 1 aUse ≡ views lease 1 otherUse) × (seenAtEnd lease 1 aUse ≡ seenAtEnd lease 1 otherUse)
-shows-claim-1 claim bytes = claim lease bytes (unfold everything in refl) 1 (unfold everything in omega arith) aUse otherUse (unfold whole in refl)
+    : Independent → (views lease 1 aUse ≡ views lease 1 otherUse) × (seenAtEnd lease 1 aUse ≡ seenAtEnd lease 1 otherUse)
+shows-claim-1 claim = claim lease (unfold everything in refl) 1 (unfold everything in omega arith) aUse otherUse (unfold whole in refl)
 
 -- at the lowest level, of empty lists
 shows-claim-0
-    : Independent → AreBytes lease → (views lease 0 noCalls ≡ views lease 0 noCalls) × (seenAtEnd lease 0 noCalls ≡ seenAtEnd lease 0 noCalls)
-shows-claim-0 claim bytes = claim lease bytes (unfold everything in refl) 0 (unfold everything in omega arith) noCalls noCalls refl
+    : Independent → (views lease 0 noCalls ≡ views lease 0 noCalls) × (seenAtEnd lease 0 noCalls ≡ seenAtEnd lease 0 noCalls)
+shows-claim-0 claim = claim lease (unfold everything in refl) 0 (unfold everything in omega arith) noCalls noCalls refl

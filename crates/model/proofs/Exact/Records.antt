@@ -6,7 +6,7 @@ use mathlib.Core.Bool.{true, false, false≢true}
 use native.Mathlib.Omega.{arith}
 use Rattle.model.specs.Image.{Design, Node, registerAt, commandAt, expressionAt}
 use Rattle.model.specs.Lattice.{stateLabel}
-use Rattle.model.specs.States.{parent, registerKept, parentKept, stateKept, childLabelKept}
+use Rattle.model.specs.States.{parent, widthKept, registerKept, parentKept, stateKept, childLabelKept}
 use Rattle.model.specs.Kinds.{CommandKind, skips, assigns, sequences, falls, goes, branches, unknownCommand, ExpressionKind, constants, reads, unknownExpression, operates, commandKind, expressionKind, commandHolds, expressionHolds, commandKept, expressionKept}
 use Rattle.model.specs.Ports.{sparesPorts, namesNoPort}
 use Rattle.model.specs.Nodes.{commandUsedOnce, expressionUsedOnce, commandDepthKept, expressionDepthKept}
@@ -24,8 +24,13 @@ unasked kind other = (λ e k. absurd (other (ap commandNumber k)), λ h. refl)
 
 module _ (d : Design) where
   pub register-iff : (r : ℕ) → (registerKept d r ≡ true) ↔ RegisterKeeps d r
-  unfolding registerKept
-  register-iff r = Iff·trans (and-iff less-iff at-most-iff) (λ h. record { label = h .0; kind = h .1 }, λ k. (k .label, k .kind))
+  unfolding registerKept widthKept
+  register-iff r =
+      Iff·trans
+      (and-three-iff less-iff at-most-iff (and-three-iff at-most-iff at-most-iff less-iff)) (
+        λ h. record { label = h .0; kind = h .1; width-least = h .2 .0; width-most = h .2 .1; reset = h .2 .2 },
+        λ k. (k .label, k .kind, (k .width-least, k .width-most, k .reset)),
+      )
 
   -- the root's rules, and the rule of any other state
   abbrev ParentKeeps : ℕ → Type 0

@@ -1,6 +1,6 @@
 -- Why a command keeps a level's secrets: what it reads, and every condition around it, flows to what it writes and to the state it goes to.
 -- In a context that is not seen nothing that is seen is written (`exec-confined`); in one that is seen, two runs that agree go on agreeing (`exec-same`).
-use Prim.Native.Nat.{ℕ, _<_}
+use Prim.Native.Nat.{ℕ, _%_, _<_}
 use mathlib.Core.Path.{_≡_, refl, sym, _∙_, ap₂}
 use mathlib.Core.Logic.{_⊎_, inl, inr}
 use mathlib.Core.Bool.{Bool, true, false, cond}
@@ -16,7 +16,7 @@ use Rattle.model.specs.Trees.{Expr, constant, register, binary, Cmd, ski
 use Rattle.model.specs.Shape.{transfers}
 use Rattle.model.specs.Flow.{labelsRead}
 use Rattle.model.specs.Rules.{DesignKeeps, Shaped, Flows}
-use Rattle.model.specs.Values.{apply}
+use Rattle.model.specs.Values.{apply, modulus}
 use Rattle.model.specs.Machine.{eval, Executed, unlessTransferred, exec}
 use Rattle.model.specs.Parties.{registerSeen, stateSeen}
 use Rattle.model.proofs.Laws.Booleans.{decide, and-first, and-second, and-both, true-or-false, false-unless-true}
@@ -59,7 +59,7 @@ module _ (d : Design) (level : ℕ) (keeps : DesignKeeps d) (isLabel : level < l
     confined-branch true taken other a b = b
     confined-branch false taken other a b = a
 
-    pub exec-confined : (context values : List ℕ) (c : Cmd) → Flows d s context c → AreLabels (d .rows) context → allFlowTo (d .rows) context level ≡ false → Agree d level values (exec values c .registers)
+    pub exec-confined : (context values : List ℕ) (c : Cmd) → Flows d s context c → AreLabels (d .rows) context → allFlowTo (d .rows) context level ≡ false → Agree d level values (exec (d .registers) values c .registers)
     unfolding exec
     exec-confined context values (skip n) flows labels unseen = agree-self d level values
     exec-confined context values (assign n r e) flows labels unseen =
@@ -68,7 +68,7 @@ module _ (d : Design) (level : ℕ) (keeps : DesignKeeps d) (isLabel : level < l
         level
         values
         r
-        (eval values e)
+        (eval values e % modulus (d .registers) r)
         (context-unseen
         d
         level
@@ -82,11 +82,11 @@ module _ (d : Design) (level : ℕ) (keeps : DesignKeeps d) (isLabel : level < l
         unseen)
     exec-confined context values (sequence n p q) flows labels unseen =
         confined-sequence
-        (exec values p .outcome)
-        (exec values p)
-        (exec (exec values p .registers) q)
+        (exec (d .registers) values p .outcome)
+        (exec (d .registers) values p)
+        (exec (d .registers) (exec (d .registers) values p .registers) q)
         (exec-confined context values p (flows .0) labels unseen)
-        (exec-confined context (exec values p .registers) q (flows .1) labels unseen)
+        (exec-confined context (exec (d .registers) values p .registers) q (flows .1) labels unseen)
     exec-confined context values (fall n) flows labels unseen = agree-self d level values
     exec-confined context values (goto n t) flows labels unseen = agree-self d level values
     exec-confined context values (branch n e p q) flows labels unseen =
@@ -94,8 +94,8 @@ module _ (d : Design) (level : ℕ) (keeps : DesignKeeps d) (isLabel : level < l
         let unseen′ = all-flow-more (d .rows) context (labelsRead d e) level unseen in
         confined-branch
         (eqb (eval values e) 0)
-        (exec values p)
-        (exec values q)
+        (exec (d .registers) values p)
+        (exec (d .registers) values q)
         (exec-confined (context ++ labelsRead d e) values p (flows .0) labels′ unseen′)
         (exec-confined (context ++ labelsRead d e) values q (flows .1) labels′ unseen′)
 
@@ -145,32 +145,32 @@ module _ (d : Design) (level : ℕ) (keeps : DesignKeeps d) (isLabel : level < l
 
   -- an if whose condition is not seen: whichever branches the two runs take, they end alike and write nothing that is seen
   module _ (context : List ℕ) (labels : AreLabels (d .rows) context) (unseen : allFlowTo (d .rows) context level ≡ false) (p q : Cmd) (same : transfers p ≡ transfers q) (shaped₁ : Shaped d s p) (shaped₂ : Shaped d s q) (flows₁ : Flows d s context p) (flows₂ : Flows d s context q) where
-    hidden-pair : {v w : List ℕ} → Agree d level v w → (c e : Cmd) → transfers c ≡ transfers e → Shaped d s c → Shaped d s e → Flows d s context c → Flows d s context e → SameSeen d level (exec v c) (exec w e)
+    hidden-pair : {v w : List ℕ} → Agree d level v w → (c e : Cmd) → transfers c ≡ transfers e → Shaped d s c → Shaped d s e → Flows d s context c → Flows d s context e → SameSeen d level (exec (d .registers) v c) (exec (d .registers) w e)
     hidden-pair {v} {w} a c e both sc se fc fe =
         record {
           registers = agree-trans d level (agree-sym d level (exec-confined d level keeps isLabel s context v c fc labels unseen)) (agree-trans d level a (exec-confined d level keeps isLabel s context w e fe labels unseen));
-          outcomes = hidden-agree context labels unseen c e both (exec v c .outcome) (exec w e .outcome) (exec-ends d s context v c sc fc) (exec-ends d s context w e se fe);
+          outcomes = hidden-agree context labels unseen c e both (exec (d .registers) v c .outcome) (exec (d .registers) w e .outcome) (exec-ends d s context v c sc fc) (exec-ends d s context w e se fe);
         }
 
-    hidden-branch : {v w : List ℕ} → Agree d level v w → (z₁ z₂ : Bool) → SameSeen d level (cond z₁ (exec v q) (exec v p)) (cond z₂ (exec w q) (exec w p))
+    hidden-branch : {v w : List ℕ} → Agree d level v w → (z₁ z₂ : Bool) → SameSeen d level (cond z₁ (exec (d .registers) v q) (exec (d .registers) v p)) (cond z₂ (exec (d .registers) w q) (exec (d .registers) w p))
     hidden-branch a true true = hidden-pair a q q refl shaped₂ shaped₂ flows₂ flows₂
     hidden-branch a true false = hidden-pair a q p (sym same) shaped₂ shaped₁ flows₂ flows₁
     hidden-branch a false true = hidden-pair a p q same shaped₁ shaped₂ flows₁ flows₂
     hidden-branch a false false = hidden-pair a p p refl shaped₁ shaped₁ flows₁ flows₁
 
-  pub exec-same : (context : List ℕ) {v w : List ℕ} → Agree d level v w → (c : Cmd) → Shaped d s c → Flows d s context c → AreLabels (d .rows) context → allFlowTo (d .rows) context level ≡ true → SameSeen d level (exec v c) (exec w c)
+  pub exec-same : (context : List ℕ) {v w : List ℕ} → Agree d level v w → (c : Cmd) → Shaped d s c → Flows d s context c → AreLabels (d .rows) context → allFlowTo (d .rows) context level ≡ true → SameSeen d level (exec (d .registers) v c) (exec (d .registers) w c)
   unfolding exec
   exec-same context a (skip n) shaped flows labels low = record { registers = a; outcomes = tt }
   exec-same context {v} {w} a (assign n r e) shaped flows labels low = record { registers = go (decide (allFlowTo (d .rows) (labelsRead d e) level)); outcomes = tt }
     where
-      go : (allFlowTo (d .rows) (labelsRead d e) level ≡ true) ⊎ (allFlowTo (d .rows) (labelsRead d e) level ≡ false) → Agree d level (set v r (eval v e)) (set w r (eval w e))
-      go (inl h) = rw (eval-same d level keeps isLabel a e h) (agree-set d level a r (eval w e))
+      go : (allFlowTo (d .rows) (labelsRead d e) level ≡ true) ⊎ (allFlowTo (d .rows) (labelsRead d e) level ≡ false) → Agree d level (set v r (eval v e % modulus (d .registers) r)) (set w r (eval w e % modulus (d .registers) r))
+      go (inl h) = rw (eval-same d level keeps isLabel a e h) (agree-set d level a r (eval w e % modulus (d .registers) r))
       go (inr h) =
           let unseen = context-unseen d level keeps isLabel (labelsRead d e) (registerLabel d r) (labels-read d level keeps isLabel e) (register-label d level keeps isLabel r) (all-flow-second (d .rows) context (labelsRead d e) (registerLabel d r) flows) h in
-          agree-trans d level (agree-sym d level (agree-unseen d level v r (eval v e) unseen)) (agree-trans d level a (agree-unseen d level w r (eval w e) unseen))
+          agree-trans d level (agree-sym d level (agree-unseen d level v r _ unseen)) (agree-trans d level a (agree-unseen d level w r _ unseen))
   exec-same context {v} {w} a (sequence n p q) shaped flows labels low =
       let first = exec-same context a p (shaped .1) (flows .0) labels low in
-      same-sequence (exec v p .outcome) (exec w p .outcome) (exec v p) (exec w p) (exec (exec v p .registers) q) (exec (exec w p .registers) q) (first .outcomes) first (exec-same context (first .registers) q (shaped .2) (flows .1) labels low)
+      same-sequence (exec (d .registers) v p .outcome) (exec (d .registers) w p .outcome) (exec (d .registers) v p) (exec (d .registers) w p) (exec (d .registers) (exec (d .registers) v p .registers) q) (exec (d .registers) (exec (d .registers) w p .registers) q) (first .outcomes) first (exec-same context (first .registers) q (shaped .2) (flows .1) labels low)
   exec-same context a (fall n) shaped flows labels low = record { registers = a; outcomes = tt }
   exec-same context a (goto n t) shaped flows labels low = record { registers = a; outcomes = inl refl }
   exec-same context {v} {w} a (branch n e p q) shaped flows labels low =
@@ -179,9 +179,9 @@ module _ (d : Design) (level : ℕ) (keeps : DesignKeeps d) (isLabel : level < l
       labels′ : AreLabels (d .rows) (context ++ labelsRead d e)
       labels′ = labels-append (d .rows) context (labelsRead d e) labels (labels-read d level keeps isLabel e)
 
-      go : (allFlowTo (d .rows) (context ++ labelsRead d e) level ≡ true → SameSeen d level (exec v p) (exec w p)) → (allFlowTo (d .rows) (context ++ labelsRead d e) level ≡ true → SameSeen d level (exec v q) (exec w q)) → (allFlowTo (d .rows) (labelsRead d e) level ≡ true) ⊎ (allFlowTo (d .rows) (labelsRead d e) level ≡ false) → SameSeen d level (cond (eqb (eval v e) 0) (exec v q) (exec v p)) (cond (eqb (eval w e) 0) (exec w q) (exec w p))
+      go : (allFlowTo (d .rows) (context ++ labelsRead d e) level ≡ true → SameSeen d level (exec (d .registers) v p) (exec (d .registers) w p)) → (allFlowTo (d .rows) (context ++ labelsRead d e) level ≡ true → SameSeen d level (exec (d .registers) v q) (exec (d .registers) w q)) → (allFlowTo (d .rows) (labelsRead d e) level ≡ true) ⊎ (allFlowTo (d .rows) (labelsRead d e) level ≡ false) → SameSeen d level (cond (eqb (eval v e) 0) (exec (d .registers) v q) (exec (d .registers) v p)) (cond (eqb (eval w e) 0) (exec (d .registers) w q) (exec (d .registers) w p))
       go k l (inl h) =
           let low′ = all-flow-append (d .rows) context (labelsRead d e) level low h in
-          rw (eval-same d level keeps isLabel a e h) (same-branch (eqb (eval w e) 0) (exec v p) (exec w p) (exec v q) (exec w q) (k low′) (l low′))
+          rw (eval-same d level keeps isLabel a e h) (same-branch (eqb (eval w e) 0) (exec (d .registers) v p) (exec (d .registers) w p) (exec (d .registers) v q) (exec (d .registers) w q) (k low′) (l low′))
       go k l (inr h) =
           hidden-branch (context ++ labelsRead d e) labels′ (all-flow-later (d .rows) context (labelsRead d e) level h) p q (shaped .0) (shaped .1) (shaped .2) (flows .0) (flows .1) a (eqb (eval v e) 0) (eqb (eval w e) 0)

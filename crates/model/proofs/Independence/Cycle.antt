@@ -12,12 +12,12 @@ use Rattle.model.specs.declared.Ending.the-variants.{Goto, Fall}
 use Rattle.model.specs.declared.Outcome.{Outcome}
 use Rattle.model.specs.declared.Outcome.the-variants.{Continued, Transferred}
 use Rattle.model.specs.Indices.{recursively}
-use Rattle.model.specs.Image.{Design}
+use Rattle.model.specs.Image.{Design, Register}
 use Rattle.model.specs.Lattice.{allFlowTo, stateLabel}
 use Rattle.model.specs.States.{parent, isChild, defaultTarget, within}
 use Rattle.model.specs.Trees.{bodyOf}
 use Rattle.model.specs.Rules.{DesignKeeps}
-use Rattle.model.specs.Machine.{Areas, Cycle, goneTo, afterBody, runFrom}
+use Rattle.model.specs.Machine.{Areas, Cycle, exec, goneTo, afterBody, runFrom}
 use Rattle.model.specs.Parties.{registerSeen, stateSeen, walkSeen}
 use Rattle.model.proofs.Laws.Booleans.{decide, and-both}
 use Rattle.model.proofs.Laws.States.{sibling-child}
@@ -28,7 +28,6 @@ use Rattle.model.proofs.Independence.Endings.{holdsFall, Ended}
 use Rattle.model.proofs.Independence.Unnumbered.{unnumbered, exec-alike, holds-alike}
 use Rattle.model.proofs.Independence.Agreement.{Agree, agree-sym, agree-trans}
 use Rattle.model.proofs.Independence.Commands.{OutcomesAgree, SameSeen, exec-same}
-use Rattle.model.proofs.Independence.Bounded.{BoundedCmd}
 use Rattle.model.proofs.Independence.Path.{entryOf, ran, leftBy, target, entry, targetsAfter, left-good, ended, target-state, fall-points}
 use Rattle.model.proofs.Independence.Rising.{Rising, Defaults, default-of-fall, gone-defaults, entry-hidden, run-hidden}
 
@@ -108,11 +107,11 @@ module _ (d₁ d₂ : Design) (level : ℕ) (alike : Alike d₁ d₂ level) wher
   same-within t q = ap (λ (up : ℕ → ℕ). recursively false (λ p above. eqb p t || (not (eqb p 0) && above (up p))) q) (fun-ext (alike .parents))
 
   -- paths along default children, from one state, show the same
-  pub default-paths : (keeps₁ : DesignKeeps d₁) (bodies₁ : (s : ℕ) → BoundedCmd (bodyOf d₁ s)) (P : ℕ → Type 0) (targets₁ targets₂ : List ℕ) → Defaults d₁ P targets₁ → Defaults d₂ P targets₂ → (f q : ℕ) → P q → q < length (d₁ .states) → pathSeen d₁ level f q targets₁ ≡ pathSeen d₂ level f q targets₂
+  pub default-paths : (keeps₁ : DesignKeeps d₁) (P : ℕ → Type 0) (targets₁ targets₂ : List ℕ) → Defaults d₁ P targets₁ → Defaults d₂ P targets₂ → (f q : ℕ) → P q → q < length (d₁ .states) → pathSeen d₁ level f q targets₁ ≡ pathSeen d₂ level f q targets₂
   unfolding pathSeen
-  default-paths keeps₁ bodies₁ P targets₁ targets₂ table₁ table₂ zero q p l = refl
-  default-paths keeps₁ bodies₁ P targets₁ targets₂ table₁ table₂ (suc f) q p l = seen-or-not (decide (stateSeen d₁ level q))
-      (λ h. let child = default-of-fall d₁ keeps₁ bodies₁ q l h in default-paths keeps₁ bodies₁ P targets₁ targets₂ table₁ table₂ f (defaultTarget d₁ q) (table₁ .closed q (defaultTarget d₁ q) p child) (child .state))
+  default-paths keeps₁ P targets₁ targets₂ table₁ table₂ zero q p l = refl
+  default-paths keeps₁ P targets₁ targets₂ table₁ table₂ (suc f) q p l = seen-or-not (decide (stateSeen d₁ level q))
+      (λ h. let child = default-of-fall d₁ keeps₁ q l h in default-paths keeps₁ P targets₁ targets₂ table₁ table₂ f (defaultTarget d₁ q) (table₁ .closed q (defaultTarget d₁ q) p child) (child .state))
     where
       falls-or-not : (holdsFall (bodyOf d₁ q) ≡ true) ⊎ (holdsFall (bodyOf d₁ q) ≡ false) → (holdsFall (bodyOf d₁ q) ≡ true → pathSeen d₁ level f (defaultTarget d₁ q) targets₁ ≡ pathSeen d₂ level f (defaultTarget d₁ q) targets₂) → cond (holdsFall (bodyOf d₁ q)) (pathSeen d₁ level f (getD targets₁ q 0) targets₁) [] ≡ cond (holdsFall (bodyOf d₁ q)) (pathSeen d₂ level f (getD targets₂ q 0) targets₂) []
       falls-or-not (inl h) further =
@@ -144,21 +143,21 @@ module _ (d₁ d₂ : Design) (level : ℕ) (alike : Alike d₁ d₂ level) wher
     pub walks : walkSeen d₁ level (c₁ .walk) ≡ walkSeen d₂ level (c₂ .walk)
     pub paths : pathSeen d₁ level f entry₁ (c₁ .after .targets) ≡ pathSeen d₂ level f entry₂ (c₂ .after .targets)
 
-  module _ (keeps₁ : DesignKeeps d₁) (keeps₂ : DesignKeeps d₂) (bodies₁ : (s : ℕ) → BoundedCmd (bodyOf d₁ s)) (bodies₂ : (s : ℕ) → BoundedCmd (bodyOf d₂ s)) (isLabel : level < length (d₁ .rows)) where
+  module _ (keeps₁ : DesignKeeps d₁) (keeps₂ : DesignKeeps d₂) (isLabel : level < length (d₁ .rows)) where
     isLabel₂ : level < length (d₂ .rows)
     isLabel₂ = rw (alike .rows) at isLabel
 
     -- ---- past the common beginning that is seen, both runs are hidden
     both-hidden : (f s₁ s₂ : ℕ) (a₁ a₂ : Areas) → s₁ < length (d₁ .states) → s₂ < length (d₂ .states) → Good d₁ a₁ → Good d₂ a₂ → Rising d₁ f s₁ (a₁ .targets) → Rising d₂ f s₂ (a₂ .targets) → Agree d₁ level (a₁ .registers) (a₂ .registers) → stateSeen d₁ level s₁ ≡ false → stateSeen d₂ level s₂ ≡ false → Together f (entry d₁ f s₁ a₁) (entry d₂ f s₂ a₂) (runFrom d₁ f s₁ a₁) (runFrom d₂ f s₂ a₂)
     both-hidden f s₁ s₂ a₁ a₂ l₁ l₂ good₁ good₂ rising₁ rising₂ agree unseen₁ unseen₂ =
-        let hidden₁ = run-hidden d₁ keeps₁ bodies₁ level isLabel f s₁ a₁ l₁ good₁ rising₁ unseen₁ in
-        let hidden₂ = run-hidden d₂ keeps₂ bodies₂ level isLabel₂ f s₂ a₂ l₂ good₂ rising₂ unseen₂ in
+        let hidden₁ = run-hidden d₁ keeps₁ level isLabel f s₁ a₁ l₁ good₁ rising₁ unseen₁ in
+        let hidden₂ = run-hidden d₂ keeps₂ level isLabel₂ f s₂ a₂ l₂ good₂ rising₂ unseen₂ in
         record {
           registers = agree-trans d₁ level (agree-sym d₁ level (hidden₁ .registers)) (agree-trans d₁ level agree (agree-alike (hidden₂ .registers)));
           walks = hidden₁ .walk ∙ sym (hidden₂ .walk);
           paths =
-              path-hidden d₁ level f (entry d₁ f s₁ a₁) (targetsAfter d₁ f s₁ a₁) (entry-hidden d₁ keeps₁ bodies₁ level isLabel f s₁ a₁ l₁ good₁ rising₁ unseen₁)
-              ∙ sym (path-hidden d₂ level f (entry d₂ f s₂ a₂) (targetsAfter d₂ f s₂ a₂) (entry-hidden d₂ keeps₂ bodies₂ level isLabel₂ f s₂ a₂ l₂ good₂ rising₂ unseen₂));
+              path-hidden d₁ level f (entry d₁ f s₁ a₁) (targetsAfter d₁ f s₁ a₁) (entry-hidden d₁ keeps₁ level isLabel f s₁ a₁ l₁ good₁ rising₁ unseen₁)
+              ∙ sym (path-hidden d₂ level f (entry d₂ f s₂ a₂) (targetsAfter d₂ f s₂ a₂) (entry-hidden d₂ keeps₂ level isLabel₂ f s₂ a₂ l₂ good₂ rising₂ unseen₂));
         }
 
     -- ---- a state that is seen: the bodies are the same
@@ -169,11 +168,11 @@ module _ (d₁ d₂ : Design) (level : ℕ) (alike : Alike d₁ d₂ level) wher
       -- gotos: to one state, whose descendants are at their defaults in both tables, or to states that are not seen
       gone-together : (t u : ℕ) → Ended d₁ s (stateLabel d₁ s ∷ []) (bodyOf d₁ s) (Transferred (Goto t)) → Ended d₂ s (stateLabel d₂ s ∷ []) (bodyOf d₂ s) (Transferred (Goto u)) → (t ≡ u) ⊎ ((stateSeen d₁ level t ≡ false) × (stateSeen d₁ level u ≡ false)) → pathSeen d₁ level (suc f) t (goneTo d₁ t (a₁ .targets)) ≡ pathSeen d₂ level (suc f) u (goneTo d₂ u (a₂ .targets))
       gone-together t u e₁ e₂ (inl same) =
-          let table₁ = gone-defaults d₁ keeps₁ bodies₁ s t a₁ l₁ good₁ e₁ in
-          let table₂ = gone-defaults d₂ keeps₂ bodies₂ s t a₂ l₂ good₂ (rw (sym same) at e₂) in
+          let table₁ = gone-defaults d₁ keeps₁ s t a₁ l₁ good₁ e₁ in
+          let table₂ = gone-defaults d₂ keeps₂ s t a₂ l₂ good₂ (rw (sym same) at e₂) in
           let table₂′ : Defaults d₂ (λ q. within d₁ t q ≡ true) (goneTo d₂ t (a₂ .targets)) =
           record { default = λ q h k. table₂ .default q (sym (same-within t q) ∙ h) k; closed = λ q c h k. same-within t c ∙ table₂ .closed q c (sym (same-within t q) ∙ h) k } in
-          rw (sym same) (default-paths keeps₁ bodies₁ (λ q. within d₁ t q ≡ true) (goneTo d₁ t (a₁ .targets)) (goneTo d₂ t (a₂ .targets)) table₁ table₂′ (suc f) t (within-self d₁ t) (sibling-child d₁ s t (e₁ .1) .state))
+          rw (sym same) (default-paths keeps₁ (λ q. within d₁ t q ≡ true) (goneTo d₁ t (a₁ .targets)) (goneTo d₂ t (a₂ .targets)) table₁ table₂′ (suc f) t (within-self d₁ t) (sibling-child d₁ s t (e₁ .1) .state))
       gone-together t u e₁ e₂ (inr (unseen₁, unseen₂)) =
           path-hidden d₁ level (suc f) t (goneTo d₁ t (a₁ .targets)) unseen₁ ∙ sym (path-hidden d₂ level (suc f) u (goneTo d₂ u (a₂ .targets)) (sym (same-seen u) ∙ unseen₂))
 
@@ -199,8 +198,11 @@ module _ (d₁ d₂ : Design) (level : ℕ) (alike : Alike d₁ d₂ level) wher
       bodies-together : Agree d₁ level (a₁ .registers) (a₂ .registers) → SameSeen d₁ level (ran d₁ s a₁) (ran d₂ s a₂)
       unfolding allFlowTo
       bodies-together agree =
+          let alike-run : exec (d₁ .registers) (a₂ .registers) (bodyOf d₁ s) ≡ ran d₂ s a₂ =
+          exec-alike (d₁ .registers) (bodyOf d₁ s) (bodyOf d₂ s) (a₂ .registers) (alike .bodies s seen)
+          ∙ ap (λ (registers : List Register). exec registers (a₂ .registers) (bodyOf d₂ s)) (alike .registers) in
           rw
-          (← (exec-alike (bodyOf d₁ s) (bodyOf d₂ s) (a₂ .registers) (alike .bodies s seen)))
+          (← alike-run)
           (exec-same d₁ level keeps₁ isLabel s seen (stateLabel d₁ s ∷ []) agree (bodyOf d₁ s) (keeps₁ .shaped s l₁) (keeps₁ .flowing s l₁) (state-label d₁ level keeps₁ isLabel s, tt) (and-both (stateSeen d₁ level s) true seen refl))
 
     -- the run from the target of s goes on together
@@ -227,22 +229,22 @@ module _ (d₁ d₂ : Design) (level : ℕ) (alike : Alike d₁ d₂ level) wher
         (leftBy d₂ s a₂)
         l₁
         l₂
-        (left-good d₁ keeps₁ bodies₁ s a₁ good₁)
-        (left-good d₂ keeps₂ bodies₂ s a₂ good₂)
+        (left-good d₁ keeps₁ s a₁ good₁)
+        (left-good d₂ keeps₂ s a₂ good₂)
         seen
         (same .registers)
         paths
         (ran d₁ s a₁ .outcome)
         (ran d₂ s a₂ .outcome)
         (same .outcomes)
-        (ended d₁ keeps₁ bodies₁ s l₁ a₁)
-        (ended d₂ keeps₂ bodies₂ s l₂ a₂)
+        (ended d₁ keeps₁ s l₁ a₁)
+        (ended d₂ keeps₂ s l₂ a₂)
         (runFrom d₁ f (target a₁ s) (leftBy d₁ s a₁))
         (runFrom d₂ f (target a₂ s) (leftBy d₂ s a₂))
         (entry d₁ f (target a₁ s) (leftBy d₁ s a₁))
         (entry d₂ f (target a₂ s) (leftBy d₂ s a₂))
-        (fall-points d₁ keeps₁ bodies₁ f s a₁ l₁ good₁)
-        (fall-points d₂ keeps₂ bodies₂ f s a₂ l₂ good₂)
+        (fall-points d₁ keeps₁ f s a₁ l₁ good₁)
+        (fall-points d₂ keeps₂ f s a₂ l₂ good₂)
         (λ h. further h (holds₂ h) (same .registers) (on h))
 
     seen-or-not : (f s₁ s₂ : ℕ) (a₁ a₂ : Areas) → s₁ < length (d₁ .states) → s₂ < length (d₂ .states) → Good d₁ a₁ → Good d₂ a₂ → Rising d₁ (suc f) s₁ (a₁ .targets) → Rising d₂ (suc f) s₂ (a₂ .targets) → Agree d₁ level (a₁ .registers) (a₂ .registers) → pathSeen d₁ level (suc f) s₁ (a₁ .targets) ≡ pathSeen d₂ level (suc f) s₂ (a₂ .targets) → Further f s₁ s₂ a₁ a₂ → (stateSeen d₁ level s₁ ≡ true) ⊎ (stateSeen d₁ level s₁ ≡ false)
@@ -272,5 +274,5 @@ module _ (d₁ d₂ : Design) (level : ℕ) (alike : Alike d₁ d₂ level) wher
         rising₂
         agree
         paths
-        (λ h₁ h₂ agree′ paths′. run-together f (target a₁ s₁) (target a₂ s₂) (leftBy d₁ s₁ a₁) (leftBy d₂ s₂ a₂) (target-state d₁ keeps₁ bodies₁ a₁ good₁ s₁ l₁) (target-state d₂ keeps₂ bodies₂ a₂ good₂ s₂ l₂) (left-good d₁ keeps₁ bodies₁ s₁ a₁ good₁) (left-good d₂ keeps₂ bodies₂ s₂ a₂ good₂) (rising₁ h₁ .1) (rising₂ h₂ .1) agree′ paths′)
+        (λ h₁ h₂ agree′ paths′. run-together f (target a₁ s₁) (target a₂ s₂) (leftBy d₁ s₁ a₁) (leftBy d₂ s₂ a₂) (target-state d₁ keeps₁ a₁ good₁ s₁ l₁) (target-state d₂ keeps₂ a₂ good₂ s₂ l₂) (left-good d₁ keeps₁ s₁ a₁ good₁) (left-good d₂ keeps₂ s₂ a₂ good₂) (rising₁ h₁ .1) (rising₂ h₂ .1) agree′ paths′)
         (decide (stateSeen d₁ level s₁))

@@ -69,7 +69,7 @@ module _ (d : Design) (s : ℕ) where
     ends-branch true taken other k l = ends-second (other .outcome) l
     ends-branch false taken other k l = ends-first (taken .outcome) k
 
-  pub exec-ends : (context values : List ℕ) (c : Cmd) → Shaped d s c → Flows d s context c → Ended context c (exec values c .outcome)
+  pub exec-ends : (context values : List ℕ) (c : Cmd) → Shaped d s c → Flows d s context c → Ended context c (exec (d .registers) values c .outcome)
   unfolding exec transfers holdsFall
   exec-ends context values (skip n) shaped flows = refl
   exec-ends context values (assign n r e) shaped flows = refl
@@ -79,12 +79,12 @@ module _ (d : Design) (s : ℕ) where
       n
       p
       q
-      (exec values p .outcome)
-      (exec values p)
-      (exec (exec values p .registers) q)
+      (exec (d .registers) values p .outcome)
+      (exec (d .registers) values p)
+      (exec (d .registers) (exec (d .registers) values p .registers) q)
       (shaped .0)
       (exec-ends context values p (shaped .1) (flows .0))
-      (exec-ends context (exec values p .registers) q (shaped .2) (flows .1))
+      (exec-ends context (exec (d .registers) values p .registers) q (shaped .2) (flows .1))
   exec-ends context values (fall n) shaped flows = (refl, refl, flows)
   exec-ends context values (goto n t) shaped flows = (refl, shaped, flows)
   exec-ends context values (branch n e p q) shaped flows =
@@ -96,7 +96,7 @@ module _ (d : Design) (s : ℕ) where
       q
       (shaped .0)
       (eqb (eval values e) 0)
-      (exec values p)
-      (exec values q)
+      (exec (d .registers) values p)
+      (exec (d .registers) values q)
       (exec-ends (context ++ labelsRead d e) values p (shaped .1) (flows .0))
       (exec-ends (context ++ labelsRead d e) values q (shaped .2) (flows .1))

@@ -15,10 +15,9 @@ use Rattle.model.specs.Rules.{DesignKeeps}
 use Rattle.model.specs.Machine.{Areas, Cycle, afterBody, runFrom}
 use Rattle.model.proofs.Independence.Relation.{Good}
 use Rattle.model.proofs.Independence.Endings.{holdsFall}
-use Rattle.model.proofs.Independence.Bounded.{BoundedCmd}
 use Rattle.model.proofs.Independence.Path.{ran, leftBy, target, left-good, ended, target-child, parent-lower}
 
-module _ (d : Design) (keeps : DesignKeeps d) (bodies : (s : ℕ) → BoundedCmd (bodyOf d s)) where
+module _ (d : Design) (keeps : DesignKeeps d) where
   -- only a fall asks for what comes after it
   after-same : (o : Outcome) (s : ℕ) (a : Areas) (one other : Cycle) → (o ≡ Transferred Fall → one ≡ other) → afterBody d o s a one ≡ afterBody d o s a other
   unfolding afterBody
@@ -32,9 +31,9 @@ module _ (d : Design) (keeps : DesignKeeps d) (bodies : (s : ℕ) → BoundedCmd
   enough-bodies zero g s a l good hf hg = absurd (omega arith)
   enough-bodies (suc f) zero s a l good hf hg = absurd (omega arith)
   enough-bodies (suc f) (suc g) s a l good hf hg =
-      let holds : ran d s a .outcome ≡ Transferred Fall → holdsFall (bodyOf d s) ≡ true = λ e. (rw e at (ended d keeps bodies s l a)) .1 in
+      let holds : ran d s a .outcome ≡ Transferred Fall → holdsFall (bodyOf d s) ≡ true = λ e. (rw e at (ended d keeps s l a)) .1 in
       after-same (ran d s a .outcome) s (leftBy d s a) (runFrom d f (target a s) (leftBy d s a)) (runFrom d g (target a s) (leftBy d s a)) (λ e.
-      let child = target-child d keeps bodies a good s l (holds e) in
-      let lower : parent d (target a s) < target a s = parent-lower d keeps bodies (target a s) (child .state) (child .no-root) in
+      let child = target-child d keeps a good s l (holds e) in
+      let lower : parent d (target a s) < target a s = parent-lower d keeps (target a s) (child .state) (child .no-root) in
       let same : parent d (target a s) ≡ s = child .parent-is in
-      enough-bodies f g (target a s) (leftBy d s a) (child .state) (left-good d keeps bodies s a good) (omega arith) (omega arith))
+      enough-bodies f g (target a s) (leftBy d s a) (child .state) (left-good d keeps s a good) (omega arith) (omega arith))

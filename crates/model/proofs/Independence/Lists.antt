@@ -1,27 +1,28 @@
 -- A relation that no call breaks makes every list of calls show what one canonical run of what remains of it shows: a refused call and a write that is
 -- not seen leave the relation as it is, and any other call makes the same step in both runs. So two lists of which the same remains show the same.
 use Prim.Native.Nat.{ℕ, zero, suc, _*_, _<_}
-use mathlib.Core.Path.{_≡_, refl, sym, _∙_, ap, fun-ext}
+use mathlib.Core.Path.{_≡_, refl, sym, _∙_, ap}
 use mathlib.Core.Bool.{Bool, true, false, cond}
 use mathlib.Core.List.{List, [], _∷_, _++_, map}
-use native.Mathlib.Omega.{arith}
-use native.Mathlib.Nat.{mod-eq-of-lt}
 use lib.Dec.{leb}
-use lib.ListN.{length, getD, set, length-set}
+use lib.Pow.{pow-pos}
+use lib.ListN.{length, set, length-set}
 use Rattle.model.specs.declared.Refusal.{Refusal}
 use Rattle.model.specs.declared.Answer.the-variants.{Accepted, Refused}
-use Rattle.model.specs.Limits.{valueCount, wordLength, cyclesMax}
-use Rattle.model.specs.Indices.{tabulate}
-use Rattle.model.specs.Image.{Design, designOf}
+use Rattle.model.specs.Limits.{wordLength, cyclesMax}
+use Rattle.model.specs.Image.{Design, registerAt, designOf}
+use Rattle.model.specs.Rules.{DesignKeeps}
 use Rattle.model.specs.Verdict.{verdict}
-use Rattle.model.specs.Values.{wordsOf}
+use Rattle.model.specs.Values.{modulus, fits, wordsOf}
 use Rattle.model.specs.Machine.{Areas, Cycle, resetAreas, cycle, cycles, afterLast, afterCycles}
-use Rattle.model.specs.Calls.{Lent, Left, isWritable, areasOf, lentOf}
+use Rattle.model.specs.Calls.{Lent, Left, contentKept, isWritable, areasOf, lentOf}
 use Rattle.model.specs.Parties.{Call, resets, writes, runs, perform, Event, wasReset, wasWritten, cycled, eventsOf, events, atEnd, Seen, Remaining, aReset, aWrite, aCycle, registerSeen, valuesSeen, walkSeen, view, remaining, givenUnseen, RightLengths, Use, withUnseen, start, history, remains, views, seenAtEnd}
-use Rattle.model.proofs.Laws.Indices.{length-tabulate, map-tabulate}
-use Rattle.model.proofs.Laws.Words.{wrapped, wrapped-bounded, length-bytesOf, words-of-bytes}
+use Rattle.model.proofs.Laws.Equivalences.{less-iff}
+use Rattle.model.proofs.Laws.Words.{length-bytesOf}
+use Rattle.model.proofs.Exact.{verdict-exact}
 use Rattle.model.proofs.Independence.Relation.{Good, withRegister, startAreas, Bisimulation}
-use Rattle.model.proofs.Independence.Calls.{areas-of-lent, length-lent, words-of-written, written, reset-leaves, write-refused, write-accepted, run-refused, run-accepted}
+use Rattle.model.proofs.Independence.Calls.{areas-of-lent, length-lent, words-of-written, written, reset-leaves, write-refused, write-too-large, write-accepted, run-refused, run-accepted}
+use Rattle.model.proofs.Independence.Widths.{set-fitting, fitting-bounded}
 
 -- ---- the canonical run of what remains of a list
 module _ (d : Design) (level : ℕ) where
@@ -32,13 +33,13 @@ module _ (d : Design) (level : ℕ) where
   pub followed : Areas → List Remaining → List Seen
   followed areas [] = []
   followed areas (aReset ∷ more) = followed (resetAreas d) more
-  followed areas (aWrite r v ∷ more) = followed (withRegister r (wrapped v) areas) more
+  followed areas (aWrite r v ∷ more) = followed (withRegister r v areas) more
   followed areas (aCycle ∷ more) = shown (cycle d areas) ∷ followed (cycle d areas .after) more
 
   pub followedEnd : Areas → List Remaining → Areas
   followedEnd areas [] = areas
   followedEnd areas (aReset ∷ more) = followedEnd (resetAreas d) more
-  followedEnd areas (aWrite r v ∷ more) = followedEnd (withRegister r (wrapped v) areas) more
+  followedEnd areas (aWrite r v ∷ more) = followedEnd (withRegister r v areas) more
   followedEnd areas (aCycle ∷ more) = followedEnd (cycle d areas .after) more
 
 module _ (d₁ d₂ : Design) (level : ℕ) where
@@ -53,7 +54,7 @@ module _ {d₁ d₂ : Design} {level : ℕ} {more : List Event} {values : List �
   agrees-reset h = record { seen = h .seen; at-end = h .at-end }
 
   agrees-written : (r v : ℕ) → registerSeen d₁ level r ≡ true
-      → Agrees d₁ d₂ level more values (withRegister r (wrapped v) areas)
+      → Agrees d₁ d₂ level more values (withRegister r v areas)
       → Agrees d₁ d₂ level (wasWritten r v ∷ more) values areas
   unfolding view remaining followed followedEnd
   agrees-written r v e h = record { seen = rw e (h .seen); at-end = rw e (h .at-end) }
@@ -86,23 +87,6 @@ module _ {d₁ d₂ : Design} {level : ℕ} {Related : Areas → Areas → Type 
       (shown-same a b h)
       (agrees-cycles n (cycle d₁ a .after) (cycle d₂ b .after) (same .cycles a b h) rest)
 
--- ---- the values given at the start
-module _ (d : Design) (level : ℕ) (given : ℕ → ℕ) (values : List ℕ) where
-  length-given : length (givenUnseen d level given values) ≡ length (d .registers)
-  unfolding givenUnseen
-  length-given = length-tabulate _ (length (d .registers))
-
-  given-wrapped : ((r : ℕ) → getD values r 0 < valueCount)
-      → map wrapped (givenUnseen d level given values) ≡ givenUnseen d level (λ r. wrapped (given r)) values
-  unfolding givenUnseen
-  given-wrapped bounded =
-      map-tabulate wrapped (λ r. cond (registerSeen d level r) (getD values r 0) (given r)) (length (d .registers))
-      ∙ ap (λ f. tabulate f (length (d .registers))) (fun-ext (λ r. go r (registerSeen d level r)))
-    where
-      go : (r : ℕ) (b : Bool) → wrapped (cond b (getD values r 0) (given r)) ≡ cond b (getD values r 0) (wrapped (given r))
-      go r true = mod-eq-of-lt (bounded r)
-      go r false = refl
-
 -- ---- a list of calls
 module _
     (image : List ℕ)
@@ -116,10 +100,13 @@ module _
     pub area : length (lent .registers) ≡ wordLength * length (designOf image .registers)
     pub related : Related (areasOf (designOf image) lent) areas
 
+  keeps : DesignKeeps (designOf image)
+  keeps = verdict-exact image .0 accepted .design
+
   follows-lent : (a b : Areas) → Related a b → Follows (lentOf a) b
   follows-lent a b h =
       let good = same .good a b h in
-      record { area = length-lent (designOf image) a good; related = rw (areas-of-lent (designOf image) a good) h }
+      record { area = length-lent (designOf image) keeps a good; related = rw (areas-of-lent (designOf image) keeps a good) h }
 
   good-lent : (lent : Lent) (b : Areas) → Follows lent b → Good (designOf image) (areasOf (designOf image) lent)
   good-lent lent b h = same .good (areasOf (designOf image) lent) b (h .related)
@@ -128,17 +115,22 @@ module _
   unfolding areasOf
   right-lengths lent b h = record { registers = h .area; targets = good-lent lent b h .targets-length }
 
-  follows-written : (lent : Lent) (a b : Areas) (r v : ℕ) → Follows lent a
-      → Related (withRegister r (wrapped v) (areasOf (designOf image) lent)) b
+  -- the contents are never at fault
+  contents : (lent : Lent) (b : Areas) → Follows lent b → (r : ℕ) → r < length (designOf image .registers) → contentKept (designOf image) (lent .registers) r ≡ true
+  unfolding areasOf contentKept
+  contents lent b h r l = less-iff .1 (good-lent lent b h .fitting r)
+
+  follows-written : (lent : Lent) (a b : Areas) (r v : ℕ) → v < modulus (designOf image .registers) r → Follows lent a
+      → Related (withRegister r v (areasOf (designOf image) lent)) b
       → Follows (written (designOf image) lent r v) b
   unfolding areasOf
-  follows-written lent a b r v h k =
+  follows-written lent a b r v fit h k =
       let n = length (designOf image .registers) in
       let words = wordsOf n (lent .registers) in
       let good = good-lent lent a h in
       record {
         area = rw (length-bytesOf (set words r v), length-set words r v, good .registers-length);
-        related = rw (words-of-written words n r v (good .registers-length) (good .bounded)) k;
+        related = rw (words-of-written words n r v (good .registers-length) (fitting-bounded (designOf image) keeps (set words r v) (set-fitting (designOf image .registers) words r v fit (good .fitting)))) k;
       }
 
   abbrev endSeen : Lent → List Call → List ℕ
@@ -174,30 +166,34 @@ module _
     unfolding eventsOf
     claim-refused call e = claim-left call e (rest lent b h)
 
-    claim-written : (r v : ℕ) → isWritable (designOf image) r ≡ true → Claim (writes r v ∷ more) lent b
+    claim-written : (r v : ℕ) → isWritable (designOf image) r ≡ true → fits (designOf image .registers) r v ≡ true → Claim (writes r v ∷ more) lent b
     unfolding eventsOf
-    claim-written r v e =
-        claim-left (writes r v) (write-accepted image accepted lent lengths r v e) (go (registerSeen (designOf image) level r) refl)
+    claim-written r v e l =
+        claim-left (writes r v) (write-accepted image accepted lent lengths (contents lent b h) r v e l) (go (registerSeen (designOf image) level r) refl)
       where
+        fit : v < modulus (designOf image .registers) r
+        fit = less-iff .0 l
+
         made : Lent
         made = written (designOf image) lent r v
 
         go : (w : Bool) → registerSeen (designOf image) level r ≡ w
             → Agrees (designOf image) d₂ level (wasWritten r v ∷ events image made more) (endSeen made more) b
         go true s =
-            let c = withRegister r (wrapped v) b in
-            let related = same .writes-seen areas b (h .related) r (wrapped v) (wrapped-bounded v) in
-            agrees-written r v s (rest made c (follows-written lent b c r v h related))
+            let c = withRegister r v b in
+            let related = same .writes-seen areas b (h .related) r v fit in
+            agrees-written r v s (rest made c (follows-written lent b c r v fit h related))
         go false s =
-            let related = same .writes-unseen areas b (h .related) r (wrapped v) (wrapped-bounded v) s in
-            agrees-struck r v s (rest made b (follows-written lent b b r v h related))
+            let related = same .writes-unseen areas b (h .related) r v fit s in
+            agrees-struck r v s (rest made b (follows-written lent b b r v fit h related))
 
     claim-write : (r v : ℕ) → Claim (writes r v ∷ more) lent b
-    claim-write r v = go (isWritable (designOf image) r) refl
+    claim-write r v = go (isWritable (designOf image) r) (fits (designOf image .registers) r v) refl refl
       where
-        go : (w : Bool) → isWritable (designOf image) r ≡ w → Claim (writes r v ∷ more) lent b
-        go true e = claim-written r v e
-        go false e = claim-refused (writes r v) (write-refused image accepted lent lengths r v e)
+        go : (w f : Bool) → isWritable (designOf image) r ≡ w → fits (designOf image .registers) r v ≡ f → Claim (writes r v ∷ more) lent b
+        go true true e l = claim-written r v e l
+        go true false e l = claim-refused (writes r v) (write-too-large image accepted lent lengths (contents lent b h) r v e l)
+        go false f e l = claim-refused (writes r v) (write-refused image accepted lent lengths (contents lent b h) r v e)
 
     claim-run : (n : ℕ) → Claim (runs n ∷ more) lent b
     unfolding eventsOf areasOf
@@ -210,9 +206,9 @@ module _
         go true e =
             claim-left
             (runs n)
-            (run-accepted image accepted lent lengths (good-lent lent b h .sound) n e)
+            (run-accepted image accepted lent lengths (contents lent b h) (good-lent lent b h .sound) n e)
             (agrees-cycles same n areas b (h .related) (λ c k. rest (lentOf after) c (follows-lent after c k)))
-        go false e = claim-refused (runs n) (run-refused image accepted lent lengths (good-lent lent b h .sound) n e)
+        go false e = claim-refused (runs n) (run-refused image accepted lent lengths (contents lent b h) (good-lent lent b h .sound) n e)
 
   pub follows : (calls : List Call) (lent : Lent) (b : Areas) → Follows lent b → Claim calls lent b
   unfolding events atEnd view remaining followed followedEnd areasOf
@@ -228,32 +224,20 @@ module _
     start-lent : start image level u ≡ lentOf (startAreas (designOf image) level (u .given))
     unfolding start withUnseen areasOf lentOf
     start-lent =
-        let back = areas-of-lent (designOf image) (resetAreas (designOf image)) reset-good in
+        let back = areas-of-lent (designOf image) keeps (resetAreas (designOf image)) reset-good in
         rw (reset-leaves image accepted (u .lent) (u .lengths), ap (λ (a : Areas). a .registers) back)
 
-    start-areas : areasOf (designOf image) (start image level u) ≡ startAreas (designOf image) level (λ r. wrapped (u .given r))
-    unfolding areasOf lentOf
-    start-areas =
-        let values = resetAreas (designOf image) .registers in
-        let wraps = given-wrapped (designOf image) level (u .given) values (reset-good .bounded) in
-        rw (start-lent, ← length-given (designOf image) level (u .given) values, words-of-bytes, wraps)
-
-    -- the start is related to the start of the second run, whatever values are given there
-    start-follows : (given : ℕ → ℕ) → ((r : ℕ) → given r < valueCount) → Follows (start image level u) (startAreas d₂ level given)
-    unfolding lentOf
-    start-follows given bounded =
-        record {
-          area = rw (start-lent, length-bytesOf, length-given);
-          related = rw start-areas (same .starts (λ r. wrapped (u .given r)) given (λ r. wrapped-bounded (u .given r)) bounded);
-        }
+    -- the start is related to the start of the second run, whatever values are given there within their widths
+    start-follows : (given : ℕ → ℕ) → ((r : ℕ) → r < length (d₂ .registers) → given r < modulus (d₂ .registers) r) → Follows (start image level u) (startAreas d₂ level given)
+    start-follows given fit = rw start-lent (follows-lent (startAreas (designOf image) level (u .given)) (startAreas d₂ level given) (same .starts (u .given) given (u .within) fit))
 
     -- a use shows what the canonical run of what remains shows
-    pub use-follows : (given : ℕ → ℕ) → ((r : ℕ) → given r < valueCount)
+    pub use-follows : (given : ℕ → ℕ) → ((r : ℕ) → r < length (d₂ .registers) → given r < modulus (d₂ .registers) r)
         → (views image level u ≡ followed d₂ level (startAreas d₂ level given) (remains image level u))
         × (seenAtEnd image level u ≡ valuesSeen d₂ level (followedEnd d₂ level (startAreas d₂ level given) (remains image level u) .registers))
     unfolding views remains seenAtEnd history
-    use-follows given bounded =
-        let agrees = follows (u .calls) (start image level u) (startAreas d₂ level given) (start-follows given bounded) in
+    use-follows given fit =
+        let agrees = follows (u .calls) (start image level u) (startAreas d₂ level given) (start-follows given fit) in
         (agrees .seen, agrees .at-end)
 
 -- Two uses of which the same remains show the same: both show what one canonical run shows.
@@ -265,8 +249,8 @@ pub lists-independent : (image₁ image₂ : List ℕ) → verdict image₁ ≡ 
     → remains image₁ level u₁ ≡ remains image₂ level u₂
     → (views image₁ level u₁ ≡ views image₂ level u₂) × (seenAtEnd image₁ level u₁ ≡ seenAtEnd image₂ level u₂)
 lists-independent image₁ image₂ accepted₁ accepted₂ level Related₁ Related₂ same₁ same₂ u₁ u₂ e =
-    let first = use-follows image₁ accepted₁ (designOf image₂) level Related₁ same₁ u₁ (λ r. 0) (λ r. omega arith) in
-    let second = use-follows image₂ accepted₂ (designOf image₂) level Related₂ same₂ u₂ (λ r. 0) (λ r. omega arith) in
+    let first = use-follows image₁ accepted₁ (designOf image₂) level Related₁ same₁ u₁ (λ r. 0) (λ r l. pow-pos (registerAt (designOf image₂) r .width)) in
+    let second = use-follows image₂ accepted₂ (designOf image₂) level Related₂ same₂ u₂ (λ r. 0) (λ r l. pow-pos (registerAt (designOf image₂) r .width)) in
     let seen = rw e at (first .0) in
     let at-end = rw e at (first .1) in
     (seen ∙ sym (second .0), at-end ∙ sym (second .1))

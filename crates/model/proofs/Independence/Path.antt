@@ -24,7 +24,8 @@ use Rattle.model.proofs.Laws.States.{ChildOf, child-of, sound-child, si
 use Rattle.model.proofs.Laws.Gotos.{length-gone, gone-parent, gone-below, gone-sound}
 use Rattle.model.proofs.Independence.Relation.{Good}
 use Rattle.model.proofs.Independence.Endings.{holdsFall, Ended, exec-ends}
-use Rattle.model.proofs.Independence.Bounded.{BoundedCmd, exec-bounded, exec-length}
+use Rattle.model.proofs.Laws.Commands.{exec-length}
+use Rattle.model.proofs.Independence.Widths.{exec-fitting}
 
 -- a fall that a command holds has a child to go to
 pub fall-child : (d : Design) (s : ℕ) (c : Cmd) → Shaped d s c → holdsFall c ≡ true → hasChild d s ≡ true
@@ -45,7 +46,7 @@ entryOf (Transferred (Goto t)) s = t
 module _ (d : Design) where
   -- what the body of s makes of the areas
   abbrev pub ran : ℕ → Areas → Executed
-  ran s a = exec (a .registers) (bodyOf d s)
+  ran s a = exec (d .registers) (a .registers) (bodyOf d s)
 
   abbrev pub leftBy : ℕ → Areas → Areas
   leftBy s a = record { registers = ran s a .registers; targets = a .targets }
@@ -66,13 +67,13 @@ module _ (d : Design) where
 abbrev pub target : Areas → ℕ → ℕ
 target a s = getD (a .targets) s 0
 
-module _ (d : Design) (keeps : DesignKeeps d) (bodies : (s : ℕ) → BoundedCmd (bodyOf d s)) where
+module _ (d : Design) (keeps : DesignKeeps d) where
   pub left-good : (s : ℕ) (a : Areas) → Good d a → Good d (leftBy d s a)
   left-good s a good =
       record {
-        registers-length = exec-length (a .registers) (bodyOf d s) ∙ good .registers-length;
+        registers-length = exec-length (d .registers) (a .registers) (bodyOf d s) ∙ good .registers-length;
         targets-length = good .targets-length;
-        bounded = exec-bounded (a .registers) (bodyOf d s) (bodies s) (good .bounded);
+        fitting = exec-fitting (d .registers) (a .registers) (bodyOf d s) (good .fitting);
         sound = good .sound;
       }
 
@@ -104,7 +105,7 @@ module _ (d : Design) (keeps : DesignKeeps d) (bodies : (s : ℕ) → BoundedCmd
       record {
         registers-length = good .registers-length;
         targets-length = length-gone d t (a .targets) ∙ size;
-        bounded = good .bounded;
+        fitting = good .fitting;
         sound = λ q k. gone-sound d (parent d s) t (a .targets) child (omega arith) (λ p h. good .sound p (omega arith)) q (omega arith);
       }
 

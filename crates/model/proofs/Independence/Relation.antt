@@ -4,16 +4,16 @@ use Prim.Native.Nat.{ℕ, _<_}
 use mathlib.Core.Path.{_≡_}
 use mathlib.Core.Bool.{true, false}
 use lib.ListN.{length, getD, set}
-use Rattle.model.specs.Limits.{valueCount}
 use Rattle.model.specs.Image.{Design}
+use Rattle.model.specs.Values.{modulus}
 use Rattle.model.specs.Machine.{Areas, resetAreas, targetSound, cycle}
 use Rattle.model.specs.Parties.{registerSeen, valuesSeen, walkSeen, givenUnseen}
 
--- areas that an accepted run may have: the right lengths, 32-bit values, sound targets
+-- areas that an accepted run may have: the right lengths, values within the widths, sound targets
 pub record Good (d : Design) (areas : Areas) : Type 0 where
   pub registers-length : length (areas .registers) ≡ length (d .registers)
   pub targets-length : length (areas .targets) ≡ length (d .states)
-  pub bounded : (r : ℕ) → getD (areas .registers) r 0 < valueCount
+  pub fitting : (r : ℕ) → getD (areas .registers) r 0 < modulus (d .registers) r
   pub sound : (s : ℕ) → s < length (d .states) → targetSound d (areas .targets) s ≡ true
 
 -- the areas with a value in a register
@@ -30,11 +30,11 @@ pub record Bisimulation (d₁ d₂ : Design) (level : ℕ) (Related : Areas → 
   pub values : (a b : Areas) → Related a b → valuesSeen d₁ level (a .registers) ≡ valuesSeen d₂ level (b .registers)
   pub starts :
       (given₁ given₂ : ℕ → ℕ)
-      → ((r : ℕ) → given₁ r < valueCount)
-      → ((r : ℕ) → given₂ r < valueCount)
+      → ((r : ℕ) → r < length (d₁ .registers) → given₁ r < modulus (d₁ .registers) r)
+      → ((r : ℕ) → r < length (d₂ .registers) → given₂ r < modulus (d₂ .registers) r)
       → Related (startAreas d₁ level given₁) (startAreas d₂ level given₂)
   pub resets : Related (resetAreas d₁) (resetAreas d₂)
   pub cycles : (a b : Areas) → Related a b → Related (cycle d₁ a .after) (cycle d₂ b .after)
   pub walks : (a b : Areas) → Related a b → walkSeen d₁ level (cycle d₁ a .walk) ≡ walkSeen d₂ level (cycle d₂ b .walk)
-  pub writes-seen : (a b : Areas) → Related a b → (r v : ℕ) → v < valueCount → Related (withRegister r v a) (withRegister r v b)
-  pub writes-unseen : (a b : Areas) → Related a b → (r v : ℕ) → v < valueCount → registerSeen d₁ level r ≡ false → Related (withRegister r v a) b
+  pub writes-seen : (a b : Areas) → Related a b → (r v : ℕ) → v < modulus (d₁ .registers) r → Related (withRegister r v a) (withRegister r v b)
+  pub writes-unseen : (a b : Areas) → Related a b → (r v : ℕ) → v < modulus (d₁ .registers) r → registerSeen d₁ level r ≡ false → Related (withRegister r v a) b

@@ -24,7 +24,6 @@ use Rattle.model.proofs.Independence.Labels.{state-label, unseen-above}
 use Rattle.model.proofs.Independence.Agreement.{Agree, agree-self, agree-trans}
 use Rattle.model.proofs.Independence.Commands.{exec-confined}
 use Rattle.model.proofs.Independence.Endings.{holdsFall, Ended}
-use Rattle.model.proofs.Independence.Bounded.{BoundedCmd}
 use Rattle.model.proofs.Independence.Path.{fall-child, entryOf, ran, leftBy, entry, targetsAfter, target, left-good, ended, target-state, parent-lower, fall-points}
 
 -- labels rise along the live path from s
@@ -49,7 +48,7 @@ module _ (d : Design) where
     pub registers : Agree d level (a .registers) (c .after .registers)
     pub walk : walkSeen d level (c .walk) ≡ []
 
-module _ (d : Design) (keeps : DesignKeeps d) (bodies : (s : ℕ) → BoundedCmd (bodyOf d s)) where
+module _ (d : Design) (keeps : DesignKeeps d) where
   -- the default child of a state that holds a fall
   pub default-of-fall : (q : ℕ) → q < length (d .states) → holdsFall (bodyOf d q) ≡ true → ChildOf d q (defaultTarget d q)
   default-of-fall q l h = default-child d q (fall-child d q (bodyOf d q) (keeps .shaped q l) h)
@@ -68,8 +67,8 @@ module _ (d : Design) (keeps : DesignKeeps d) (bodies : (s : ℕ) → BoundedCmd
       let child = sibling-child d s t (e .1) in
       let size = good .targets-length in
       record {
-        default = λ q h k. gone-within d t (a .targets) q (omega arith) (parent-lower d keeps bodies t (child .state) (child .no-root)) h;
-        closed = λ q c h k. within-child d t q c k (rw (k .parent-is) at (parent-lower d keeps bodies c (k .state) (k .no-root))) h;
+        default = λ q h k. gone-within d t (a .targets) q (omega arith) (parent-lower d keeps t (child .state) (child .no-root)) h;
+        closed = λ q c h k. within-child d t q c k (rw (k .parent-is) at (parent-lower d keeps c (k .state) (k .no-root))) h;
       }
 
   module _ (level : ℕ) (isLabel : level < length (d .rows)) where
@@ -106,14 +105,14 @@ module _ (d : Design) (keeps : DesignKeeps d) (bodies : (s : ℕ) → BoundedCmd
         s
         (leftBy d s a)
         l
-        (left-good d keeps bodies s a good)
+        (left-good d keeps s a good)
         rising
         (ran d s a .outcome)
-        (ended d keeps bodies s l a)
+        (ended d keeps s l a)
         (runFrom d f (target a s) (leftBy d s a))
         (entry d f (target a s) (leftBy d s a))
-        (fall-points d keeps bodies f s a l good)
-        (λ h. run-risen f (target a s) (leftBy d s a) (target-state d keeps bodies a good s l) (left-good d keeps bodies s a good) (rising h .1))
+        (fall-points d keeps f s a l good)
+        (λ h. run-risen f (target a s) (leftBy d s a) (target-state d keeps a good s l) (left-good d keeps s a good) (rising h .1))
 
     -- labels rise along the path on which a cycle leaves the table
     pub run-rises : (f s : ℕ) (a : Areas) → s < length (d .states) → Good d a → Rising d f s (a .targets) → Rising d f (entry d f s a) (targetsAfter d f s a)
@@ -143,9 +142,9 @@ module _ (d : Design) (keeps : DesignKeeps d) (bodies : (s : ℕ) → BoundedCmd
     unfolding runFrom walkSeen
     run-hidden zero s a l good rising unseen = record { registers = agree-self d level (a .registers); walk = refl }
     run-hidden (suc f) s a l good rising unseen =
-        let holds : ran d s a .outcome ≡ Transferred Fall → holdsFall (bodyOf d s) ≡ true = λ e. (rw e at (ended d keeps bodies s l a)) .1 in
+        let holds : ran d s a .outcome ≡ Transferred Fall → holdsFall (bodyOf d s) ≡ true = λ e. (rw e at (ended d keeps s l a)) .1 in
         let further : ran d s a .outcome ≡ Transferred Fall → Hidden d level (leftBy d s a) (runFrom d f (target a s) (leftBy d s a)) = λ e.
-        run-hidden f (target a s) (leftBy d s a) (target-state d keeps bodies a good s l) (left-good d keeps bodies s a good) (rising (holds e) .1)
+        run-hidden f (target a s) (leftBy d s a) (target-state d keeps a good s l) (left-good d keeps s a good) (rising (holds e) .1)
         (unseen-above d level keeps isLabel (stateLabel d s) (stateLabel d (target a s)) (state-label d level keeps isLabel s) (state-label d level keeps isLabel (target a s)) (rising (holds e) .0) unseen) in
         let both = after-hidden s (a .registers) (leftBy d s a) unseen (body-hidden s a l unseen) (ran d s a .outcome) (runFrom d f (target a s) (leftBy d s a)) further in
         record { registers = both .0; walk = both .1 }

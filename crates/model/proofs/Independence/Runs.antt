@@ -7,26 +7,28 @@ use mathlib.Core.Bool.{Bool, true, false, cond}
 use mathlib.Core.List.{List, [], _∷_}
 use native.Mathlib.Omega.{arith}
 use native.Mathlib.Decide.{decLt}
-use lib.ListN.{length, getD, length-set, length-map, List·getD-eq-default}
+use lib.Pow.{pow-pos}
+use lib.ListN.{length, getD, length-set, List·getD-eq-default}
 use Rattle.model.specs.declared.Ending.the-variants.{Goto, Fall}
 use Rattle.model.specs.declared.Outcome.{Outcome}
 use Rattle.model.specs.declared.Outcome.the-variants.{Continued, Transferred}
-use Rattle.model.specs.Limits.{valueCount}
 use Rattle.model.specs.Indices.{tabulate, joinBelow}
-use Rattle.model.specs.Image.{Design, Register}
+use Rattle.model.specs.Image.{Design, noRegister}
 use Rattle.model.specs.Lattice.{stateLabel}
 use Rattle.model.specs.States.{defaultTarget}
 use Rattle.model.specs.Trees.{bodyOf}
 use Rattle.model.specs.Rules.{DesignKeeps}
+use Rattle.model.specs.Values.{modulus}
 use Rattle.model.specs.Machine.{Areas, resetAreas, runFrom, cycle}
 use Rattle.model.specs.Parties.{registerSeen, valuesSeen, walkSeen, givenUnseen}
 use Rattle.model.proofs.Laws.Booleans.{decide, cond-true}
 use Rattle.model.proofs.Laws.Indices.{length-tabulate, getD-tabulate, join-same}
+use Rattle.model.proofs.Laws.Cycles.{reset-length}
 use Rattle.model.proofs.Laws.States.{default-sound, sibling-no-root}
 use Rattle.model.proofs.Independence.Relation.{Good, withRegister, startAreas, Bisimulation}
 use Rattle.model.proofs.Independence.Endings.{Ended}
 use Rattle.model.proofs.Independence.Agreement.{Agree, agree-self, agree-trans, agree-sym, agree-unseen, agree-set}
-use Rattle.model.proofs.Independence.Bounded.{Bounded, BoundedCmd, set-bounded}
+use Rattle.model.proofs.Independence.Widths.{Fitting, set-fitting, reset-fitting}
 use Rattle.model.proofs.Independence.Path.{entryOf, ran, entry, ended, run-good}
 use Rattle.model.proofs.Independence.Rising.{Rising, Defaults, run-rises, default-rises}
 use Rattle.model.proofs.Independence.Cycle.{Alike, pathSeen, default-paths, same-register-seen, agree-alike, Together, run-together}
@@ -38,18 +40,18 @@ module _ (d : Design) where
   reset-defaults = record { default = λ q p l. getD-tabulate (defaultTarget d) (length (d .states)) q 0 l; closed = λ q c p child. tt }
 
   -- areas whose targets are those of reset
-  pub reset-good : (values : List ℕ) → length values ≡ length (d .registers) → Bounded values → Good d (record { registers = values; targets = resetAreas d .targets })
+  pub reset-good : (values : List ℕ) → length values ≡ length (d .registers) → Fitting (d .registers) values → Good d (record { registers = values; targets = resetAreas d .targets })
   unfolding resetAreas
-  reset-good values size bounded =
+  reset-good values size fitting =
       record {
         registers-length = size;
         targets-length = length-tabulate (defaultTarget d) (length (d .states));
-        bounded = bounded;
+        fitting = fitting;
         sound = λ s l. default-sound d (tabulate (defaultTarget d) (length (d .states))) s (getD-tabulate (defaultTarget d) (length (d .states)) s 0 l);
       }
 
   -- ---- a cycle runs from the root, and goes on from the root
-  module _ (keeps : DesignKeeps d) (bodies : (s : ℕ) → BoundedCmd (bodyOf d s)) where
+  module _ (keeps : DesignKeeps d) where
     root-stays : (o : Outcome) (context : List ℕ) → Ended d 0 context (bodyOf d 0) o → entryOf o 0 ≡ 0
     root-stays Continued context e = refl
     root-stays (Transferred Fall) context e = refl
@@ -57,7 +59,7 @@ module _ (d : Design) where
 
     pub entry-root : (f : ℕ) (a : Areas) → 0 < length (d .states) → entry d f 0 a ≡ 0
     entry-root zero a l = refl
-    entry-root (suc f) a l = root-stays (ran d 0 a .outcome) (stateLabel d 0 ∷ []) (ended d keeps bodies 0 l a)
+    entry-root (suc f) a l = root-stays (ran d 0 a .outcome) (stateLabel d 0 ∷ []) (ended d keeps 0 l a)
 
   -- ---- the start: what is seen has its reset value
   module _ (level : ℕ) (given : ℕ → ℕ) (values : List ℕ) where
@@ -72,16 +74,16 @@ module _ (d : Design) where
     given-past : (r : ℕ) → length (d .registers) ≤ r → getD (givenUnseen d level given values) r 0 ≡ 0
     given-past r l = let size = length-given in List·getD-eq-default (givenUnseen d level given values) 0 {n = r} (omega arith)
 
-    pub given-bounded : Bounded values → ((r : ℕ) → given r < valueCount) → Bounded (givenUnseen d level given values)
-    given-bounded h k r = go (decLt r (length (d .registers)))
+    pub given-fitting : Fitting (d .registers) values → ((r : ℕ) → r < length (d .registers) → given r < modulus (d .registers) r) → Fitting (d .registers) (givenUnseen d level given values)
+    given-fitting h k r = go (decLt r (length (d .registers)))
       where
-        either : (b : Bool) → cond b (getD values r 0) (given r) < valueCount
-        either true = h r
-        either false = k r
+        either : r < length (d .registers) → (b : Bool) → cond b (getD values r 0) (given r) < modulus (d .registers) r
+        either l true = h r
+        either l false = k r l
 
-        go : Dec (r < length (d .registers)) → getD (givenUnseen d level given values) r 0 < valueCount
-        go (yes l) = rw (given-at r l) (either (registerSeen d level r))
-        go (no m) = rw (given-past r (omega arith)) (omega arith)
+        go : Dec (r < length (d .registers)) → getD (givenUnseen d level given values) r 0 < modulus (d .registers) r
+        go (yes l) = rw (given-at r l) (either l (registerSeen d level r))
+        go (no m) = rw (given-past r (omega arith)) (pow-pos (getD (d .registers) r noRegister .width))
 
     pub given-agrees : length values ≡ length (d .registers) → Agree d level (givenUnseen d level given values) values
     given-agrees size = record { lengths = length-given ∙ sym size; values = λ r seen. go r seen (decLt r (length (d .registers))) }
@@ -104,9 +106,6 @@ module _ (d₁ d₂ : Design) (level : ℕ) where
       (alike : Alike d₁ d₂ level)
       (keeps₁ : DesignKeeps d₁)
       (keeps₂ : DesignKeeps d₂)
-      (bodies₁ : (s : ℕ) → BoundedCmd (bodyOf d₁ s))
-      (bodies₂ : (s : ℕ) → BoundedCmd (bodyOf d₂ s))
-      (resets : Bounded (resetAreas d₁ .registers))
       (rooted : 0 < length (d₁ .states))
       (isLabel : level < length (d₁ .rows))
     where
@@ -120,42 +119,32 @@ module _ (d₁ d₂ : Design) (level : ℕ) where
       unfolding resetAreas
       same-reset = rw (alike .registers) refl
 
-      length-reset : length (resetAreas d₁ .registers) ≡ length (d₁ .registers)
-      unfolding resetAreas
-      length-reset = length-map (d₁ .registers) (λ (r : Register). r .reset)
-
       -- areas with the targets of reset, and registers that agree
-      from-reset : (v w : List ℕ) → length v ≡ length (d₁ .registers) → Bounded v → Bounded w → Agree d₁ level v w → Related (record { registers = v; targets = resetAreas d₁ .targets }) (record { registers = w; targets = resetAreas d₂ .targets })
-      from-reset v w size bounded₁ bounded₂ agree =
+      from-reset : (v w : List ℕ) → length v ≡ length (d₁ .registers) → Fitting (d₁ .registers) v → Fitting (d₂ .registers) w → Agree d₁ level v w → Related (record { registers = v; targets = resetAreas d₁ .targets }) (record { registers = w; targets = resetAreas d₂ .targets })
+      from-reset v w size fitting₁ fitting₂ agree =
           record {
-            good₁ = reset-good d₁ v size bounded₁;
-            good₂ = reset-good d₂ w (sym (agree .lengths) ∙ size ∙ ap length (alike .registers)) bounded₂;
-            rising₁ = default-rises d₁ keeps₁ bodies₁ (λ q. Unit {0}) (resetAreas d₁ .targets) (reset-defaults d₁) (length (d₁ .states)) 0 tt rooted;
-            rising₂ = default-rises d₂ keeps₂ bodies₂ (λ q. Unit {0}) (resetAreas d₂ .targets) (reset-defaults d₂) (length (d₁ .states)) 0 tt rooted₂;
+            good₁ = reset-good d₁ v size fitting₁;
+            good₂ = reset-good d₂ w (sym (agree .lengths) ∙ size ∙ ap length (alike .registers)) fitting₂;
+            rising₁ = default-rises d₁ keeps₁ (λ q. Unit {0}) (resetAreas d₁ .targets) (reset-defaults d₁) (length (d₁ .states)) 0 tt rooted;
+            rising₂ = default-rises d₂ keeps₂ (λ q. Unit {0}) (resetAreas d₂ .targets) (reset-defaults d₂) (length (d₁ .states)) 0 tt rooted₂;
             agree = agree;
-            paths = default-paths d₁ d₂ level alike keeps₁ bodies₁ (λ q. Unit {0}) (resetAreas d₁ .targets) (resetAreas d₂ .targets) (reset-defaults d₁) (reset-defaults d₂) (length (d₁ .states)) 0 tt rooted;
+            paths = default-paths d₁ d₂ level alike keeps₁ (λ q. Unit {0}) (resetAreas d₁ .targets) (resetAreas d₂ .targets) (reset-defaults d₁) (reset-defaults d₂) (length (d₁ .states)) 0 tt rooted;
           }
 
-      length-reset₂ : length (resetAreas d₂ .registers) ≡ length (d₂ .registers)
-      length-reset₂ = ap length (sym same-reset) ∙ length-reset ∙ ap length (alike .registers)
-
-      resets₂ : Bounded (resetAreas d₂ .registers)
-      resets₂ = rw same-reset at resets
-
-      starts : (given₁ given₂ : ℕ → ℕ) → ((r : ℕ) → given₁ r < valueCount) → ((r : ℕ) → given₂ r < valueCount) → Related (startAreas d₁ level given₁) (startAreas d₂ level given₂)
+      starts : (given₁ given₂ : ℕ → ℕ) → ((r : ℕ) → r < length (d₁ .registers) → given₁ r < modulus (d₁ .registers) r) → ((r : ℕ) → r < length (d₂ .registers) → given₂ r < modulus (d₂ .registers) r) → Related (startAreas d₁ level given₁) (startAreas d₂ level given₂)
       starts given₁ given₂ h k =
           let agree₂ : Agree d₁ level (givenUnseen d₂ level given₂ (resetAreas d₂ .registers)) (resetAreas d₁ .registers) =
-          rw same-reset (agree-alike d₁ d₂ level alike (given-agrees d₂ level given₂ (resetAreas d₂ .registers) length-reset₂)) in
+          rw same-reset (agree-alike d₁ d₂ level alike (given-agrees d₂ level given₂ (resetAreas d₂ .registers) (reset-length d₂))) in
           from-reset
           (givenUnseen d₁ level given₁ (resetAreas d₁ .registers))
           (givenUnseen d₂ level given₂ (resetAreas d₂ .registers))
           (length-given d₁ level given₁ (resetAreas d₁ .registers))
-          (given-bounded d₁ level given₁ (resetAreas d₁ .registers) resets h)
-          (given-bounded d₂ level given₂ (resetAreas d₂ .registers) resets₂ k)
-          (agree-trans d₁ level (given-agrees d₁ level given₁ (resetAreas d₁ .registers) length-reset) (agree-sym d₁ level agree₂))
+          (given-fitting d₁ level given₁ (resetAreas d₁ .registers) (reset-fitting d₁ keeps₁) h)
+          (given-fitting d₂ level given₂ (resetAreas d₂ .registers) (reset-fitting d₂ keeps₂) k)
+          (agree-trans d₁ level (given-agrees d₁ level given₁ (resetAreas d₁ .registers) (reset-length d₁)) (agree-sym d₁ level agree₂))
 
       reset-related : Related (resetAreas d₁) (resetAreas d₂)
-      reset-related = from-reset (resetAreas d₁ .registers) (resetAreas d₂ .registers) length-reset resets resets₂ (rw same-reset (agree-self d₁ level (resetAreas d₂ .registers)))
+      reset-related = from-reset (resetAreas d₁ .registers) (resetAreas d₂ .registers) (reset-length d₁) (reset-fitting d₁ keeps₁) (reset-fitting d₂ keeps₂) (rw same-reset (agree-self d₁ level (resetAreas d₂ .registers)))
 
       values-same : (a b : Areas) → Related a b → valuesSeen d₁ level (a .registers) ≡ valuesSeen d₂ level (b .registers)
       unfolding valuesSeen
@@ -184,8 +173,6 @@ module _ (d₁ d₂ : Design) (level : ℕ) where
             alike
             keeps₁
             keeps₂
-            bodies₁
-            bodies₂
             isLabel
             (length (d₁ .states))
             0
@@ -200,7 +187,7 @@ module _ (d₁ d₂ : Design) (level : ℕ) where
             (related .rising₂)
             (related .agree)
             (related .paths) in
-            rw (entry-root d₁ keeps₁ bodies₁ (length (d₁ .states)) a rooted, entry-root d₂ keeps₂ bodies₂ (length (d₁ .states)) b rooted₂) at run
+            rw (entry-root d₁ keeps₁ (length (d₁ .states)) a rooted, entry-root d₂ keeps₂ (length (d₁ .states)) b rooted₂) at run
 
         cycle-walks : walkSeen d₁ level (cycle d₁ a .walk) ≡ walkSeen d₂ level (cycle d₂ b .walk)
         cycle-walks = rw as-many (together .walks)
@@ -208,26 +195,26 @@ module _ (d₁ d₂ : Design) (level : ℕ) where
         cycle-related : Related (cycle d₁ a .after) (cycle d₂ b .after)
         unfolding cycle
         cycle-related =
-            let root₁ = entry-root d₁ keeps₁ bodies₁ (length (d₁ .states)) a rooted in
-            let root₂ = entry-root d₂ keeps₂ bodies₂ (length (d₁ .states)) b rooted₂ in
+            let root₁ = entry-root d₁ keeps₁ (length (d₁ .states)) a rooted in
+            let root₂ = entry-root d₂ keeps₂ (length (d₁ .states)) b rooted₂ in
             rw
             as-many
             (record {
-              good₁ = run-good d₁ keeps₁ bodies₁ (length (d₁ .states)) 0 a rooted (related .good₁);
-              good₂ = run-good d₂ keeps₂ bodies₂ (length (d₁ .states)) 0 b rooted₂ (related .good₂);
-              rising₁ = rw root₁ at (run-rises d₁ keeps₁ bodies₁ level isLabel (length (d₁ .states)) 0 a rooted (related .good₁) (related .rising₁));
-              rising₂ = rw root₂ at (run-rises d₂ keeps₂ bodies₂ level isLabel₂ (length (d₁ .states)) 0 b rooted₂ (related .good₂) (related .rising₂));
+              good₁ = run-good d₁ keeps₁ (length (d₁ .states)) 0 a rooted (related .good₁);
+              good₂ = run-good d₂ keeps₂ (length (d₁ .states)) 0 b rooted₂ (related .good₂);
+              rising₁ = rw root₁ at (run-rises d₁ keeps₁ level isLabel (length (d₁ .states)) 0 a rooted (related .good₁) (related .rising₁));
+              rising₂ = rw root₂ at (run-rises d₂ keeps₂ level isLabel₂ (length (d₁ .states)) 0 b rooted₂ (related .good₂) (related .rising₂));
               agree = together .registers;
               paths = together .paths;
             })
 
       -- ---- a port write
-      set-good : (d : Design) (a : Areas) → Good d a → (r v : ℕ) → v < valueCount → Good d (withRegister r v a)
+      set-good : (d : Design) (a : Areas) → Good d a → (r v : ℕ) → v < modulus (d .registers) r → Good d (withRegister r v a)
       set-good d a good r v l =
           record {
             registers-length = length-set (a .registers) r v ∙ good .registers-length;
             targets-length = good .targets-length;
-            bounded = set-bounded (a .registers) r v l (good .bounded);
+            fitting = set-fitting (d .registers) (a .registers) r v l (good .fitting);
             sound = good .sound;
           }
 
@@ -244,7 +231,7 @@ module _ (d₁ d₂ : Design) (level : ℕ) where
                 λ a b related r v l.
                 record {
                   good₁ = set-good d₁ a (related .good₁) r v l;
-                  good₂ = set-good d₂ b (related .good₂) r v l;
+                  good₂ = set-good d₂ b (related .good₂) r v (rw (← (alike .registers)) l);
                   rising₁ = related .rising₁;
                   rising₂ = related .rising₂;
                   agree = agree-set d₁ level (related .agree) r v;

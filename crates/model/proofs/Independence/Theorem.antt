@@ -12,7 +12,6 @@ use Rattle.model.specs.Parties.{Independent}
 use Rattle.model.proofs.Laws.Words.{length-recordsOf}
 use Rattle.model.proofs.Exact.{verdict-exact}
 use Rattle.model.proofs.Independence.Relation.{Bisimulation}
-use Rattle.model.proofs.Independence.Bounded.{body-bounded, reset-bounded}
 use Rattle.model.proofs.Independence.Cycle.{alike-self}
 use Rattle.model.proofs.Independence.Runs.{Related, related-bisimulation}
 use Rattle.model.proofs.Independence.Lists.{lists-independent}
@@ -26,7 +25,7 @@ rooted image kept =
     omega arith
 
 pub independent : Independent
-independent image bytes accepted level isLabel one other same =
+independent image accepted level isLabel one other same =
     let d = designOf image in
     let keeps = verdict-exact image .0 accepted in
     let related : Bisimulation d d level (Related d d level) =
@@ -37,9 +36,6 @@ independent image bytes accepted level isLabel one other same =
     (alike-self d level)
     (keeps .design)
     (keeps .design)
-    (body-bounded image bytes)
-    (body-bounded image bytes)
-    (reset-bounded image bytes)
     (rooted image (keeps .directory))
     isLabel in
     lists-independent image image accepted accepted level (Related d d level) (Related d d level) related related one other same

@@ -2,6 +2,7 @@
 use Prim.Native.Nat.{ℕ}
 use mathlib.Core.Path.{_≡_, refl, sym, _∙_, ap}
 use mathlib.Core.List.{List}
+use Rattle.model.specs.Image.{Register}
 use Rattle.model.specs.Trees.{Cmd, skip, assign, sequence, fall, goto, branch}
 use Rattle.model.specs.Machine.{Executed, unlessTransferred, exec}
 use Rattle.model.proofs.Independence.Endings.{holdsFall}
@@ -15,17 +16,18 @@ unnumbered (fall n) = fall 0
 unnumbered (goto n t) = goto 0 t
 unnumbered (branch n e p q) = branch 0 e (unnumbered p) (unnumbered q)
 
-exec-unnumbered : (values : List ℕ) (c : Cmd) → exec values c ≡ exec values (unnumbered c)
-unfolding exec unnumbered
-exec-unnumbered values (skip n) = refl
-exec-unnumbered values (assign n r e) = refl
-exec-unnumbered values (sequence n p q) = same (exec values p) (exec values (unnumbered p)) (exec-unnumbered values p) (exec-unnumbered (exec values p .registers) q)
-  where
-    same : (first other : Executed) → first ≡ other → exec (first .registers) q ≡ exec (first .registers) (unnumbered q) → unlessTransferred (first .outcome) first (exec (first .registers) q) ≡ unlessTransferred (other .outcome) other (exec (other .registers) (unnumbered q))
-    same first other e h = rw (h, e) refl
-exec-unnumbered values (fall n) = refl
-exec-unnumbered values (goto n t) = refl
-exec-unnumbered values (branch n e p q) = rw (exec-unnumbered values p, exec-unnumbered values q) refl
+module _ (registers : List Register) where
+  exec-unnumbered : (values : List ℕ) (c : Cmd) → exec registers values c ≡ exec registers values (unnumbered c)
+  unfolding exec unnumbered
+  exec-unnumbered values (skip n) = refl
+  exec-unnumbered values (assign n r e) = refl
+  exec-unnumbered values (sequence n p q) = same (exec registers values p) (exec registers values (unnumbered p)) (exec-unnumbered values p) (exec-unnumbered (exec registers values p .registers) q)
+    where
+      same : (first other : Executed) → first ≡ other → exec registers (first .registers) q ≡ exec registers (first .registers) (unnumbered q) → unlessTransferred (first .outcome) first (exec registers (first .registers) q) ≡ unlessTransferred (other .outcome) other (exec registers (other .registers) (unnumbered q))
+      same first other e h = rw (h, e) refl
+  exec-unnumbered values (fall n) = refl
+  exec-unnumbered values (goto n t) = refl
+  exec-unnumbered values (branch n e p q) = rw (exec-unnumbered values p, exec-unnumbered values q) refl
 
 holds-unnumbered : (c : Cmd) → holdsFall c ≡ holdsFall (unnumbered c)
 unfolding holdsFall unnumbered
@@ -37,8 +39,8 @@ holds-unnumbered (goto n t) = refl
 holds-unnumbered (branch n e p q) = rw (holds-unnumbered p, holds-unnumbered q) refl
 
 -- commands that differ at most in node numbers run alike and hold falls alike
-pub exec-alike : (p q : Cmd) (values : List ℕ) → unnumbered p ≡ unnumbered q → exec values p ≡ exec values q
-exec-alike p q values e = exec-unnumbered values p ∙ ap (exec values) e ∙ sym (exec-unnumbered values q)
+pub exec-alike : (registers : List Register) (p q : Cmd) (values : List ℕ) → unnumbered p ≡ unnumbered q → exec registers values p ≡ exec registers values q
+exec-alike registers p q values e = exec-unnumbered registers values p ∙ ap (exec registers values) e ∙ sym (exec-unnumbered registers values q)
 
 pub holds-alike : (p q : Cmd) → unnumbered p ≡ unnumbered q → holdsFall p ≡ holdsFall q
 holds-alike p q e = holds-unnumbered p ∙ ap holdsFall e ∙ sym (holds-unnumbered q)

@@ -1,10 +1,15 @@
--- So many cycles (`afterCycles` of `specs/Machine.antt`): the first runs from the areas given, and the others from what it leaves. So n cycles and then m
--- are n + m.
+-- Reset has a value for each register. So many cycles (`afterCycles` of `specs/Machine.antt`): the first runs from the areas given, and the others from what
+-- it leaves. So n cycles and then m are n + m.
 use Prim.Native.Nat.{ℕ, zero, suc, _+_}
 use mathlib.Core.Path.{_≡_, refl}
 use native.Mathlib.Omega.{arith}
-use Rattle.model.specs.Image.{Design}
-use Rattle.model.specs.Machine.{Areas, cycle, cycles, afterLast, afterCycles}
+use lib.ListN.{length, length-map}
+use Rattle.model.specs.Image.{Design, Register}
+use Rattle.model.specs.Machine.{Areas, resetAreas, cycle, cycles, afterLast, afterCycles}
+
+pub reset-length : (d : Design) → length (resetAreas d .registers) ≡ length (d .registers)
+unfolding resetAreas
+reset-length d = length-map (d .registers) (λ (r : Register). r .reset)
 
 pub after-first : (d : Design) (n : ℕ) (areas : Areas) → afterCycles d (suc n) areas ≡ afterCycles d n (cycle d areas .after)
 unfolding afterCycles cycles afterLast

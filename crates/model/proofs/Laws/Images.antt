@@ -7,7 +7,7 @@ use native.Mathlib.Nat.{add-zero, add-assoc}
 use lib.ListN.{length, getD, drop}
 use lib.Seq.{getD-drop, drop-drop}
 use Rattle.model.specs.Limits.{labelLength, registerLength, stateLength, nodeLength}
-use Rattle.model.specs.Image.{Section, Labels, Registers, States, Commands, Expressions, byteAt, word16At, word32At, recordLength, offset, count, recordsOf, sectionOf, Register, State, Node, rowOf, registerOf, stateOf, nodeOf, designOf, registerAt, stateAt, commandAt, expressionAt, noNode}
+use Rattle.model.specs.Image.{Section, Labels, Registers, States, Commands, Expressions, byteAt, word16At, word32At, recordLength, offset, count, recordsOf, sectionOf, Register, State, Node, rowOf, registerOf, stateOf, nodeOf, designOf, noRegister, registerAt, stateAt, commandAt, expressionAt, noNode}
 use Rattle.model.proofs.Laws.Words.{length-recordsOf}
 
 -- ---- records
@@ -58,16 +58,18 @@ module _ (image : List ℕ) where
     pub label : registerAt (designOf image) r .label ≡ byteAt image k
     pub kind : registerAt (designOf image) r .kind ≡ byteAt image (k + 1)
     pub reset : registerAt (designOf image) r .reset ≡ word32At image (k + 2)
+    pub width : registerAt (designOf image) r .width ≡ byteAt image (k + 6)
 
   pub register-is : (r : ℕ) → r < count image Registers → RegisterIs r (offset image Registers + registerLength * r)
   unfolding designOf
   register-is r l =
       let k = offset image Registers + registerLength * r in
-      let at = section-at registerOf image Registers r (record { label = 0; kind = 0; reset = 0 }) l in
+      let at = section-at registerOf image Registers r noRegister l in
       record {
         label = ap (λ (x : Register). x .label) at ∙ first-byte image k;
         kind = ap (λ (x : Register). x .kind) at ∙ byte-behind image k 1;
         reset = ap (λ (x : Register). x .reset) at ∙ word32-behind image k 2;
+        width = ap (λ (x : Register). x .width) at ∙ byte-behind image k 6;
       }
 
   pub record StateIs (s k : ℕ) : Type 0 where

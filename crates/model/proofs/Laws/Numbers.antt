@@ -9,7 +9,7 @@ use lib.Dec.{eqb}
 use lib.ListN.{getD}
 use borrow.Author.Tests.{eqb-true, eq-eqb}
 use Rattle.model.specs.declared.Refusal.{Refusal}
-use Rattle.model.specs.declared.Refusal.the-variants.{Directory, LabelRow, RegisterRecord, StateRecord, NodeRecord, NodeUse, Depth, Shape, ChildLabel, AssignFlow, GotoFlow, FallFlow, NoPort, Area, CycleCount, PortAssigned}
+use Rattle.model.specs.declared.Refusal.the-variants.{Directory, LabelRow, RegisterRecord, StateRecord, NodeRecord, NodeUse, Depth, Shape, ChildLabel, AssignFlow, GotoFlow, FallFlow, NoPort, Area, CycleCount, PortAssigned, PortValue}
 use Rattle.model.specs.declared.Answer.{Answer}
 use Rattle.model.specs.declared.Answer.the-variants.{Accepted, Refused}
 use Rattle.model.specs.Answers.{Numbers, numberOf, numbersOf}
@@ -35,6 +35,7 @@ numbered n =
     ∷ Area
     ∷ CycleCount
     ∷ PortAssigned
+    ∷ PortValue
     ∷ [])
     n
     Directory
@@ -56,6 +57,7 @@ numbered-back NoPort = refl
 numbered-back Area = refl
 numbered-back CycleCount = refl
 numbered-back PortAssigned = refl
+numbered-back PortValue = refl
 
 -- two refusals of one number are one
 pub same-number : (r q : Refusal) → numberOf r ≡ numberOf q → r ≡ q
