@@ -1,5 +1,7 @@
 #include "box.h"
 
+#include "table.h"
+
 caisson_answer box_start(struct box *box, const uint8_t *image, size_t image_length)
 {
     box->image = image;
@@ -40,4 +42,13 @@ uint32_t box_value(const struct box *box, size_t reg)
     const uint8_t *word = box->registers + CAISSON_WORD * reg;
 
     return (uint32_t)word[0] | (uint32_t)word[1] << 8 | (uint32_t)word[2] << 16 | (uint32_t)word[3] << 24;
+}
+
+bool box_within_widths(const struct box *box)
+{
+    for (size_t reg = 0; reg < box_registers(box); reg++) {
+        if (box_value(box, reg) > table_most(box->image, reg))
+            return false;
+    }
+    return true;
 }

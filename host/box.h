@@ -8,6 +8,8 @@
 #ifndef BOX_H
 #define BOX_H
 
+#include <stdbool.h>
+
 #include "caisson.h"
 
 struct box {
@@ -37,5 +39,9 @@ size_t box_registers(const struct box *box);
 
 /* The value of a register, whose number must be below that. */
 uint32_t box_value(const struct box *box, size_t reg);
+
+/* Whether every register is within its width, as each is after a reset, a port write and a run. Only
+   for an accepted image. */
+bool box_within_widths(const struct box *box);
 
 #endif

@@ -6,6 +6,7 @@
 #include "record.h"
 #include "refusals.h"
 #include "say.h"
+#include "table.h"
 
 /* How far a run has come. */
 struct progress {
@@ -13,6 +14,15 @@ struct progress {
     uint64_t last;  /* the cycle to end with */
     size_t written; /* readings */
 };
+
+/* What the library refuses a reading by, and of a value too large what its port would take. */
+static void reading_refused(const struct box *box, const struct reading *reading, caisson_answer answer)
+{
+    refusal_say(answer, box);
+    if (answer.number == CAISSON_PORT_VALUE)
+        say("  register %" PRIu32 " has width %" PRIu32 ": it takes 0 to %" PRIu32 ", not %" PRIu32 "\n", reading->reg,
+            table_width(box->image, reading->reg), table_most(box->image, reading->reg), reading->value);
+}
 
 enum status cycles_rehearse(const struct box *box, const struct trace *trace, const char *path)
 {
@@ -24,17 +34,17 @@ enum status cycles_rehearse(const struct box *box, const struct trace *trace, co
 
         if (answer.number != CAISSON_ACCEPTED) {
             say("%s:%zu: ", path, reading->line);
-            refusal_say(answer);
+            reading_refused(&copy, reading, answer);
             return STATUS_REFUSED;
         }
     }
     return STATUS_DONE;
 }
 
-static enum status refused(const struct progress *progress, caisson_answer answer)
+static enum status refused(const struct box *box, const struct progress *progress, caisson_answer answer)
 {
     say("before cycle %" PRIu64 ": ", progress->done + 1);
-    refusal_say(answer);
+    refusal_say(answer, box);
     return STATUS_REFUSED;
 }
 
@@ -49,7 +59,7 @@ static enum status readings_write(struct box *box, const struct trace *trace, st
             break;
         answer = box_write_port(box, reading->reg, reading->value);
         if (answer.number != CAISSON_ACCEPTED)
-            return refused(progress, answer);
+            return refused(box, progress, answer);
         progress->written++;
     }
     return STATUS_DONE;
@@ -87,7 +97,7 @@ static enum status step(struct box *box, const struct trace *trace, const struct
         return status;
     answer = box_run(box, stride(progress, trace, options));
     if (answer.number != CAISSON_ACCEPTED)
-        return refused(progress, answer);
+        return refused(box, progress, answer);
     progress->done += answer.count;
     if (progress->done % options->every != 0)
         return STATUS_DONE;

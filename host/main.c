@@ -13,7 +13,7 @@
 static enum status refused(const char *path, caisson_answer answer)
 {
     say("%s: ", path);
-    refusal_say(answer);
+    refusal_say(answer, NULL);
     return STATUS_REFUSED;
 }
 

@@ -9,7 +9,7 @@ enum place {
     PLACE_REGISTER,
     PLACE_STATE,
     PLACE_NODE, /* a command, or from CAISSON_EXPRESSION_PLACE on an expression */
-    PLACE_AREA  /* a state, or 0 for a length */
+    PLACE_AREA  /* 0 for a length, else a register or a state */
 };
 
 struct rule {
@@ -21,6 +21,17 @@ static const struct rule rules[] = {
 #define CAISSON_REFUSAL(number, constant, name, kind, place, wrong, more) [constant] = {PLACE_##kind, wrong},
 #include "caisson_refusals.def"
 };
+
+/*
+ * The lengths of a box are those that the library has told. So the place is a register where one holds
+ * a value too large for its width, which is judged first, and a state where none does.
+ */
+static enum place area_place(const struct box *box)
+{
+    if (box == NULL)
+        return PLACE_AREA;
+    return box_within_widths(box) ? PLACE_STATE : PLACE_REGISTER;
+}
 
 static void place_say(enum place place, size_t number)
 {
@@ -44,21 +55,24 @@ static void place_say(enum place place, size_t number)
         break;
     case PLACE_AREA:
         if (number == 0)
-            say(" at a length or at state 0");
+            say(" at a length, register 0 or state 0");
         else
-            say(" at state %zu", number);
+            say(" at register %zu or state %zu", number, number);
         break;
     }
 }
 
-void refusal_say(caisson_answer answer)
+void refusal_say(caisson_answer answer, const struct box *box)
 {
+    enum place place;
+
     say("refused by rule %u", (unsigned)answer.number);
     /* A later library may have more rules than this table. */
     if (answer.number >= sizeof rules / sizeof rules[0] || rules[answer.number].words == NULL) {
         say(" at place %zu, which this host has no words for.\n", answer.place);
         return;
     }
-    place_say(rules[answer.number].place, answer.place);
+    place = rules[answer.number].place;
+    place_say(place == PLACE_AREA ? area_place(box) : place, answer.place);
     say(": %s\n", rules[answer.number].words);
 }

@@ -24,4 +24,10 @@ bool table_sees(const uint8_t *image, size_t level, size_t reg);
 /* Whether a register is a port; caisson_write_port refuses every other one. */
 bool table_is_port(const uint8_t *image, size_t reg);
 
+/* How many bits a register has; from 1 to CAISSON_WIDTH. */
+uint32_t table_width(const uint8_t *image, size_t reg);
+
+/* The largest value of a register: all bits of its width. caisson_write_port refuses a larger one. */
+uint32_t table_most(const uint8_t *image, size_t reg);
+
 #endif

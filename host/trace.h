@@ -1,7 +1,8 @@
 /*
  * trace.h: port writes to be made, from a text file. README.md describes the file.
  *
- * Whether a register is a port is not judged here: the library does that.
+ * Whether a register is a port, and a value within its width, is not judged here: the library does
+ * that.
  */
 #ifndef TRACE_H
 #define TRACE_H

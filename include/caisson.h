@@ -19,14 +19,21 @@
  *   an expression                CAISSON_EXPRESSION_PLACE plus its node number
  *   nothing of these             0
  *
- * It is the lowest that breaks the rule. `count` is the cycles that were run or the length that was
- * asked for, and 0 on every refusal. A refusal changes no byte of the areas.
+ * It is the lowest that breaks the rule. Whether that of 14 is a register or a state, its words below
+ * say. `count` is the cycles that were run or the length that was asked for, and 0 on every refusal. A
+ * refusal changes no byte of the areas.
  *
  * The state of a design is two areas that the host owns and lends to each call: registers,
  * CAISSON_WORD bytes each, least significant byte first, and targets, one byte for each state. Their
  * lengths are those that caisson_registers_length and caisson_targets_length answer, neither more nor
  * less. An area of length 0 may be NULL. The host may read the registers between calls. To keep the
  * parties apart it changes them only by caisson_reset, caisson_write_port and caisson_run.
+ *
+ * Each register has a width of 1 to CAISSON_WIDTH bits and holds values below 2 to the power of it. In
+ * the area it takes CAISSON_WORD bytes all the same, with zeros above its width. An assignment stores
+ * its value modulo 2 to the power of the width. A reset, an accepted port write and an accepted run
+ * leave every register within its width. So 14 is answered for contents only where a register area
+ * was not reset, or where the host has filled or changed it by itself.
  *
  * Two calls at the same time are safe if they are lent no area in common.
  */
@@ -42,8 +49,8 @@ extern "C" {
 
 /* The version of the library and the number of the image's format. CHANGELOG.md says when each moves;
    docs/FORMAT.md has the format byte by byte. */
-#define CAISSON_VERSION "1.2.0"
-#define CAISSON_FORMAT 1
+#define CAISSON_VERSION "2.0.0"
+#define CAISSON_FORMAT 2
 
 /* Limits of a design table. */
 #define CAISSON_LABELS 16u        /* most labels; at least 1 */
@@ -52,14 +59,15 @@ extern "C" {
 #define CAISSON_COMMANDS 1024u    /* most commands */
 #define CAISSON_EXPRESSIONS 2048u /* most expressions */
 #define CAISSON_DEPTH 64u         /* how deep commands and expressions nest */
+#define CAISSON_WIDTH 32u         /* most bits of a register; at least 1 */
 
 /* Lengths in bytes: of the directory, of each record, of the largest image. */
 #define CAISSON_DIRECTORY_LENGTH 20u
 #define CAISSON_LABEL_LENGTH 2u
-#define CAISSON_REGISTER_LENGTH 6u
+#define CAISSON_REGISTER_LENGTH 7u
 #define CAISSON_STATE_LENGTH 4u
 #define CAISSON_NODE_LENGTH 8u /* a command or an expression */
-#define CAISSON_LARGEST_IMAGE 25268u
+#define CAISSON_LARGEST_IMAGE 25332u
 
 #define CAISSON_EXPRESSION_PLACE 1024u /* an expression's place is this plus its number */
 #define CAISSON_WORD 4u                /* bytes of a register in its area */
@@ -79,8 +87,9 @@ enum caisson_refusal {
        have a least common label above them. Place: the lowest label whose row, or whose rule with
        it first, fails. */
     CAISSON_LABEL_ROW = 2,
-    /* A register has a label that the design does not have, or a kind that is neither 0 (inner) nor
-       1 (port). Place: the register. */
+    /* A register has a label that the design does not have, a kind that is neither 0 (inner) nor 1
+       (port), a width that is not from 1 to 32, or a reset value that is too large for its width. A
+       register of width w holds values below 2 to the power of w. Place: the register. */
     CAISSON_REGISTER_RECORD = 3,
     /* A state has a parent, a label or a command number that it cannot have. State 0 is the root,
        with parent 0 and label 0; any other parent has a lower number than its child. The label is
@@ -120,16 +129,24 @@ enum caisson_refusal {
     /* A port write names a register that does not exist or that is inner. It is judged after 14.
        Place: the register number given. */
     CAISSON_NO_PORT = 13,
-    /* An area has the wrong length, or a run finds a target that is not sound. The target of a
-       state with children is one of its children, that of any other state is its own number. Place:
-       0 for a length; the lowest state for a target. */
+    /* An area has the wrong length, a register holds a value that is too large for its width, or a
+       run finds a target that is not sound. They are judged in this order: lengths by every call
+       that takes an area, values by a port write and a run, targets by a run. So where the lengths
+       are right, the place is a register if some register holds a value too large, and a state if
+       none does. The target of a state with children is one of its children, that of any other
+       state is its own number. Place: 0 for a length; the lowest register for a value; the lowest
+       state for a target. */
     CAISSON_AREA = 14,
     /* A run asks for more than 1,000,000 cycles. Place: 0. */
     CAISSON_CYCLE_COUNT = 15,
     /* An assignment names a port. Ports belong to the host: only a reset and a port write change
        them. Any expression may read them. It is judged after 8 and before 9. Place: the
        assignment. */
-    CAISSON_PORT_ASSIGNED = 16
+    CAISSON_PORT_ASSIGNED = 16,
+    /* A port write has a value that is too large for the width of its port. A port of width w takes
+       values below 2 to the power of w. It is judged after 14 and 13. Place: the register number
+       given. */
+    CAISSON_PORT_VALUE = 17
 };
 
 /* What a call answers. */
@@ -174,8 +191,8 @@ caisson_answer caisson_targets_length(const uint8_t *image, /* the image's bytes
 
 /*
  * Writes each register's reset value and each state's default target: its lowest-numbered child, or
- * its own number where it has none. What the areas held before does not matter. Refusals: the image
- * checks, then 14 for a length.
+ * its own number where it has none. What the areas held before does not matter. Afterwards every
+ * register is within its width. Refusals: the image checks, then 14 for a length.
  */
 CAISSON_LOOK_AT_ANSWER
 caisson_answer caisson_reset(const uint8_t *image, size_t image_len,
@@ -183,9 +200,12 @@ caisson_answer caisson_reset(const uint8_t *image, size_t image_len,
                              uint8_t *targets, size_t targets_len);
 
 /*
- * Sets one register, which must be a port, to a value, and changes nothing else. It takes the
- * register area only. No design changes a port: it keeps the value until the next write to it or the
- * next reset. Refusals: the image checks, then 14 for its length, then 13.
+ * Sets one register, which must be a port, to a value within the port's width, and changes nothing
+ * else. A value too large is refused, not cut; docs/FORMAT.md says where the width stands in the
+ * image. The call takes the register area only and judges all of it: every register must be within its
+ * width, and stays so. No design changes a port: it keeps the value until the next write to it or the
+ * next reset. Refusals: the image checks, then 14 for the area's length, 14 for a value too large in
+ * it, then 13, then 17 for the value given.
  */
 CAISSON_LOOK_AT_ANSWER
 caisson_answer caisson_write_port(const uint8_t *image, size_t image_len,
@@ -196,9 +216,10 @@ caisson_answer caisson_write_port(const uint8_t *image, size_t image_len,
 /*
  * Runs so many cycles, from 0 to CAISSON_CYCLES, and answers that number as `count`. Each cycle runs
  * the root's command and goes on along the targets; what it leaves in the areas is what the next one
- * starts from. A run, of however many cycles, leaves every port as it was. A run of 0 changes
- * nothing. The image is judged once for all cycles of a run. Refusals: the image checks, then 14 for
- * a length, 14 for an unsound target, then 15.
+ * starts from. A run, of however many cycles, leaves every port as it was and every register within
+ * its width. A run of 0 changes nothing, and judges the same. The image is judged once for all cycles
+ * of a run. Refusals: the image checks, then 14 for a length, 14 for a value too large, 14 for an
+ * unsound target, then 15.
  */
 CAISSON_LOOK_AT_ANSWER
 caisson_answer caisson_run(const uint8_t *image, size_t image_len,

@@ -1,4 +1,6 @@
-/* Every refusal in words, at each kind of place, and one that no library of today gives. */
+/* Every refusal in words, at each kind of place, and one that no library of today gives. Then 14 of a box
+   in a design that is named, whose register 0 has less than 32 bits: at a state, and at a register. */
+#include "design.h"
 #include "refusals.h"
 
 static const uint32_t numbers[] = {
@@ -6,15 +8,37 @@ static const uint32_t numbers[] = {
 #include "caisson_refusals.def"
 };
 
-int main(void)
+static void each_number(void)
 {
     const uint32_t count = sizeof numbers / sizeof numbers[0];
 
     for (uint32_t i = 0; i < count; i++)
-        refusal_say((caisson_answer){numbers[i], 5, 0});
-    refusal_say((caisson_answer){count + 1, 5, 0});
-    refusal_say((caisson_answer){CAISSON_NODE_RECORD, CAISSON_EXPRESSION_PLACE - 1, 0});
-    refusal_say((caisson_answer){CAISSON_NODE_RECORD, CAISSON_EXPRESSION_PLACE, 0});
-    refusal_say((caisson_answer){CAISSON_AREA, 0, 0});
+        refusal_say((caisson_answer){numbers[i], 5, 0}, NULL);
+    refusal_say((caisson_answer){count + 1, 5, 0}, NULL);
+    refusal_say((caisson_answer){CAISSON_NODE_RECORD, CAISSON_EXPRESSION_PLACE - 1, 0}, NULL);
+    refusal_say((caisson_answer){CAISSON_NODE_RECORD, CAISSON_EXPRESSION_PLACE, 0}, NULL);
+    refusal_say((caisson_answer){CAISSON_AREA, 0, 0}, NULL);
+}
+
+/* What a host must not do: it changes the areas by itself. */
+static void areas(struct box *box)
+{
+    box->targets[0] = 0; /* the root is not its own child */
+    refusal_say(box_run(box, 0), box);
+    box->registers[CAISSON_WORD - 1] = 0x80; /* the highest bit of register 0 */
+    refusal_say(box_run(box, 0), box);
+    refusal_say(box_write_port(box, 0, 0), box);
+}
+
+int main(int argc, char **argv)
+{
+    static struct design design;
+    static struct box box;
+
+    each_number();
+    if (argc != 2 || design_load(&design, argv[1]) != STATUS_DONE ||
+        box_start(&box, design.image, design.length).number != CAISSON_ACCEPTED)
+        return 2;
+    areas(&box);
     return 0;
 }

@@ -5,13 +5,13 @@
 
 #include "caisson.h"
 
-/* The lease design, 208 bytes: labels, registers, states, commands, expressions. */
+/* The lease design, 210 bytes: labels, registers, states, commands, expressions. */
 static const uint8_t lease[] = {
-    20, 0, 4, 0, 24, 0, 12, 0, 36, 0, 20, 0, 56, 0, 104, 0, 160, 0, 48, 0,
+    20, 0, 4, 0, 24, 0, 14, 0, 38, 0, 20, 0, 58, 0, 104, 0, 162, 0, 48, 0,
     /* labels */
     3, 0, 2, 0,
-    /* registers: label, kind, reset */
-    0, 0, 3, 0, 0, 0, 1, 1, 0, 0, 0, 0,
+    /* registers: label, kind, reset, width */
+    0, 0, 3, 0, 0, 0, 32, 1, 1, 0, 0, 0, 0, 32,
     /* states: parent, label, command */
     0, 0, 0, 0, 0, 0, 3, 0, 0, 0, 8, 0, 2, 1, 11, 0, 2, 1, 12, 0,
     /* commands */
@@ -49,6 +49,26 @@ static const uint8_t smallest[] = {
     4, 1, 0, 0, 0, 0, 0, 0, /* 1: goto 1 */
 };
 
+/* r0 of width 2, which counts, and the ports r1 of width 10 and r2 of width 1. */
+static const uint8_t narrow[] = {
+    20, 0, 2, 0, 22, 0, 21, 0, 43, 0, 8, 0, 51, 0, 32, 0, 83, 0, 24, 0,
+    /* labels */
+    1, 0,
+    /* registers: label, kind, reset, width */
+    0, 0, 2, 0, 0, 0, 2, 0, 1, 255, 3, 0, 0, 10, 0, 1, 0, 0, 0, 0, 1,
+    /* states */
+    0, 0, 0, 0, 0, 0, 3, 0,
+    /* commands */
+    3, 0, 0, 0, 0, 0, 0, 0, /* 0: fall */
+    1, 0, 2, 0, 0, 0, 0, 0, /* 1: r0 := e2 */
+    4, 1, 0, 0, 0, 0, 0, 0, /* 2: goto 1 */
+    2, 0, 1, 0, 2, 0, 0, 0, /* 3: 1; 2 */
+    /* expressions */
+    1, 0, 0, 0, 0, 0, 0, 0, /* 0: r0 */
+    0, 0, 0, 0, 1, 0, 0, 0, /* 1: 1 */
+    2, 0, 0, 0, 1, 0, 0, 0, /* 2: e0 + e1 */
+};
+
 static int failures;
 static int answers;
 
@@ -83,15 +103,33 @@ static void checks(void)
     expect("a register of kind 2", caisson_check(damaged, sizeof damaged), CAISSON_REGISTER_RECORD, 0, 0);
 
     memcpy(damaged, lease, sizeof lease);
-    damaged[200] = 9; /* the kind of expression 5 */
+    damaged[202] = 9; /* the kind of expression 5 */
     expect("an expression of kind 9", caisson_check(damaged, sizeof damaged), CAISSON_NODE_RECORD,
            CAISSON_EXPRESSION_PLACE + 5, 0);
 
     memcpy(damaged, lease, sizeof lease);
-    damaged[49] = 0; /* the label of state 3, which branches on the port of label 1 */
+    damaged[51] = 0; /* the label of state 3, which branches on the port of label 1 */
     expect("a secret branch in a low state", caisson_check(damaged, sizeof damaged), CAISSON_GOTO_FLOW, 10, 0);
-    damaged[65] = 1; /* the register of command 1: r1, a port. It is judged before the flow */
+    damaged[67] = 1; /* the register of command 1: r1, a port. It is judged before the flow */
     expect("an assignment to a port", caisson_check(damaged, sizeof damaged), CAISSON_PORT_ASSIGNED, 1, 0);
+}
+
+/* A width is from 1 to 32, and a reset value below 2 to the power of it. */
+static void widths(void)
+{
+    uint8_t damaged[sizeof lease];
+
+    memcpy(damaged, lease, sizeof lease);
+    damaged[37] = 33; /* the width of r1 */
+    expect("a width of 33", caisson_check(damaged, sizeof damaged), CAISSON_REGISTER_RECORD, 1, 0);
+    damaged[37] = 0;
+    expect("a width of 0", caisson_check(damaged, sizeof damaged), CAISSON_REGISTER_RECORD, 1, 0);
+    damaged[37] = 1;
+    expect("a width of 1", caisson_check(damaged, sizeof damaged), CAISSON_ACCEPTED, 0, 0);
+    damaged[30] = 2; /* the width of r0, whose reset value is 3 */
+    expect("the largest reset value of a width", caisson_check(damaged, sizeof damaged), CAISSON_ACCEPTED, 0, 0);
+    damaged[26] = 4; /* the reset value of r0 */
+    expect("a reset value too large", caisson_check(damaged, sizeof damaged), CAISSON_REGISTER_RECORD, 0, 0);
 }
 
 /* Each length is told for an accepted image alone; a refusal is that of caisson_check. */
@@ -110,7 +148,7 @@ static void lengths(void)
     expect("the registers' length of a null image", caisson_registers_length(NULL, 0), CAISSON_DIRECTORY, 0, 0);
     expect("the targets' length of a null image", caisson_targets_length(NULL, 0), CAISSON_DIRECTORY, 0, 0);
     memcpy(damaged, lease, sizeof lease);
-    damaged[49] = 0; /* the label of state 3, as above: refused by the last pass */
+    damaged[51] = 0; /* the label of state 3, as above: refused by the last pass */
     expect("the registers' length of a refused image", caisson_registers_length(damaged, sizeof damaged),
            CAISSON_GOTO_FLOW, 10, 0);
     expect("the targets' length of a refused image", caisson_targets_length(damaged, sizeof damaged),
@@ -154,6 +192,75 @@ static void ports(void)
     expect_bytes("the port after a long run", registers + CAISSON_WORD, written, CAISSON_WORD);
 }
 
+/* A count of two bits goes 2, 3, 0, 1, and ports take all values of their widths. */
+static void narrow_registers(void)
+{
+    uint8_t registers[12], targets[2];
+
+    expect("reset", caisson_reset(narrow, sizeof narrow, registers, 12, targets, 2), CAISSON_ACCEPTED, 0, 0);
+    expect_bytes("reset values", registers, (const uint8_t[]){2, 0, 0, 0, 255, 3, 0, 0, 0, 0, 0, 0}, 12);
+    for (uint8_t i = 3; i < 12; i++) {
+        expect("a cycle", caisson_run(narrow, sizeof narrow, registers, 12, targets, 2, 1), CAISSON_ACCEPTED, 0, 1);
+        expect_bytes("a count modulo 4", registers, (const uint8_t[]){i % 4, 0, 0, 0}, 4);
+    }
+    expect("a long run", caisson_run(narrow, sizeof narrow, registers, 12, targets, 2, CAISSON_CYCLES),
+           CAISSON_ACCEPTED, 0, CAISSON_CYCLES);
+    expect("the largest of 10 bits", caisson_write_port(narrow, sizeof narrow, registers, 12, 1, 1023),
+           CAISSON_ACCEPTED, 0, 0);
+    expect("the largest of 1 bit", caisson_write_port(narrow, sizeof narrow, registers, 12, 2, 1), CAISSON_ACCEPTED, 0,
+           0);
+    expect_bytes("registers", registers, (const uint8_t[]){3, 0, 0, 0, 255, 3, 0, 0, 1, 0, 0, 0}, 12);
+}
+
+/* A port write goes: the image, 14 by length, 14 by contents, 13, 17. A run judges contents before targets,
+   also with 0 cycles. A reset judges lengths alone. */
+static void narrow_refusals(void)
+{
+    uint8_t registers[12], targets[2], registers_before[12], targets_before[2];
+
+    expect("reset", caisson_reset(narrow, sizeof narrow, registers, 12, targets, 2), CAISSON_ACCEPTED, 0, 0);
+    memcpy(registers_before, registers, 12);
+    expect("a value of 11 bits", caisson_write_port(narrow, sizeof narrow, registers, 12, 1, 1024), CAISSON_PORT_VALUE,
+           1, 0);
+    expect("the largest value", caisson_write_port(narrow, sizeof narrow, registers, 12, 2, UINT32_MAX),
+           CAISSON_PORT_VALUE, 2, 0);
+    expect("an inner register and a value too large",
+           caisson_write_port(narrow, sizeof narrow, registers, 12, 0, UINT32_MAX), CAISSON_NO_PORT, 0, 0);
+    expect("a short area and a value too large", caisson_write_port(narrow, sizeof narrow, registers, 8, 1, 1024),
+           CAISSON_AREA, 0, 0);
+    expect_bytes("registers after 17 and 13", registers, registers_before, 12);
+
+    registers[6] = 1; /* r1 has a bit above its width, */
+    registers[8] = 2; /* and so has r2 */
+    targets[0] = 0;   /* the root is not its own child */
+    memcpy(registers_before, registers, 12);
+    memcpy(targets_before, targets, 2);
+    expect("a run on contents too large", caisson_run(narrow, sizeof narrow, registers, 12, targets, 2, 1),
+           CAISSON_AREA, 1, 0);
+    expect("a run of 0 on contents too large", caisson_run(narrow, sizeof narrow, registers, 12, targets, 2, 0),
+           CAISSON_AREA, 1, 0);
+    expect("contents and cycles too large",
+           caisson_run(narrow, sizeof narrow, registers, 12, targets, 2, CAISSON_CYCLES + 1), CAISSON_AREA, 1, 0);
+    expect("a length and contents too large", caisson_run(narrow, sizeof narrow, registers, 12, targets, 1, 1),
+           CAISSON_AREA, 0, 0);
+    expect("a write into contents too large", caisson_write_port(narrow, sizeof narrow, registers, 12, 1, 0),
+           CAISSON_AREA, 1, 0);
+    expect("no port, and contents too large", caisson_write_port(narrow, sizeof narrow, registers, 12, 0, 1024),
+           CAISSON_AREA, 1, 0);
+    expect_bytes("registers after 14", registers, registers_before, 12);
+    expect_bytes("targets after 14", targets, targets_before, 2);
+
+    registers[6] = 0;
+    expect("the second register", caisson_run(narrow, sizeof narrow, registers, 12, targets, 2, 1), CAISSON_AREA, 2, 0);
+    registers[8] = 1;
+    expect("the target behind them", caisson_run(narrow, sizeof narrow, registers, 12, targets, 2, 1), CAISSON_AREA, 0,
+           0);
+    memset(registers, 255, 12);
+    expect("a reset of any contents", caisson_reset(narrow, sizeof narrow, registers, 12, targets, 2),
+           CAISSON_ACCEPTED, 0, 0);
+    expect("a run after it", caisson_run(narrow, sizeof narrow, registers, 12, targets, 2, 0), CAISSON_ACCEPTED, 0, 0);
+}
+
 static void refusals(void)
 {
     uint8_t registers[8], targets[5], registers_before[8], targets_before[5];
@@ -187,10 +294,13 @@ static void refusals(void)
 int main(void)
 {
     checks();
+    widths();
     lengths();
     cycles();
     ports();
+    narrow_registers();
     refusals();
+    narrow_refusals();
     if (failures == 0)
         printf("calls from C: %d answers as expected\n", answers);
     return failures != 0;

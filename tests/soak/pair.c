@@ -27,20 +27,21 @@ static uint32_t random_below(struct pair *pair, uint32_t bound)
     return (uint32_t)(random_next(pair) % bound);
 }
 
-/* Often 0 or 1, which conditions tell apart, and otherwise anything. */
-static uint32_t random_value(struct pair *pair)
+/* A value for a port: often 0 or 1, which conditions tell apart, and otherwise any that its width holds. */
+static uint32_t random_value(struct pair *pair, uint32_t reg)
 {
     uint32_t choice = random_below(pair, 4);
 
-    return choice < 2 ? choice : (uint32_t)random_next(pair);
+    return choice < 2 ? choice : (uint32_t)random_next(pair) & table_most(pair->image, reg);
 }
 
-static bool accepted(const char *what, caisson_answer answer)
+/* `box` is NULL for a call other than port write and run, as in refusals.h. */
+static bool accepted(const char *what, caisson_answer answer, const struct box *box)
 {
     if (answer.number == CAISSON_ACCEPTED)
         return true;
     say("%s: ", what);
-    refusal_say(answer);
+    refusal_say(answer, box);
     return false;
 }
 
@@ -68,20 +69,20 @@ static bool low_equal(const struct pair *pair)
 
 static bool both_reset(struct pair *pair)
 {
-    return accepted("reset", box_reset(&pair->boxes[0])) && accepted("reset", box_reset(&pair->boxes[1]));
+    return accepted("reset", box_reset(&pair->boxes[0]), NULL) && accepted("reset", box_reset(&pair->boxes[1]), NULL);
 }
 
 static bool write_port(struct pair *pair, int box, uint32_t reg, uint32_t value)
 {
     pair->writes++;
-    return accepted("port write", box_write_port(&pair->boxes[box], reg, value));
+    return accepted("port write", box_write_port(&pair->boxes[box], reg, value), &pair->boxes[box]);
 }
 
 static bool run(struct pair *pair, int box, uint32_t cycles)
 {
     caisson_answer answer = box_run(&pair->boxes[box], cycles);
 
-    if (!accepted("run", answer))
+    if (!accepted("run", answer, &pair->boxes[box]))
         return false;
     if (answer.count != cycles)
         say("run: %zu cycles done of %" PRIu32 "\n", answer.count, cycles);
@@ -97,7 +98,7 @@ static uint32_t low_port(struct pair *pair)
 static bool low_write(struct pair *pair)
 {
     uint32_t reg = low_port(pair);
-    uint32_t value = random_value(pair);
+    uint32_t value = random_value(pair, reg);
 
     return write_port(pair, 0, reg, value) && write_port(pair, 1, reg, value);
 }
@@ -105,7 +106,9 @@ static bool low_write(struct pair *pair)
 /* A high port is given some value in one box, and nothing is said to the other. */
 static bool high_write(struct pair *pair, int box)
 {
-    return write_port(pair, box, pair->high_ports[random_below(pair, (uint32_t)pair->high_count)], random_value(pair));
+    uint32_t reg = pair->high_ports[random_below(pair, (uint32_t)pair->high_count)];
+
+    return write_port(pair, box, reg, random_value(pair, reg));
 }
 
 static bool random_writes(struct pair *pair)
@@ -167,8 +170,8 @@ static void sort_registers(struct pair *pair)
 bool pair_start(struct pair *pair, const uint8_t *image, size_t length, size_t level, uint64_t seed)
 {
     *pair = (struct pair){.image = image, .level = level, .random = seed};
-    if (!accepted("reset", box_start(&pair->boxes[0], image, length)) ||
-        !accepted("reset", box_start(&pair->boxes[1], image, length)))
+    if (!accepted("reset", box_start(&pair->boxes[0], image, length), NULL) ||
+        !accepted("reset", box_start(&pair->boxes[1], image, length), NULL))
         return false;
     sort_registers(pair);
     return true;
@@ -180,7 +183,7 @@ static bool first_alone(struct pair *pair, uint32_t attempt)
     if (pair->low_count > 0 && attempt % 2 == 0) {
         uint32_t reg = low_port(pair);
 
-        return write_port(pair, 0, reg, random_value(pair));
+        return write_port(pair, 0, reg, random_value(pair, reg));
     }
     return run(pair, 0, 1);
 }

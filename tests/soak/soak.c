@@ -132,7 +132,7 @@ static enum ending soak_start(struct soak *soak)
 
     if (answer.number != CAISSON_ACCEPTED) {
         say("%s: ", arguments->design);
-        refusal_say(answer);
+        refusal_say(answer, NULL);
         return ENDING_DIFFERENT;
     }
     labels = table_labels(soak->design->image);

@@ -9,6 +9,7 @@ mod table;
 mod text;
 
 pub use print::print;
+pub use table::old;
 pub use table::read::read;
 pub use table::Table;
 pub use text::fault::Fault;

@@ -1,5 +1,6 @@
 //! caisson: designs as source text, for the table format of document 01.
 
+use caisson_tools::old::{self, Form};
 use caisson_tools::{assemble, explain, library, print, read};
 use std::io::Write;
 use std::os::unix::fs::MetadataExt;
@@ -8,7 +9,8 @@ use std::{env, fs, io, thread};
 
 const USAGE: &str = "usage: caisson assemble SOURCE TABLE
        caisson print TABLE
-       caisson explain TABLE";
+       caisson explain TABLE
+       caisson upgrade OLD NEW";
 
 /// A table out of the limits may nest 8,191 nodes deep, more than the usual stack takes.
 const STACK: usize = 64 << 20;
@@ -33,6 +35,7 @@ fn command() -> Result<ExitCode, String> {
         ["assemble", source, table] => assemble_file(source, table),
         ["print", table] => print_file(table),
         ["explain", table] => explain_file(table),
+        ["upgrade", old, new] => upgrade_file(old, new),
         _ => Err(USAGE.to_string()),
     }
 }
@@ -49,8 +52,12 @@ fn assemble_file(source: &str, table: &str) -> Result<ExitCode, String> {
 }
 
 fn print_file(table: &str) -> Result<ExitCode, String> {
+    let image = load(table)?;
+    if old::form(&image) == Form::Old {
+        return Err(format!("{table}: {}", old::ADVICE));
+    }
     let records =
-        read(&load(table)?).map_err(|why| format!("{table}: cannot be cut into records: {why}"))?;
+        read(&image).map_err(|why| format!("{table}: cannot be cut into records: {why}"))?;
     show(&print(&records))?;
     Ok(ExitCode::SUCCESS)
 }
@@ -60,6 +67,17 @@ fn explain_file(table: &str) -> Result<ExitCode, String> {
     let answer = library::check(&image);
     show(&explain::explain(&image, answer))?;
     Ok(ExitCode::from(u8::from(answer.number != 0)))
+}
+
+/// The old table stays: a design that was made by hand may have no other copy.
+fn upgrade_file(old: &str, new: &str) -> Result<ExitCode, String> {
+    let image = load(old)?;
+    if same_file(old, new) {
+        return Err(format!("{new}: is the old table itself, and would be lost"));
+    }
+    let upgraded = old::upgrade(&image).map_err(|why| format!("{old}: {why}"))?;
+    fs::write(new, upgraded).map_err(|error| format!("{new}: {error}"))?;
+    Ok(ExitCode::SUCCESS)
 }
 
 /// Two names of one file, also through links. What is not there yet is no other file.

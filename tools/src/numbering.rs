@@ -49,6 +49,7 @@ impl Numbering<'_> {
                 label: self.labels.find(&register.label)?,
                 kind: if register.port { PORT } else { INNER },
                 reset: register.reset,
+                width: register.width,
             });
         }
         Ok(())

@@ -4,6 +4,7 @@ mod flow;
 mod lattice;
 mod place;
 mod ports;
+mod registers;
 mod rules;
 mod shape;
 mod uses;

@@ -1,13 +1,22 @@
 //! What stands at the place of a refusal, in source form.
 
-use super::{flow, lattice, ports, shape, uses};
+use super::{flow, lattice, ports, registers, shape, uses};
 use crate::print::body::{self, Reader};
 use crate::print::{layout, records};
 use crate::table::limits::EXPRESSION_PLACE;
+use crate::table::old::{self, Form};
 use crate::table::read::{pairs, read};
 use crate::table::Table;
 
 pub fn describe(image: &[u8], number: u32, place: usize) -> String {
+    let text = described(image, number, place);
+    match old::form(image) {
+        Form::Old => format!("{text}\nIt {}.\n", old::ADVICE),
+        _ => text,
+    }
+}
+
+fn described(image: &[u8], number: u32, place: usize) -> String {
     let table = match read(image) {
         Ok(table) => table,
         Err(why) => return directory(image, &why),
@@ -65,7 +74,8 @@ fn label(table: &Table, label: usize) -> String {
 
 fn register(table: &Table, register: usize) -> String {
     let text = records::register(table, register);
-    format!("Register {register}:\n    {text}\n")
+    let why = registers::reasons(table, register);
+    format!("Register {register}:\n    {text}\n\nBecause:\n{why}")
 }
 
 /// With its parent, whose label and number the rules compare with its own.

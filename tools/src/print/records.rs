@@ -2,7 +2,8 @@
 
 use super::body::Reader;
 use super::layout;
-use crate::table::{Table, INNER, PORT};
+use crate::table::limits::WIDTH;
+use crate::table::{largest, Table, INNER, PORT};
 
 pub fn label_name(table: &Table, label: usize) -> String {
     name("l", "label", label, table.rows.len())
@@ -50,7 +51,12 @@ pub fn register(table: &Table, register: usize) -> String {
         kind => format!("[kind {kind}]"),
     };
     let label = label_name(table, usize::from(record.label));
-    format!("{kind} r{register} : {label} = {}", record.reset)
+    let width = match record.width {
+        WIDTH => String::new(),
+        width if largest(width).is_some() => format!(" width {width}"),
+        width => format!(" [width {width}]"),
+    };
+    format!("{kind} r{register} : {label}{width} = {}", record.reset)
 }
 
 pub fn state(table: &Table, state: usize, reader: &mut Reader) -> String {

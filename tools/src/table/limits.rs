@@ -8,10 +8,16 @@ pub const STATES: usize = defined(b"CAISSON_STATES");
 pub const COMMANDS: usize = defined(b"CAISSON_COMMANDS");
 pub const EXPRESSIONS: usize = defined(b"CAISSON_EXPRESSIONS");
 
+/// The most bits of a register; the least is 1.
+pub const WIDTH: u8 = defined(b"CAISSON_WIDTH") as u8;
+
 /// An expression's place is this plus its number.
 pub const EXPRESSION_PLACE: usize = defined(b"CAISSON_EXPRESSION_PLACE");
 
 pub const DIRECTORY: usize = defined(b"CAISSON_DIRECTORY_LENGTH");
+
+/// The most labels, registers, states, commands and expressions.
+pub const COUNTS: [usize; 5] = [LABELS, REGISTERS, STATES, COMMANDS, EXPRESSIONS];
 
 /// Bytes of a label row, register, state, command and expression.
 pub const RECORDS: [usize; 5] = [

@@ -2,6 +2,7 @@
 
 pub mod limits;
 pub mod node;
+pub mod old;
 pub mod read;
 mod write;
 
@@ -21,6 +22,7 @@ pub struct Register {
     pub label: u8,
     pub kind: u8,
     pub reset: u32,
+    pub width: u8,
 }
 
 #[derive(Clone, Copy, Debug, PartialEq, Eq)]
@@ -32,3 +34,10 @@ pub struct State {
 
 pub const INNER: u8 = 0;
 pub const PORT: u8 = 1;
+
+/// The largest value of a width, or None where the width is out of its range.
+pub fn largest(width: u8) -> Option<u32> {
+    (1..=limits::WIDTH)
+        .contains(&width)
+        .then(|| u32::MAX >> (limits::WIDTH - width))
+}

@@ -14,15 +14,20 @@ pub fn pairs(image: &[u8]) -> Vec<(usize, usize)> {
 
 /// Or says why the image cannot be cut.
 pub fn read(image: &[u8]) -> Result<Table, String> {
+    sections(image, RECORDS).map(cut)
+}
+
+/// The bytes of each section, where the records have these lengths; or why there are none.
+pub fn sections(image: &[u8], records: [usize; 5]) -> Result<[&[u8]; 5], String> {
     let pairs = pairs(image);
-    if pairs.len() < RECORDS.len() {
+    if pairs.len() < records.len() {
         return Err(format!(
             "a directory has {DIRECTORY} bytes, the image {}",
             image.len()
         ));
     }
     let mut end = DIRECTORY;
-    for (section, ((offset, length), record)) in pairs.iter().zip(RECORDS).enumerate() {
+    for (section, ((offset, length), record)) in pairs.iter().zip(records).enumerate() {
         let name = SECTIONS[section];
         if *offset != end {
             return Err(format!("the {name} begin at {offset}, not at {end}"));
@@ -40,16 +45,20 @@ pub fn read(image: &[u8]) -> Result<Table, String> {
             image.len()
         ));
     }
-    Ok(cut(image, &pairs))
+    Ok(std::array::from_fn(|section| {
+        let (offset, length) = pairs[section];
+        &image[offset..offset + length]
+    }))
 }
 
-const SECTIONS: [&str; 5] = ["labels", "registers", "states", "commands", "expressions"];
+pub const SECTIONS: [&str; 5] = ["labels", "registers", "states", "commands", "expressions"];
 
-fn cut(image: &[u8], pairs: &[(usize, usize)]) -> Table {
-    let records = |section: usize| {
-        let (offset, length) = pairs[section];
-        image[offset..offset + length].chunks_exact(RECORDS[section])
-    };
+/// Which of the sections the registers are.
+pub const REGISTERS: usize = 1;
+
+/// Each section is a whole number of records.
+pub fn cut(sections: [&[u8]; 5]) -> Table {
+    let records = |section: usize| sections[section].chunks_exact(RECORDS[section]);
     Table {
         rows: records(0).map(|row| half(row, 0)).collect(),
         registers: records(1).map(register).collect(),
@@ -64,6 +73,7 @@ fn register(bytes: &[u8]) -> Register {
         label: bytes[0],
         kind: bytes[1],
         reset: u32::from(half(bytes, 2)) | u32::from(half(bytes, 4)) << 16,
+        width: bytes[6],
     }
 }
 

@@ -12,6 +12,7 @@ impl Table {
         for register in &self.registers {
             image.extend([register.label, register.kind]);
             image.extend(register.reset.to_le_bytes());
+            image.push(register.width);
         }
         for state in &self.states {
             image.extend([state.parent, state.label]);
@@ -23,18 +24,22 @@ impl Table {
         image
     }
 
-    /// Within the limits every offset and length fits in 16 bits.
-    fn directory(&self) -> Vec<u8> {
-        let counts = [
+    /// Labels, registers, states, commands and expressions.
+    pub fn counts(&self) -> [usize; 5] {
+        [
             self.rows.len(),
             self.registers.len(),
             self.states.len(),
             self.commands.len(),
             self.expressions.len(),
-        ];
+        ]
+    }
+
+    /// Within the limits every offset and length fits in 16 bits.
+    fn directory(&self) -> Vec<u8> {
         let mut directory = Vec::with_capacity(DIRECTORY);
         let mut offset = DIRECTORY;
-        for (count, record) in counts.into_iter().zip(RECORDS) {
+        for (count, record) in self.counts().into_iter().zip(RECORDS) {
             directory.extend((offset as u16).to_le_bytes());
             directory.extend(((count * record) as u16).to_le_bytes());
             offset += count * record;

@@ -4,7 +4,7 @@ use super::fault::Fault;
 use super::lexer::Token;
 use super::parser::Parser;
 use super::tree::{Design, Label, Name, Register, State};
-use crate::table::limits::{LABELS, REGISTERS, STATES};
+use crate::table::limits::{LABELS, REGISTERS, STATES, WIDTH};
 
 impl Parser {
     pub fn design(&mut self) -> Result<Design, Fault> {
@@ -60,14 +60,34 @@ impl Parser {
     fn register(&mut self, port: bool) -> Result<Register, Fault> {
         let name = self.name("the register's name")?;
         let label = self.labelled()?;
+        let width = if self.take_word("width") {
+            self.width()?
+        } else if self.is_symbol("=") {
+            WIDTH
+        } else {
+            return Err(self.fault("`width`, or `=` and the reset value"));
+        };
         self.symbol("=", "`=` and the reset value")?;
         let reset = self.number("the reset value")?;
         Ok(Register {
             name,
             port,
             label,
+            width,
             reset,
         })
+    }
+
+    /// A width out of its range has no form in the text.
+    fn width(&mut self) -> Result<u8, Fault> {
+        let fault = self.fault(&format!("a width from 1 to {WIDTH}"));
+        match *self.peek() {
+            Token::Number(width) if (1..=u32::from(WIDTH)).contains(&width) => {
+                self.advance();
+                Ok(width as u8)
+            }
+            _ => Err(fault),
+        }
     }
 
     fn state(&mut self, root: bool) -> Result<State, Fault> {

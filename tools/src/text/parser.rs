@@ -13,8 +13,9 @@ pub struct Parser {
 }
 
 /// Words that are no names.
-const RESERVED: [&str; 11] = [
-    "label", "register", "port", "state", "in", "skip", "fall", "goto", "if", "then", "else",
+const RESERVED: [&str; 12] = [
+    "label", "register", "port", "width", "state", "in", "skip", "fall", "goto", "if", "then",
+    "else",
 ];
 
 /// As deep as a table's 2,048 expressions can nest. It bounds the parser's recursion.

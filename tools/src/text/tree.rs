@@ -28,6 +28,8 @@ pub struct Register {
     pub name: Name,
     pub port: bool,
     pub label: Name,
+    /// From 1 to 32.
+    pub width: u8,
     pub reset: u32,
 }
 

@@ -91,7 +91,7 @@ fn print_gives_names() {
 fn print_says_why_it_cannot() {
     let message = failure(&caisson(&["print", "cut_short.table"]));
     let expected = "cut_short.table: cannot be cut into records: \
-                    the sections end at 208, the image at 207\n";
+                    the sections end at 210, the image at 209\n";
     assert_eq!(message, expected);
 }
 
@@ -108,7 +108,7 @@ fn explain_accepts() {
 #[test]
 fn explain_shows_the_place() {
     for (table, number, shown) in [
-        ("cut_short", 1, "    20,4 24,12 36,20 56,104 160,48\n"),
+        ("cut_short", 1, "    20,4 24,14 38,20 58,104 162,48\n"),
         ("no_lattice", 2, "Label 1, row 2:\n    label l1\n"),
         (
             "no_lattice",
@@ -118,7 +118,17 @@ fn explain_shows_the_place() {
         (
             "register_kind",
             3,
-            "Register 0:\n    [kind 2] r0 : l0 = 3\n",
+            "Register 0:\n    [kind 2] r0 : l0 = 3\n\nBecause:\n    kind 2 is neither 0 (inner) nor 1 (port)\n",
+        ),
+        (
+            "register_width",
+            3,
+            "Register 1:\n    port r1 : l1 [width 33] = 0\n\nBecause:\n    width 33 is not from 1 to 32\n",
+        ),
+        (
+            "wide_reset",
+            3,
+            "Because:\n    reset value 2 is too large: width 1 holds 0 to 1\n",
         ),
         (
             "own_parent",
@@ -184,9 +194,74 @@ fn explain_shows_the_place() {
     }
 }
 
+/// The lease table as version 1.2.0 had it: 208 bytes.
+fn old_lease() -> String {
+    let path = path("tools/tests/data/lease_format_1.table");
+    path.to_string_lossy().into_owned()
+}
+
+const OLD: &str = "is a table of format 1, whose register records have 6 bytes; \
+                   `caisson upgrade OLD NEW` makes one of format 2 from it";
+
+#[test]
+fn old_tables_are_known() {
+    let old = old_lease();
+    let message = failure(&caisson(&["print", &old]));
+    assert_eq!(message, format!("{old}: {OLD}\n"));
+    let output = caisson(&["explain", &old]);
+    assert_eq!(output.status.code(), Some(1));
+    let text = out(&output);
+    assert!(text.starts_with("refused by 1 at place 0\n"), "{text}");
+    let shown =
+        "(the registers have 12 bytes, with 7 for each):\n    20,4 24,12 36,20 56,104 160,48\n";
+    assert!(text.ends_with(&format!("{shown}\nIt {OLD}.\n")), "{text}");
+}
+
+#[test]
+fn upgrade_writes_another_table() {
+    let new = format!("{}/upgraded.table", env!("CARGO_TARGET_TMPDIR"));
+    let output = caisson(&["upgrade", &old_lease(), &new]);
+    assert_eq!(output.status.code(), Some(0));
+    assert!(output.stdout.is_empty());
+    assert_eq!(
+        fs::read(&new).unwrap(),
+        crate::common::bytes("designs/lease.table")
+    );
+}
+
+/// Nothing is written, and the old table stays.
+#[test]
+fn upgrade_says_why_it_cannot() {
+    let folder = format!("{}/upgrades", env!("CARGO_TARGET_TMPDIR"));
+    let _ = fs::remove_dir_all(&folder);
+    fs::create_dir_all(&folder).unwrap();
+    let new = format!("{folder}/new.table");
+    for (old, why) in [
+        ("lease.table", "is a table of format 2 already"),
+        (
+            "cut_short.table",
+            "is no table of format 1: the registers have 14 bytes, with 6 for each",
+        ),
+    ] {
+        let message = failure(&caisson(&["upgrade", old, &new]));
+        assert_eq!(message, format!("{old}: {why}\n"));
+        assert!(fs::metadata(&new).is_err());
+    }
+    let (old, link) = (format!("{folder}/old.table"), format!("{folder}/link"));
+    fs::copy(old_lease(), &old).unwrap();
+    std::os::unix::fs::symlink("old.table", &link).unwrap();
+    for table in [&old, &link] {
+        let message = failure(&caisson(&["upgrade", &old, table]));
+        let expected = format!("{table}: is the old table itself, and would be lost\n");
+        assert_eq!(message, expected);
+        assert_eq!(fs::read(&old).unwrap(), fs::read(old_lease()).unwrap());
+    }
+}
+
 #[test]
 fn other_arguments_give_the_usage() {
     assert!(failure(&caisson(&[])).starts_with("usage: caisson assemble SOURCE TABLE\n"));
     assert!(failure(&caisson(&["print"])).starts_with("usage: "));
+    assert!(failure(&caisson(&["upgrade", "lease.table"])).starts_with("usage: "));
     assert!(failure(&caisson(&["print", "none.table"])).starts_with("none.table: "));
 }

@@ -12,10 +12,11 @@ fn damaged() -> Vec<(&'static str, Vec<u8>, (u32, usize))> {
         image
     };
     vec![
-        ("cut_short", lease[..207].to_vec(), (1, 0)),
+        ("cut_short", lease[..209].to_vec(), (1, 0)),
         ("register_kind", changed(25, 2), (3, 0)),
-        ("command_kind", changed(56, 6), (5, 0)),
-        ("shared_command", changed(42, 0), (6, 0)),
+        ("register_width", changed(37, 33), (3, 1)),
+        ("command_kind", changed(58, 6), (5, 0)),
+        ("shared_command", changed(44, 0), (6, 0)),
     ]
 }
 

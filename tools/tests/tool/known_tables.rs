@@ -21,8 +21,8 @@ fn lease_of_the_c_test() -> Vec<u8> {
 #[test]
 fn lease_is_the_table_of_document_01() {
     let image = assemble(&text("designs/lease.caisson")).unwrap();
-    assert_eq!(image.len(), 208);
-    let pairs = [20, 4, 24, 12, 36, 20, 56, 104, 160, 48];
+    assert_eq!(image.len(), 210);
+    let pairs = [20, 4, 24, 14, 38, 20, 58, 104, 162, 48];
     let pairs: Vec<u8> = pairs.into_iter().flat_map(u16::to_le_bytes).collect();
     assert_eq!(image[..20], pairs);
     assert_eq!(image, lease_of_the_c_test());
@@ -40,4 +40,14 @@ fn lease_runs_as_document_01_says() {
 fn two_groups_is_the_worked_design() {
     let image = assemble(&text("designs/two_groups.caisson")).unwrap();
     assert_eq!(image, caisson_tests::designs::two_groups().image());
+}
+
+/// Positions of 10 bits, flags of 1, and a count of 2 that goes from 3 to 0.
+#[test]
+fn valves_are_cut_to_their_widths() {
+    let image = assemble(&text("designs/valves.caisson")).unwrap();
+    let lines = listing(&[&[5, 0], &image[..]].concat());
+    let expected = "cycle;walk;registers\n1;0 1;0 1 0 0 1023 1\n2;0 1 2;1 1 0 0 1022 0\n\
+                    3;0 1 2;2 1 0 0 1021 1\n4;0 1 2;3 1 0 0 1020 0\n5;0 1;0 0 0 0 1020 0\n";
+    assert_eq!(String::from_utf8(lines).unwrap(), expected);
 }

@@ -7,3 +7,4 @@ mod known_tables;
 mod odd_tables;
 mod round_trip;
 mod text_form;
+mod upgrade;

@@ -61,7 +61,9 @@ fn numbers_out_of_range_stand_in_brackets() {
     let text = printed(|table| {
         table.rows = vec![0b1010, 0b10];
         table.registers[0].label = 9;
+        table.registers[0].width = 0;
         table.registers[1].kind = 7;
+        table.registers[1].width = 33;
         table.states[1].parent = 8;
         table.states[3].command = 99;
         table.commands[4].which = 64;
@@ -69,8 +71,8 @@ fn numbers_out_of_range_stand_in_brackets() {
         table.expressions[4].kind = 9;
     });
     assert_line(&text, "label l0 -> [not l0], l1, [label 3]");
-    assert_line(&text, "register r0 : [label 9] = 3");
-    assert_line(&text, "[kind 7] r1 : l1 = 0");
+    assert_line(&text, "register r0 : [label 9] [width 0] = 3");
+    assert_line(&text, "[kind 7] r1 : l1 [width 33] = 0");
     assert_line(&text, "state s1 in [state 8] : l0 { r0 := 3; goto s2 }");
     assert!(text.contains("[register 64] := r0 - 1;"), "{text}");
     assert!(text.contains("if [expression 4: bytes 9 0 0 0 0 0 0 0] then fall else goto [state 5]"));
@@ -106,6 +108,63 @@ fn parts_above_their_owners_are_put_right() {
 fn tables_without_records_are_printed() {
     let empty = Table::default();
     assert_eq!(print(&read(&empty.image()).unwrap()), "");
+}
+
+/// The full width goes without saying. A reset value too large has a form in the text.
+#[test]
+fn widths_are_shown() {
+    let text = printed(|table| {
+        table.registers[0].width = 1;
+        table.registers[1].width = 31;
+    });
+    assert_line(&text, "register r0 : l0 width 1 = 3");
+    assert_line(&text, "port r1 : l1 width 31 = 0");
+    let image = assemble(&text).unwrap();
+    let answer = library::check(&image);
+    assert_eq!((answer.number, answer.place), (3, 0));
+    assert_line(&printed(|_| ()), "port r1 : l1 = 0");
+}
+
+/// Refusal 3 says which fields are wrong.
+#[test]
+fn registers_are_explained() {
+    let explained = |change: &dyn Fn(&mut Table)| {
+        let mut table = lease();
+        change(&mut table);
+        let image = table.image();
+        let answer = library::check(&image);
+        assert_eq!(answer.number, 3);
+        let text = explain::explain(&image, answer);
+        let (_, reasons) = text.split_once("\nBecause:\n").unwrap();
+        reasons.to_string()
+    };
+    let none = "    label 2 is none: the design has labels 0 to 1\n";
+    let kind = "    kind 2 is neither 0 (inner) nor 1 (port)\n";
+    assert_eq!(explained(&|table| table.registers[1].label = 2), none);
+    assert_eq!(explained(&|table| table.registers[1].kind = 2), kind);
+    for width in [0, 33, 255] {
+        assert_eq!(
+            explained(&|table| table.registers[1].width = width),
+            format!("    width {width} is not from 1 to 32\n")
+        );
+    }
+    let reset = |width: u8, reset: u32| {
+        explained(&|table| {
+            table.registers[1].width = width;
+            table.registers[1].reset = reset;
+        })
+    };
+    let words = "    reset value 1024 is too large: width 10 holds 0 to 1023\n";
+    assert_eq!(reset(10, 1_024), words);
+    let words = "    reset value 4294967295 is too large: width 31 holds 0 to 2147483647\n";
+    assert_eq!(reset(31, u32::MAX), words);
+    let all = explained(&|table| {
+        table.registers[0].label = 2;
+        table.registers[0].kind = 2;
+        table.registers[0].width = 1;
+    });
+    let words = "    reset value 3 is too large: width 1 holds 0 to 1\n";
+    assert_eq!(all, format!("{none}{kind}{words}"));
 }
 
 /// Refusal 6 names what uses the node.

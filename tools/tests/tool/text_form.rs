@@ -71,6 +71,27 @@ fn layout_does_not_matter() {
     assert_eq!(assemble(other).unwrap(), expected);
 }
 
+/// The width is the last byte of the record, 32 where it is left out.
+#[test]
+fn widths_are_taken() {
+    let record = |declared: &str| {
+        let source = format!("label low {declared} state root : low {{ fall }}");
+        let image = assemble(&source).unwrap();
+        image[22..29].to_vec()
+    };
+    assert_eq!(record("register r : low = 258"), [0, 0, 2, 1, 0, 0, 32]);
+    assert_eq!(
+        record("register r : low width 32 = 258"),
+        [0, 0, 2, 1, 0, 0, 32]
+    );
+    assert_eq!(
+        record("port r : low width 10 = 258"),
+        [0, 1, 2, 1, 0, 0, 10]
+    );
+    // The library judges the reset value.
+    assert_eq!(record("port r:low width 1=258"), [0, 1, 2, 1, 0, 0, 1]);
+}
+
 /// Names of labels, registers and states are apart.
 #[test]
 fn one_name_may_serve_three_kinds() {
@@ -93,7 +114,19 @@ fn faults_of_declarations() {
         ("label a -> b\nstate r : a { fall }", "line 1, column 12: expected the name of a label, found `b`"),
         ("label a\nlabel a\nstate r : a { fall }", "line 2, column 7: expected a name that no label above has, found `a`"),
         ("label a register r = 3", "line 1, column 20: expected `:` and a label, found `=`"),
-        ("label a\n  register r : a", "line 2, column 17: expected `=` and the reset value, found the end of the text"),
+        (
+            "label a\n  register r : a",
+            "line 2, column 17: expected `width`, or `=` and the reset value, found the end of the text",
+        ),
+        (
+            "label a register r : a width 10",
+            "line 1, column 32: expected `=` and the reset value, found the end of the text",
+        ),
+        ("label a register r : a width = 0", "line 1, column 30: expected a width from 1 to 32, found `=`"),
+        ("label a port r : a width 0 = 0", "line 1, column 26: expected a width from 1 to 32, found `0`"),
+        ("label a port r : a width 33 = 0", "line 1, column 26: expected a width from 1 to 32, found `33`"),
+        ("label a port r : a [width 33] = 0", "line 1, column 20: expected a name, a number or a symbol, found `[`"),
+        ("label a register width : a = 0", "line 1, column 18: expected the register's name, found `width`"),
         ("label a\nport é : a = 0", "line 2, column 6: expected a name, a number or a symbol, found `é`"),
         (
             "register r : a = 4294967296",
