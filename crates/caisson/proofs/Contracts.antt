@@ -1,6 +1,6 @@
 -- The contracts of the exported functions, as the promises take them: each is the postcondition that the function is proved to have, and its tie says that
 -- it is the equation with the definition. A contract that says less than the definition is refused here, at its tie.
-use Prim.Native.Nat.{ℕ}
+use Prim.Native.Nat.{ℕ, _<_, _^_}
 use mathlib.Core.Path.{_≡_, ap}
 use mathlib.Core.List.{List, [], _∷_}
 use contract.Lifetimes.{Lfts}
@@ -8,7 +8,8 @@ use denote.Ref.{RefT, Gone, now}
 use denote.Triple.Clauses.{AtExit}
 use borrow.Fn.Kinds.{Dens, endedOf}
 use Rattle.model.specs.Answers.{numbersOf}
-use Rattle.model.specs.Image.{designOf}
+use lib.ListN.{length}
+use Rattle.model.specs.Image.{registerAt, designOf}
 use Rattle.model.specs.Calls.{Lent, check, registersLength, targetsLength}
 use Rattle.model.specs.Parties.{Call, resets, writes, runs, perform, RightLengths, withUnseen}
 use Rattle.design.specs.Resets.{lends}
@@ -139,8 +140,8 @@ abbrev pub AllCalled : List ℕ → Lent → List Call → Lent → Type 0
 AllCalled image before [] after = before ≡ after
 AllCalled image before (call ∷ more) after = (h : HostAnswer) × (between : Lent) × Called image before call h between × AllCalled image between more after
 
--- A host's use of the box, as demand 3 has it: areas of the right lengths, a reset, any values in the registers not at or below the level, and then
--- calls, all through the exported functions.
+-- A host's use of the box, as demand 3 has it: areas of the right lengths, a reset, any values within their widths in the registers not at or below the
+-- level, and then calls, all through the exported functions.
 pub record Hosted (image : List ℕ) (level : ℕ) : Type 0 where
   pub lent : Lent
   pub lengths : RightLengths (designOf image) lent
@@ -148,6 +149,7 @@ pub record Hosted (image : List ℕ) (level : ℕ) : Type 0 where
   pub left : Lent
   pub reset : Called image lent resets answer left
   pub given : ℕ → ℕ
+  pub within : (r : ℕ) → r < length (designOf image .registers) → given r < 2 ^ registerAt (designOf image) r .width
   pub calls : List Call
   pub end : Lent
   pub called : AllCalled image (withUnseen image level given left) calls end

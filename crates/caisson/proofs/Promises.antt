@@ -12,7 +12,7 @@ use Rattle.model.specs.Rules.{Keeps}
 use Rattle.model.specs.Ports.{PortsKept}
 use Rattle.model.specs.Values.{wordsOf}
 use Rattle.model.specs.Calls.{Lent}
-use Rattle.model.specs.Refusals.{FirstBroken, imageTable, callTable, callCount, AnswersBy}
+use Rattle.model.specs.Refusals.{FirstBroken, imageTable, callTable, callCount, AnswersBy, WithinWidths}
 use Rattle.model.specs.Parties.{Call, resets, writes, runs, perform, Event, events, atEnd, Use, withUnseen, start, history, remains, views, valuesSeen, view, remaining, seenAtEnd}
 use Rattle.model.proofs.Exact.{verdict-exact}
 use Rattle.model.proofs.Grouping.{Grouped}
@@ -83,7 +83,7 @@ module _ (image : List ℕ) (level : ℕ) where
     happened = events image started (host .calls)
 
     abbrev used : Use (designOf image)
-    used = record { lent = host .lent; lengths = host .lengths; given = host .given; calls = host .calls }
+    used = record { lent = host .lent; lengths = host .lengths; given = host .given; within = host .within; calls = host .calls }
 
     started-so : started ≡ start image level used
     unfolding start perform
@@ -109,7 +109,6 @@ module _ (image : List ℕ) (level : ℕ) where
 -- it agree at the end.
 pub hosts-independent :
     (image : List ℕ)
-    → AreBytes image
     → (h : HostAnswer)
     → Checked image h
     → told h ≡ record { number = 0; place = 0; count = 0 }
@@ -119,19 +118,17 @@ pub hosts-independent :
     → remaining (designOf image) level (happened image level one) ≡ remaining (designOf image) level (happened image level other)
     → (view (designOf image) level (happened image level one) ≡ view (designOf image) level (happened image level other))
     × (seenIn image level (one .end) ≡ seenIn image level (other .end))
-hosts-independent image bytes h checked accepted level label one other same =
+hosts-independent image h checked accepted level label one other same =
     let verdict-accepts = verdict-exact image .1 (told-accepted-exactly image h checked .0 accepted) in
     let matching = sym (remains-so image level one) ∙ same ∙ remains-so image level other in
-    let both = meaning.independent-parties image bytes verdict-accepts level label (used image level one) (used image level other) matching in
+    let both = meaning.independent-parties image verdict-accepts level label (used image level one) (used image level other) matching in
     (views-so image level one ∙ both .0 ∙ sym (views-so image level other), end-so image level one ∙ both .1 ∙ sym (end-so image level other))
 
 -- ---- what else a host may rely on
 -- A run may be cut: one of n and then one of m leave what one of n + m leaves. All three are accepted, each with its count, or all are refused alike.
 pub runs-grouped :
     (image : List ℕ)
-    → AreBytes image
     → (before between after whole : Lent)
-    → AreBytes (before .registers)
     → (n m : ℕ)
     → n + m ≤ cyclesMax
     → (first second both : HostAnswer)
@@ -140,7 +137,7 @@ pub runs-grouped :
     → Called image before (runs (n + m)) both whole
     → (after ≡ whole) × Grouped n m (told first) (told second) (told both)
 unfolding perform
-runs-grouped image image-bytes before between after whole bytes n m few first second both one other all =
+runs-grouped image before between after whole n m few first second both one other all =
     rw (
       called-leaves image between after (runs m) second other,
       called-told image between after (runs m) second other,
@@ -149,7 +146,7 @@ runs-grouped image image-bytes before between after whole bytes n m few first se
       called-leaves image before whole (runs (n + m)) both all,
       called-told image before whole (runs (n + m)) both all,
     )
-    (meaning.runs-grouped image image-bytes before bytes n m few)
+    (meaning.runs-grouped image before n m few)
 
 -- A run of 0 changes nothing, whatever it answers.
 pub run-of-none : (image : List ℕ) (before after : Lent) → AreBytes (before .registers) → (h : HostAnswer) → Called image before (runs 0) h after → after ≡ before
@@ -179,3 +176,13 @@ pub ports-kept :
     → PortsKept (designOf image) (before .registers) (after .registers)
 unfolding perform
 ports-kept image before after bytes n h called = rw (called-leaves image before after (runs n) h called) (meaning.ports-kept image before bytes n)
+
+-- 02, E2: where a reset, a port write or a run is accepted, every register is within its width afterwards, whatever the areas held before.
+pub within-widths :
+    (image : List ℕ) (before after : Lent) (call : Call) (h : HostAnswer)
+    → Called image before call h after
+    → h .number ≡ 0
+    → WithinWidths (designOf image) (after .registers)
+within-widths image before after call h called accepted =
+    let number = ap (λ (x : Numbers). x .number) (called-told image before after call h called) in
+    rw (called-leaves image before after call h called) (meaning.within-widths image before call (sym number ∙ accepted))

@@ -13,31 +13,33 @@ use mir.Val.{Fits}
 use Rattle.model.specs.declared.Found.{Found}
 use Rattle.model.specs.declared.Found.the-variants.{At, Nowhere}
 use Rattle.model.specs.declared.Refusal.{Refusal}
-use Rattle.model.specs.declared.Refusal.the-variants.{NoPort, Area, CycleCount}
+use Rattle.model.specs.declared.Refusal.the-variants.{NoPort, Area, CycleCount, PortValue}
 use Rattle.model.specs.declared.Answer.{Answer}
 use Rattle.model.specs.declared.Answer.the-variants.{Accepted, Refused}
 use Rattle.model.specs.Limits.{cyclesMax, wordLength}
 use Rattle.model.specs.Indices.{lowestFailing}
-use Rattle.model.specs.Image.{Design as Table, Registers, Register, AreBytes, designOf, registerAt}
+use Rattle.model.specs.Image.{Design as Table, Registers, Register, AreBytes, word32At, designOf, registerAt}
 use Rattle.model.specs.States.{isChild, hasChild, isPort}
 use Rattle.model.specs.Rules.{Keeps}
+use Rattle.model.specs.Answers.{numberOf}
 use Rattle.model.specs.Verdict.{verdict, refusedAt, _before_}
-use Rattle.model.specs.Values.{wordsOf, bytesOf}
+use Rattle.model.specs.Values.{fits, wordsOf, bytesOf}
 use Rattle.model.specs.Machine.{Areas, resetAreas, targetSound, afterCycles}
-use Rattle.model.specs.Calls.{Lent, Left, LeftRegisters, lengthAnswer, targetsAnswer, registerAreaAnswer, isWritable, portAnswer, cyclesAnswer, areasOf, lentOf, registersLength, targetsLength, resetAnswer, reset, runAnswer, run, writePortAnswer, writePort}
+use Rattle.model.specs.Calls.{Lent, Left, LeftRegisters, lengthAnswer, targetsAnswer, registerAreaAnswer, contentKept, contentsAnswer, isWritable, portAnswer, valueAnswer, cyclesAnswer, areasOf, lentOf, registersLength, targetsLength, resetAnswer, reset, runAnswer, run, writePortAnswer, writePort}
 use Rattle.model.proofs.Laws.Booleans.{not-true, not-false, and-first, and-second}
 use Rattle.model.proofs.Laws.Indices.{failing-none}
 use Rattle.model.proofs.Laws.States.{child-of}
 use Rattle.model.proofs.Laws.Words.{bytes-of-words}
 use Rattle.model.proofs.Exact.Records.{state-iff}
 use Rattle.design.specs.declared.Design.{Design}
-use Rattle.design.specs.Records.{registerIn}
+use Rattle.design.specs.Records.{registerIn, registerEnd}
 use Rattle.design.specs.Describes.{Describes}
-use Rattle.design.specs.Kept.{StatesKept}
+use Rattle.design.specs.Kept.{StatesKept, RecordsKept}
 use Rattle.design.specs.Words.{putWord}
 use Rattle.design.specs.Resets.{Defaults, withDefaults, lends}
-use Rattle.design.proofs.Laws.{registers-count, states-count, register-in}
-use Rattle.design.proofs.WordRules.{words-put, length-put}
+use Rattle.design.proofs.Laws.{registers-count, states-count, register-inside, register-in}
+use Rattle.design.proofs.WordRules.{words-at, words-put, length-put}
+use Rattle.design.proofs.WidthRules.{width-is}
 use Rattle.design.proofs.ResetRules.{states-few, defaults-of}
 use Rattle.machine.specs.Cycles.{Running, areasIn}
 use Rattle.checker.proofs.Accepted.{accepted-known}
@@ -129,38 +131,90 @@ module _ (d : Table) (r : ℕ) {w : Bool} (e : w ≡ isWritable d r) where
   unfolding isWritable
   port-there h = ltb-true r (length (d .registers)) (and-first (ltb r (length (d .registers))) (isPort d r) (sym e ∙ not-false w h))
 
-pub write-inside : {image : List ℕ} {x : Design} {b w : Bool} (registers : List ℕ) (r : ℕ) → Describes image x → b ≡ eqb (length registers) (4 * x .registers) → not b ≡ false → w ≡ isWritable (designOf image) r → not w ≡ false → 4 * r + 4 ≤ length registers
-write-inside {image} registers r d e h p q =
-    let count = registers-count d in
-    let long = area-long d registers e h in
-    let there = port-there (designOf image) r p q in
-    omega arith
+-- ---- contents
+-- what acceptance gives of the records
+pub image-known : {image : List ℕ} {x : Design} → Keeps image → Describes image x → RecordsKept image x
+image-known keeps describes = accepted-known keeps describes
 
-pub write-refuses : (d : Table) (registers : List ℕ) (r v : ℕ) → registerAreaAnswer d registers ≡ Refused Area 0 → leftRegistersAs (Refused Area 0) registers ≡ writePortOn d registers r v
-unfolding writePortOn _before_
-write-refuses d registers r v h = rw h
+module _ {image : List ℕ} {x : Design} (known : RecordsKept image x) (registers : List ℕ) (area : length registers ≡ 4 * x .registers) {r : ℕ} (l : r < x .registers) where
+  pub word-inside : 4 * r + 4 ≤ length registers
+  word-inside = omega arith
 
-pub write-refuses-port : (d : Table) (registers : List ℕ) (r v : ℕ) → registerAreaAnswer d registers ≡ Accepted 0 → portAnswer d r ≡ Refused NoPort r → leftRegistersAs (Refused NoPort r) registers ≡ writePortOn d registers r v
-unfolding writePortOn _before_
-write-refuses-port d registers r v h k = rw (h, k)
+  pub content-rule : {w v : ℕ} {b : Bool} → w ≡ registerIn image (x .«registers_at») r .width → v ≡ word32At registers (4 * r) → b ≡ ltb v (2 ^ w) → b ≡ contentKept (designOf image) registers r
+  unfolding contentKept
+  content-rule h g e =
+      let count = registers-count (known .describes) in
+      e ∙ rw (g, width-is known l h, words-at {n = length (designOf image .registers)} {r = r} registers (omega arith) (omega arith))
 
-pub write-makes : {image : List ℕ} {x : Design} {b w : Bool} (registers after : List ℕ) (r v : ℕ) → AreBytes after → Describes image x
-    → b ≡ eqb (length registers) (4 * x .registers)
-    → not b ≡ false
-    → w ≡ isWritable (designOf image) r
-    → not w ≡ false
-    → v < 2 ^ 32
-    → after ≡ putWord registers r v
-    → leftRegistersAs (Accepted 0) after ≡ writePortOn (designOf image) registers r v
-unfolding writePortOn _before_
-write-makes {image} {x} registers after r v bytes d e h p q small wrote =
-    let n = length (designOf image .registers) in
-    let count = registers-count d in
-    let long = area-long d registers e h in
-    let same : length after ≡ length registers = ap (λ (area : List ℕ). length area) wrote ∙ length-put registers r v in
-    let words : wordsOf n after ≡ set (wordsOf n registers) r v = ap (wordsOf n) wrote ∙ words-put registers (port-there (designOf image) r p q) (omega arith) small in
-    let made : after ≡ bytesOf (set (wordsOf n registers) r v) = sym (bytes-of-words n after bytes (omega arith)) ∙ ap bytesOf words in
-    rw (right-area d registers e h, port-accepts (designOf image) r p q) (ap (λ (area : List ℕ). leftRegistersAs (Accepted 0) area) made)
+pub contents-refuse : (d : Table) (registers : List ℕ) {f : Found} {p : ℕ} → f ≡ At p → f ≡ lowestFailing (contentKept d registers) (length (d .registers)) → contentsAnswer d registers ≡ Refused Area p
+unfolding contentsAnswer refusedAt
+contents-refuse d registers h found = rw (← found, h)
+
+pub contents-fit : (d : Table) (registers : List ℕ) {f : Found} → f ≡ Nowhere → f ≡ lowestFailing (contentKept d registers) (length (d .registers)) → contentsAnswer d registers ≡ Accepted 0
+unfolding contentsAnswer refusedAt
+contents-fit d registers h found = rw (← found, h)
+
+-- ---- port write, behind the contents
+module _ (d : Table) (registers : List ℕ) (r v : ℕ) where
+  pub write-refuses : registerAreaAnswer d registers ≡ Refused Area 0 → leftRegistersAs (Refused Area 0) registers ≡ writePortOn d registers r v
+  unfolding writePortOn _before_
+  write-refuses h = rw h
+
+  module _ (right : registerAreaAnswer d registers ≡ Accepted 0) where
+    pub write-refuses-contents : {p : ℕ} → contentsAnswer d registers ≡ Refused Area p → leftRegistersAs (Refused Area p) registers ≡ writePortOn d registers r v
+    unfolding writePortOn _before_
+    write-refuses-contents h = rw (right, h)
+
+    module _ (fit : contentsAnswer d registers ≡ Accepted 0) where
+      pub write-refuses-port : portAnswer d r ≡ Refused NoPort r → leftRegistersAs (Refused NoPort r) registers ≡ writePortOn d registers r v
+      unfolding writePortOn _before_
+      write-refuses-port h = rw (right, fit, h)
+
+      pub write-refuses-value : portAnswer d r ≡ Accepted 0 → valueAnswer d r v ≡ Refused PortValue r → leftRegistersAs (Refused PortValue r) registers ≡ writePortOn d registers r v
+      unfolding writePortOn _before_
+      write-refuses-value h k = rw (right, fit, h, k)
+
+-- an area of the right length, as a port write judges it
+pub long-area : {image : List ℕ} {x : Design} (registers : List ℕ) → Describes image x → length registers ≡ 4 * x .registers → registerAreaAnswer (designOf image) registers ≡ Accepted 0
+unfolding registerAreaAnswer refusedAt
+long-area {image} registers d h = let count = registers-count d in rw (eq-eqb (length registers) (4 * length (designOf image .registers)) (omega arith))
+
+module _ {image : List ℕ} {x : Design} (known : RecordsKept image x) (r : ℕ) {w : Bool} (p : w ≡ isWritable (designOf image) r) (q : not w ≡ false) where
+  pub port-register : r < x .registers
+  port-register = let count = registers-count (known .describes) in let there = port-there (designOf image) r p q in omega arith
+
+  pub port-record : registerEnd (x .«registers_at») r ≤ length image
+  port-record = register-inside (known .describes) port-register
+
+  pub port-word : (registers : List ℕ) → length registers ≡ 4 * x .registers → 4 * r + 4 ≤ length registers
+  port-word registers area = let there = port-register in omega arith
+
+  module _ {m : ℕ} (v : ℕ) {b : Bool} (h : m ≡ registerIn image (x .«registers_at») r .width) (e : b ≡ ltb v (2 ^ m)) where
+    fits-is : fits (designOf image .registers) r v ≡ b
+    fits-is = rw (← width-is known port-register h) (sym e)
+
+    pub value-refuses : not b ≡ true → valueAnswer (designOf image) r v ≡ Refused PortValue r
+    unfolding valueAnswer refusedAt
+    value-refuses k = rw (fits-is, not-true b k)
+
+    pub value-accepts : not b ≡ false → valueAnswer (designOf image) r v ≡ Accepted 0
+    unfolding valueAnswer refusedAt
+    value-accepts k = rw (fits-is, not-false b k)
+
+    pub write-makes : (registers after : List ℕ) → not b ≡ false → after ≡ putWord registers r v → AreBytes after → length registers ≡ 4 * x .registers
+        → contentsAnswer (designOf image) registers ≡ Accepted 0
+        → v < 2 ^ 32
+        → leftRegistersAs (Accepted 0) after ≡ writePortOn (designOf image) registers r v
+    unfolding writePortOn _before_
+    write-makes registers after k wrote bytes area fit small =
+        let n = length (designOf image .registers) in
+        let count = registers-count (known .describes) in
+        let same : length after ≡ length registers = ap (λ (area : List ℕ). length area) wrote ∙ length-put registers r v in
+        let words : wordsOf n after ≡ set (wordsOf n registers) r v = ap (wordsOf n) wrote ∙ words-put registers (port-there (designOf image) r p q) (omega arith) small in
+        let made : after ≡ bytesOf (set (wordsOf n registers) r v) = sym (bytes-of-words n after bytes (omega arith)) ∙ ap bytesOf words in
+        rw
+        (long-area registers (known .describes) area, fit, port-accepts (designOf image) r p q, value-accepts k)
+        (ap (λ (area : List ℕ). leftRegistersAs (Accepted 0) area) made)
 
 -- ---- run
 -- a fresh table that default targets were written to
@@ -171,18 +225,23 @@ pub run-refuses : (d : Table) (registers targets : List ℕ) (n : ℕ) → lengt
 unfolding runOn _before_
 run-refuses d registers targets n h = rw h
 
-module _ (d : Table) (registers targets : List ℕ) (n : ℕ) {f : Found} (right : lengthAnswer d (lends registers targets) ≡ Accepted 0) (found : f ≡ lowestFailing (targetSound d targets) (length (d .states))) where
+pub run-refuses-contents : (d : Table) (registers targets : List ℕ) (n : ℕ) {p : ℕ} → lengthAnswer d (lends registers targets) ≡ Accepted 0 → contentsAnswer d registers ≡ Refused Area p
+    → leftAs (Refused Area p) registers targets ≡ runOn d (lends registers targets) n
+unfolding runOn _before_
+run-refuses-contents d registers targets n right h = rw (right, h)
+
+module _ (d : Table) (registers targets : List ℕ) (n : ℕ) {f : Found} (right : lengthAnswer d (lends registers targets) ≡ Accepted 0) (fit : contentsAnswer d registers ≡ Accepted 0) (found : f ≡ lowestFailing (targetSound d targets) (length (d .states))) where
   pub run-refuses-target : {p : ℕ} → f ≡ At p → leftAs (Refused Area p) registers targets ≡ runOn d (lends registers targets) n
   unfolding runOn targetsAnswer refusedAt _before_
-  run-refuses-target h = rw (right, ← found, h)
+  run-refuses-target h = rw (right, fit, ← found, h)
 
   pub run-refuses-count : {b : Bool} → f ≡ Nowhere → b ≡ leb n cyclesMax → not b ≡ true → leftAs (Refused CycleCount 0) registers targets ≡ runOn d (lends registers targets) n
   unfolding runOn targetsAnswer cyclesAnswer refusedAt _before_
-  run-refuses-count {b} h e k = rw (right, ← found, h, ← e, not-true b k)
+  run-refuses-count {b} h e k = rw (right, fit, ← found, h, ← e, not-true b k)
 
   pub run-accepts : {b : Bool} → f ≡ Nowhere → b ≡ leb n cyclesMax → not b ≡ false → runOn d (lends registers targets) n ≡ record { answer = Accepted n; lent = lentOf (afterCycles d n (areasIn d registers targets)) }
   unfolding runOn targetsAnswer cyclesAnswer areasOf refusedAt _before_
-  run-accepts {b} h e k = rw (right, ← found, h, ← e, not-false b k)
+  run-accepts {b} h e k = rw (right, fit, ← found, h, ← e, not-false b k)
 
 -- a sound target is a state
 sound-inside : (d : Table) (targets : List ℕ) (s : ℕ) → s < length (d .states) → targetSound d targets s ≡ true → getD targets s 0 < length (d .states)
@@ -225,6 +284,10 @@ pub run-makes : (d : Table) (registers targets registers₀ targets₀ : List �
     → lends registers targets ≡ lentOf (afterCycles d n (areasIn d registers₀ targets₀))
     → leftAs (Accepted n) registers targets ≡ runOn d (lends registers₀ targets₀) n
 run-makes d registers targets registers₀ targets₀ n h k = ap (λ (lent : Lent). record { answer = Accepted n; lent = lent }) k ∙ sym h
+
+-- ---- numbers
+pub number-of : {r q : Refusal} {n : ℕ} → r ≡ q → n ≡ numberOf q → n ≡ numberOf r
+number-of e h = rw e h
 
 -- ---- the image first
 module _ (image : List ℕ) {a : Answer} (e : a ≡ verdict image) where

@@ -8,7 +8,7 @@ use Rattle.model.specs.Image.{Design as Table}
 use Rattle.model.specs.Verdict.{_before_}
 use Rattle.model.specs.Values.{wordsOf, bytesOf}
 use Rattle.model.specs.Machine.{resetAreas, afterCycles}
-use Rattle.model.specs.Calls.{Lent, Left, LeftRegisters, leaves, leavesRegisters, lengthAnswer, targetsAnswer, registerAreaAnswer, portAnswer, cyclesAnswer, areasOf, lentOf}
+use Rattle.model.specs.Calls.{Lent, Left, LeftRegisters, leaves, leavesRegisters, lengthAnswer, targetsAnswer, registerAreaAnswer, contentsAnswer, portAnswer, valueAnswer, cyclesAnswer, areasOf, lentOf}
 use Rattle.design.specs.Resets.{lends}
 
 abbrev pub leftAs : Answer → List ℕ → List ℕ → Left
@@ -23,13 +23,13 @@ resetOn d lent = leaves (lengthAnswer d lent) lent (lentOf (resetAreas d))
 unfoldable pub writePortOn : Table → List ℕ → ℕ → ℕ → LeftRegisters
 writePortOn d registers r v =
     leavesRegisters
-    (registerAreaAnswer d registers before portAnswer d r)
+    (registerAreaAnswer d registers before contentsAnswer d registers before portAnswer d r before valueAnswer d r v)
     registers
     (bytesOf (set (wordsOf (length (d .registers)) registers) r v))
 
 unfoldable pub runOn : Table → Lent → ℕ → Left
 runOn d lent n =
     leaves
-    (lengthAnswer d lent before targetsAnswer d lent before cyclesAnswer n before Accepted n)
+    (lengthAnswer d lent before contentsAnswer d (lent .registers) before targetsAnswer d lent before cyclesAnswer n before Accepted n)
     lent
     (lentOf (afterCycles d n (areasOf d lent)))

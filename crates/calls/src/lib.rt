@@ -1,5 +1,6 @@
 // The calls on slices, with answers as enums. Each makes the image checks first, and makes them once.
 mod areas;
+mod contents;
 pub mod numbers;
 mod ports;
 mod resets;

@@ -24,5 +24,6 @@ pub fn number(refusal: Refusal) -> u32
         Refusal::Area => 14,
         Refusal::CycleCount => 15,
         Refusal::PortAssigned => 16,
+        Refusal::PortValue => 17,
     }
 }

@@ -1,5 +1,6 @@
 // Run on an image that keeps the rules: all that can be done once is done before the first cycle.
 use crate::areas::register_area_kept;
+use crate::contents::too_large;
 use design::Design;
 use design::reset::default_targets;
 use machine::cycle::cycles;
@@ -12,8 +13,10 @@ ghost use mathlib.Core.Path.{_≡_};
 ghost use lib.Dec.{leb};
 ghost use lib.ListN.{length};
 ghost use Rattle.model.specs.Limits.{cyclesMax, wordLength};
+ghost use Rattle.model.specs.declared.Answer.the-variants.{Accepted};
 ghost use Rattle.model.specs.Image.{designOf};
 ghost use Rattle.model.specs.Rules.{Keeps};
+ghost use Rattle.model.specs.Calls.{contentsAnswer};
 ghost use Rattle.design.specs.Describes.{Describes};
 ghost use Rattle.design.specs.Resets.{Defaults, lends};
 ghost use Rattle.calls.specs.Stages.{leftAs, runOn};
@@ -28,7 +31,7 @@ fn count_kept(count: u32) -> bool
     count <= MOST_CYCLES
 }
 
-// A run on areas of the right lengths.
+// A run on areas of the right lengths, where every register is within its width.
 fn run_on(
     image: &[u8],
     design: Design,
@@ -37,7 +40,7 @@ fn run_on(
     targets: &mut [u8],
     count: u32,
 ) -> Answer
-    requires { ⌜ Keeps (now image) × Describes (now image) design × Defaults (designOf (now image)) (now defaults) × (length (now registers) ≡ wordLength * design .registers) × (length (now targets) ≡ design .states) ⌝ }
+    requires { ⌜ Keeps (now image) × Describes (now image) design × Defaults (designOf (now image)) (now defaults) × (length (now registers) ≡ wordLength * design .registers) × (length (now targets) ≡ design .states) × (contentsAnswer (designOf (now image)) (now registers) ≡ Accepted 0) ⌝ }
     ensures { λ a. ⌜ leftAs a (now (registers .exit)) (now (targets .exit)) ≡ runOn (designOf (now (image .entry))) (lends (now (registers .entry)) (now (targets .entry))) count ⌝ }
 {
     let found = unsound(image, design, defaults, targets);
@@ -61,6 +64,10 @@ pub fn run(image: &[u8], registers: &mut [u8], targets: &mut [u8], count: u32) -
     }
     if targets.len() != design.states {
         return Answer::Refused(Refusal::Area, 0);
+    }
+    let found = too_large(image, design, registers);
+    if let Found::At(place) = found {
+        return Answer::Refused(Refusal::Area, place);
     }
     let mut defaults = [0u8; Design::STATES];
     default_targets(image, design, &mut defaults);

@@ -1,13 +1,13 @@
 -- The calls are lent no more bytes than the buffers hold.
-use Prim.Native.Nat.{ℕ, _+_, _*_, _≤_}
-use Rattle.model.specs.Limits.{directoryLength, labelLength, registerLength, stateLength, nodeLength, labelsMax, registersMax, statesMax, commandsMax, expressionsMax}
+use Prim.Native.Nat.{ℕ, _+_, _≤_}
+use Rattle.model.specs.Limits.{largestImage}
 use Rattle.cases.specs.declared.Lent.{Lent}
 use Rattle.cases.specs.declared.Step.{Step}
 use Rattle.cases.specs.declared.Step.the-variants.{Next, Ended, Unwritten}
 
--- one byte more than the largest image, whose sections have as many records as they may have
+-- one byte more than the largest image
 abbrev pub imageRoom : ℕ
-imageRoom = directoryLength + labelLength * labelsMax + registerLength * registersMax + stateLength * statesMax + nodeLength * commandsMax + nodeLength * expressionsMax + 1
+imageRoom = largestImage + 1
 
 -- the areas
 abbrev pub registersRoom : ℕ

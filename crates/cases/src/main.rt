@@ -4,7 +4,7 @@
 // a and b, 32 bits each, little-endian. Some kinds have bytes behind the head.
 //
 //   0  note: a bytes of text follow, at most 200. Printed as `# text`.
-//   1  image: a bytes follow, at most 25,269: one more than the longest image. Checked, and kept for
+//   1  image: a bytes follow, at most 25,333: one more than the longest image. Checked, and kept for
 //      the calls. Printed as `check: NUMBER PLACE COUNT`.
 //   2  areas: a bytes for the registers follow, at most 264, then b bytes for the targets, at most
 //      72. Lent to the calls as they stand, with these lengths.

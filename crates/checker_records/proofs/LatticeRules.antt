@@ -21,24 +21,10 @@ use Rattle.design.specs.declared.Design.{Design}
 use Rattle.design.specs.Records.{rowIn}
 use Rattle.design.specs.Describes.{Describes}
 use Rattle.design.proofs.Laws.{labels-count, row-in}
+use Rattle.design.proofs.ShiftRules.{shifted-out}
 use Rattle.checker_records.specs.LabelTests.{rowMask, leastIn, distinct, carries, joins}
 use Rattle.model.proofs.Laws.Bits.{bit-and}
 use Rattle.checker_records.proofs.Subsets.{bitOf, inside, cut-bit, ones-bit}
-
--- a number has no bit at k or above exactly where it is below 2 ^ k
-shifted-out : (a k : ℕ) → eqb (a / 2 ^ k) 0 ≡ ltb a (2 ^ k)
-shifted-out a k = go (decLt a (2 ^ k))
-  where
-    small : (a / 2 ^ k < 1) ↔ (a < 1 * 2 ^ k)
-    small = div-lt-iff-lt-mul (pow-pos k)
-
-    go : Dec (a < 2 ^ k) → eqb (a / 2 ^ k) 0 ≡ ltb a (2 ^ k)
-    go (yes h) =
-        let none = small .1 (rw (one-mul (2 ^ k)) h) in
-        rw (eq-eqb (a / 2 ^ k) 0 (omega arith), lt-ltb a (2 ^ k) h)
-    go (no h) =
-        let some : a / 2 ^ k ≡ 0 → ⊥ = λ e. h (rw (one-mul (2 ^ k)) at (small .0 (omega arith))) in
-        rw (ne-eqb (a / 2 ^ k) 0 some, le-ltb a (2 ^ k) (omega arith))
 
 -- ---- tests
 and-false-second : (a b : Bool) → b ≡ false → (a && b) ≡ false

@@ -1,21 +1,23 @@
 -- A rule of a register or a state, tested on the fields that the accessors read, is the meaning's rule.
-use Prim.Native.Nat.{ℕ, zero, suc, _≤_, _<_}
+use Prim.Native.Nat.{ℕ, zero, suc, _≤_, _<_, _^_}
 use mathlib.Core.Path.{_≡_, refl, sym, _∙_, ap}
-use mathlib.Core.Bool.{Bool, true, _&&_}
+use mathlib.Core.Bool.{Bool, true, false, _&&_}
 use mathlib.Core.List.{List}
 use native.Mathlib.Omega.{arith}
 use lib.Dec.{ltb, leb, eqb}
+use borrow.Author.Tests.{le-leb}
 use lib.ListN.{length}
 use Rattle.model.specs.declared.Found.{Found}
 use Rattle.model.specs.declared.Found.the-variants.{Nowhere}
 use Rattle.model.specs.Indices.{lowestFailing}
 use Rattle.model.specs.Image as Image
-use Rattle.model.specs.Image.{Register, State, designOf}
+use Rattle.model.specs.Image.{Register, State, designOf, registerAt}
 use Rattle.model.specs.Lattice.{flowsTo, stateLabel}
-use Rattle.model.specs.States.{registerKept, parent, parentKept, stateKept, childLabelKept}
+use Rattle.model.specs.States.{widthKept, registerKept, parent, parentKept, stateKept, childLabelKept}
 use Rattle.model.specs.Rules.{StateKeeps}
 use Rattle.model.proofs.Laws.Indices.{failing-none}
-use Rattle.model.proofs.Exact.Records.{state-iff}
+use Rattle.model.proofs.Laws.Booleans.{false-unless-true}
+use Rattle.model.proofs.Exact.Records.{register-iff, state-iff}
 use Rattle.design.specs.declared.Design.{Design}
 use Rattle.design.specs.Records.{registerIn, stateIn, stateEnd}
 use Rattle.design.specs.Describes.{Describes}
@@ -49,12 +51,33 @@ pub states-kept : (image : List ℕ) {f : Found} → f ≡ lowestFailing (stateK
 states-kept image e h = failing-none (stateKept (designOf image)) (length (designOf image .states)) (sym e ∙ h)
 
 module _ {image : List ℕ} {x : Design} (d : Describes image x) where
-  pub register-rule : {r l k : ℕ} → r < x .registers → l ≡ registerIn image (x .«registers_at») r .label → k ≡ registerIn image (x .«registers_at») r .kind
-      → (ltb l (x .labels) && leb k 1) ≡ registerKept (designOf image) r
-  unfolding registerKept
-  register-rule {r} h p q =
-      let same = register-in d h in
-      rw (p ∙ ap (λ (y : Register). y .label) same, q ∙ ap (λ (y : Register). y .kind) same, labels-count d)
+  -- ---- registers: a width below its range, one above it, and one within
+  module _ {r w : ℕ} (h : r < x .registers) (q : w ≡ registerIn image (x .«registers_at») r .width) where
+    width-is : registerAt (designOf image) r .width ≡ w
+    width-is = sym (q ∙ ap (λ (y : Register). y .width) (register-in d h))
+
+    pub too-narrow : w < 1 → false ≡ registerKept (designOf image) r
+    too-narrow l = sym (false-unless-true (registerKept (designOf image) r) (λ e. let least = register-iff (designOf image) r .0 e .width-least in let is = width-is in omega arith))
+
+    pub too-wide : 32 < w → false ≡ registerKept (designOf image) r
+    too-wide l = sym (false-unless-true (registerKept (designOf image) r) (λ e. let most = register-iff (designOf image) r .0 e .width-most in let is = width-is in omega arith))
+
+    pub register-rule : {l k v : ℕ} {f : Bool} → 1 ≤ w → w ≤ 32 → l ≡ registerIn image (x .«registers_at») r .label → k ≡ registerIn image (x .«registers_at») r .kind
+        → v ≡ registerIn image (x .«registers_at») r .reset → f ≡ ltb v (2 ^ w)
+        → (ltb l (x .labels) && leb k 1 && f) ≡ registerKept (designOf image) r
+    unfolding registerKept widthKept
+    register-rule {f} least most label kind reset e =
+        let same = register-in d h in
+        let wide = width-is in
+        rw (
+          label ∙ ap (λ (y : Register). y .label) same,
+          kind ∙ ap (λ (y : Register). y .kind) same,
+          labels-count d,
+          e ∙ ap (λ (v : ℕ). ltb v (2 ^ w)) (reset ∙ ap (λ (y : Register). y .reset) same),
+          wide,
+          le-leb 1 w least,
+          le-leb w 32 most,
+        )
 
   -- ---- states. The root's rules, and those of any other state
   pub root-rule : {s p l : ℕ} → s < x .states → s ≡ 0 → p ≡ stateIn image (x .«states_at») s .parent → l ≡ stateIn image (x .«states_at») s .label
@@ -113,3 +136,6 @@ module _ {image : List ℕ} {x : Design} (d : Describes image x) where
 
 -- the laws of a state's label and its parent's, for `search`
 pub ruleset child-laws = (root-child, parent-inside, parent-labelled, state-label-small, child-label-rule)
+
+-- the laws of a register's record, for `search`
+pub ruleset register-laws = (too-narrow, too-wide, register-rule)

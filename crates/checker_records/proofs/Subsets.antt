@@ -6,7 +6,7 @@ use native.Mathlib.Omega.{arith}
 use native.Mathlib.Nat.{lt-of-le-of-lt, pow-suc, add-comm, one-mul, div-one}
 use native.Mathlib.Numerals.{add-one}
 use lib.Arith.{lt-one}
-use lib.Pow.{pow-pos, shl-exact, shr-shr, shl-shr, field, mod-mod-pow}
+use lib.Pow.{shr-shr, shl-shr, field, mod-mod-pow}
 use lib.Bits.{bitAnd, and-le-l, and-mask}
 use lib.Dec.{eqb}
 use borrow.Author.Tests.{eq-eqb, eqb-true}
@@ -95,13 +95,3 @@ ones-bit n l h =
   where
     set : bitOf (2 ^ l) l ≡ true
     set = ap (λ (m : ℕ). eqb (m % 2) 1) (ap (λ (m : ℕ). m / 2 ^ l) (sym (one-mul (2 ^ l))) ∙ shl-shr 1 l)
-
--- `(1 << n) - 1`, in 64 bits
-one-shifted : {n : ℕ} → n < 64 → 1 * 2 ^ n % 18446744073709551616 ≡ 2 ^ n
-one-shifted {n} l = shl-exact 1 n 64 (omega arith) (omega arith) ∙ one-mul (2 ^ n)
-
-pub shifted-some : {n : ℕ} → n < 64 → 1 ≤ 1 * 2 ^ n % 18446744073709551616
-shifted-some {n} l = rw (one-shifted l) (pow-pos n)
-
-pub shifted-ones : {n : ℕ} → n < 64 → 1 * 2 ^ n % 18446744073709551616 - 1 ≡ 2 ^ n - 1
-shifted-ones l = ap (λ (m : ℕ). m - 1) (one-shifted l)

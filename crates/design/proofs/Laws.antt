@@ -50,7 +50,7 @@ pub directory-rule :
     → cz ≡ size image Commands
     → ez ≡ size image Expressions
     → l ≡ (eqb (lz % 2) 0 && leb 1 (lz / 2) && leb (lz / 2) 16)
-    → r ≡ (eqb (rz % 6) 0 && leb 0 (rz / 6) && leb (rz / 6) 64)
+    → r ≡ (eqb (rz % 7) 0 && leb 0 (rz / 7) && leb (rz / 7) 64)
     → s ≡ (eqb (sz % 4) 0 && leb 1 (sz / 4) && leb (sz / 4) 64)
     → c ≡ (eqb (cz % 8) 0 && leb 0 (cz / 8) && leb (cz / 8) 1024)
     → e ≡ (eqb (ez % 8) 0 && leb 0 (ez / 8) && leb (ez / 8) 2048)
@@ -76,7 +76,7 @@ pub describes :
     image
     (record {
       labels = l / 2;
-      registers = r / 6;
+      registers = r / 7;
       states = s / 4;
       commands = c / 8;
       expressions = e / 8;
@@ -89,7 +89,7 @@ describes directory l r s c e ra sa ca ea =
     record {
       directory = directory;
       labels = ap (λ (n : ℕ). n / 2) l;
-      registers = ap (λ (n : ℕ). n / 6) r;
+      registers = ap (λ (n : ℕ). n / 7) r;
       states = ap (λ (n : ℕ). n / 4) s;
       commands = ap (λ (n : ℕ). n / 8) c;
       expressions = ap (λ (n : ℕ). n / 8) e;
@@ -149,7 +149,7 @@ module _ {image : List ℕ} {x : Design} (d : Describes image x) where
   pub register-in : {r : ℕ} → r < x .registers → registerIn image (x .«registers_at») r ≡ registerAt (designOf image) r
   register-in {r} l =
       let is = register-is image r (omega (arith, d .registers)) in
-      rw (d .registers-at) (sym (λ i. record { label = is .label i; kind = is .kind i; reset = is .reset i }))
+      rw (d .registers-at) (sym (λ i. record { label = is .label i; kind = is .kind i; reset = is .reset i; width = is .width i }))
 
   pub state-in : {s : ℕ} → s < x .states → stateIn image (x .«states_at») s ≡ stateAt (designOf image) s
   state-in {s} l =

@@ -2,5 +2,7 @@
 pub mod Laws
 pub mod FieldRules
 pub mod StateRules
+pub mod ShiftRules
 pub mod WordRules
+pub mod WidthRules
 pub mod ResetRules

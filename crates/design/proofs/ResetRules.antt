@@ -13,11 +13,12 @@ use lib.Seq.{getD-set-same, getD-set-other, ext-getD}
 use borrow.Author.Tests.{lt-ltb, le-ltb}
 use Rattle.model.specs.declared.Found.the-variants.{At}
 use Rattle.model.specs.Indices.{lowest, tabulate}
-use Rattle.model.specs.Image.{Design as Table, States, Register, State, designOf, registerAt}
+use Rattle.model.specs.Image.{Design as Table, States, Register, noRegister, State, designOf, registerAt}
 use Rattle.model.specs.States.{foundOr, parent, isChild, hasChild, defaultTarget}
 use Rattle.model.specs.Values.{bytesOf}
 use Rattle.model.specs.Machine.{resetAreas}
 use Rattle.model.specs.Calls.{lentOf}
+use Rattle.model.proofs.Laws.Cycles.{reset-length}
 use Rattle.model.proofs.Laws.Booleans.{true-or-false, false-unless-true}
 use Rattle.model.proofs.Laws.Indices.{extend, nothing-below-zero, lowest-nowhere, lowest-at, lowest-found, length-tabulate, getD-tabulate}
 use Rattle.model.proofs.Laws.States.{child-of, is-child, default-cases}
@@ -331,13 +332,9 @@ pub reset-begins : (d : Table) (old : List ℕ) → ResetSo d old 0 old
 unfolding written
 reset-begins d old = record { is = refl }
 
-reset-count : (d : Table) → length (resetAreas d .registers) ≡ length (d .registers)
-unfolding resetAreas
-reset-count d = length-map (d .registers) (λ (r : Register). r .reset)
-
 reset-at : (d : Table) (r : ℕ) → getD (resetAreas d .registers) r 0 ≡ registerAt d r .reset
 unfolding resetAreas
-reset-at d r = List·getD-map (λ (y : Register). y .reset) (d .registers) r (record { label = 0; kind = 0; reset = 0 })
+reset-at d r = List·getD-map (λ (y : Register). y .reset) (d .registers) r noRegister
 
 module _ {image old now : List ℕ} {x : Design} {i : ℕ} (d : Describes image x) (so : ResetSo (designOf image) old i now) where
   pub reset-long : length now ≡ length old
@@ -348,12 +345,12 @@ module _ {image old now : List ℕ} {x : Design} {i : ℕ} (d : Describes image 
 
   pub reset-more : {v : ℕ} {after : List ℕ} → length old ≡ 4 * x .registers → i < x .registers → v ≡ registerIn image (x .«registers_at») i .reset → after ≡ putWord now i v → ResetSo (designOf image) old (i + 1) after
   reset-more {v} e l h a =
-      let count = registers-count d ∙ sym (reset-count (designOf image)) in
+      let count = registers-count d ∙ sym (reset-length (designOf image)) in
       let value : v ≡ getD (resetAreas (designOf image) .registers) i 0 = h ∙ ap (λ (y : Register). y .reset) (register-in d l) ∙ sym (reset-at (designOf image) i) in
       record { is = a ∙ rw (so .is, value, add-one i) (written-more i (resetAreas (designOf image) .registers) old (omega arith) (omega arith)) }
 
   pub reset-whole : length old ≡ 4 * x .registers → i ≤ x .registers → x .registers ≤ i → now ≡ bytesOf (resetAreas (designOf image) .registers)
   reset-whole e l m =
-      let count = registers-count d ∙ sym (reset-count (designOf image)) in
+      let count = registers-count d ∙ sym (reset-length (designOf image)) in
       let end : i ≡ length (resetAreas (designOf image) .registers) = omega arith in
       so .is ∙ ap (λ (n : ℕ). written n (resetAreas (designOf image) .registers) old) end ∙ written-whole (resetAreas (designOf image) .registers) old (omega arith)

@@ -10,7 +10,13 @@ abbrev pub rowIn : List ℕ → ℕ → ℕ
 rowIn image i = word16At image (directoryLength + labelLength * i)
 
 abbrev pub registerIn : List ℕ → ℕ → ℕ → Register
-registerIn image at r = record { label = byteAt image (at + registerLength * r); kind = byteAt image (at + registerLength * r + 1); reset = word32At image (at + registerLength * r + 2) }
+registerIn image at r =
+    record {
+      label = byteAt image (at + registerLength * r);
+      kind = byteAt image (at + registerLength * r + 1);
+      reset = word32At image (at + registerLength * r + 2);
+      width = byteAt image (at + registerLength * r + 6);
+    }
 
 abbrev pub stateIn : List ℕ → ℕ → ℕ → State
 stateIn image at s = record { parent = byteAt image (at + stateLength * s); label = byteAt image (at + stateLength * s + 1); command = word16At image (at + stateLength * s + 2) }

@@ -3,6 +3,7 @@
 pub mod reset;
 pub mod rows;
 pub mod states;
+pub mod widths;
 pub mod words;
 
 ghost use Prim.Native.Nat.{_+_, _*_, _/_, _%_, _<_, _≤_};
@@ -11,7 +12,7 @@ ghost use lib.Dec.{eqb, leb};
 ghost use mathlib.Core.Path.{_≡_};
 ghost use lib.ListN.{length};
 ghost use Rattle.model.specs.Image.{word16At, word32At, offsetsKept, directoryKept, designOf};
-ghost use Rattle.model.specs.Limits.{directoryLength, labelLength, registerLength, stateLength, nodeLength, labelsMax, registersMax, statesMax, commandsMax, expressionsMax, depthMax, expressionPlace, wordLength};
+ghost use Rattle.model.specs.Limits.{directoryLength, labelLength, registerLength, stateLength, nodeLength, labelsMax, registersMax, statesMax, commandsMax, expressionsMax, depthMax, expressionPlace, widthMax, wordLength, largestImage};
 ghost use Rattle.model.specs.Rules.{DirectoryKeeps};
 ghost use Rattle.model.specs.Machine.{resetAreas};
 ghost use Rattle.model.specs.Calls.{lentOf};
@@ -121,7 +122,7 @@ impl Design {
 
     pub const LABEL_LENGTH: usize = 2;
 
-    pub const REGISTER_LENGTH: usize = 6;
+    pub const REGISTER_LENGTH: usize = 7;
 
     pub const STATE_LENGTH: usize = 4;
 
@@ -133,6 +134,8 @@ impl Design {
         + Self::STATE_LENGTH * Self::STATES
         + Self::NODE_LENGTH * Self::COMMANDS
         + Self::NODE_LENGTH * Self::EXPRESSIONS;
+    // The greatest width of a register, in bits.
+    pub const WIDTH: usize = 32;
     // The bytes that a register takes in its area.
     pub const WORD_LENGTH: usize = 4;
     // How deep commands and expressions nest.
@@ -152,7 +155,8 @@ impl Design {
         ensures { λ _. do ⌜ (← ⟦Design::REGISTER_LENGTH⟧ .entry) ≡ registerLength ⌝ }
         ensures { λ _. do ⌜ (← ⟦Design::STATE_LENGTH⟧ .entry) ≡ stateLength ⌝ }
         ensures { λ _. do ⌜ (← ⟦Design::NODE_LENGTH⟧ .entry) ≡ nodeLength ⌝ }
-        ensures { λ _. do ⌜ (← ⟦Design::LARGEST⟧ .entry) ≡ directoryLength + labelLength * labelsMax + registerLength * registersMax + stateLength * statesMax + nodeLength * commandsMax + nodeLength * expressionsMax ⌝ }
+        ensures { λ _. do ⌜ (← ⟦Design::LARGEST⟧ .entry) ≡ largestImage ⌝ }
+        ensures { λ _. do ⌜ (← ⟦Design::WIDTH⟧ .entry) ≡ widthMax ⌝ }
         ensures { λ _. do ⌜ (← ⟦Design::WORD_LENGTH⟧ .entry) ≡ wordLength ⌝ }
         ensures { λ _. do ⌜ (← ⟦Design::DEPTH⟧ .entry) ≡ depthMax ⌝ }
         ensures { λ _. do ⌜ (← ⟦Design::EXPRESSION_PLACE⟧ .entry) ≡ expressionPlace ⌝ }
@@ -186,6 +190,13 @@ impl Design {
         ensures { λ x. ⌜ x ≡ registerIn (now (image .entry)) at r .reset ⌝ }
     {
         word32(image, at + Self::REGISTER_LENGTH * r + 2)
+    }
+
+    pub fn register_width(image: &[u8], at: usize, r: usize) -> usize
+        requires { ⌜ registerEnd at r ≤ length (now image) ⌝ }
+        ensures { λ x. ⌜ (x ≡ registerIn (now (image .entry)) at r .width) × (x < 256) ⌝ }
+    {
+        wide(image[at + Self::REGISTER_LENGTH * r + 6])
     }
 
     // The fields of state s, where the states begin at a place.

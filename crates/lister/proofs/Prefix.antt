@@ -14,7 +14,8 @@ use Rattle.model.specs.Image.{Labels, Registers, States, Commands, Expressions,
 use Rattle.model.specs.Rules.{DirectoryKeeps}
 use Rattle.model.specs.Verdict.{_before_, refusedAt, verdict}
 use Rattle.model.specs.Listing.{refusalLine, listed, listing}
-use Rattle.lister.specs.Lengths.{largestImage, inputLength}
+use Rattle.model.specs.Limits.{largestImage}
+use Rattle.lister.specs.Lengths.{inputLength}
 use Rattle.model.proofs.Exact.Directories.{directory-iff}
 
 longest : (image : List ℕ) → DirectoryKeeps image → length image ≤ largestImage

@@ -36,8 +36,8 @@ module _ {image : List ℕ} {x : Design} {s c : ℕ} (known : RecordsKept image 
   pub body-executing : Executing image x c
   body-executing = record { known = known; node = body-below (known .describes) l e (known .states) }
 
-  pub body-rule : (before after : List ℕ) {o : Outcome} → executedAs (wordsOf (x .registers) after) o ≡ exec (wordsOf (x .registers) before) (cmdOf (designOf image) c)
-      → executedAs (valuesIn (designOf image) after) o ≡ exec (valuesIn (designOf image) before) (bodyOf (designOf image) s)
+  pub body-rule : (before after : List ℕ) {o : Outcome} → executedAs (wordsOf (x .registers) after) o ≡ exec (designOf image .registers) (wordsOf (x .registers) before) (cmdOf (designOf image) c)
+      → executedAs (valuesIn (designOf image) after) o ≡ exec (designOf image .registers) (valuesIn (designOf image) before) (bodyOf (designOf image) s)
   unfolding bodyOf
   body-rule before after h = rw (← registers-count (known .describes), ← body-is (known .describes) l e) h
 
@@ -57,7 +57,7 @@ one-more [] v rest = refl
 one-more (a ∷ shown) v rest = ap (λ (more : List ℕ). a ∷ more) (one-more shown v rest)
 
 -- ---- one body
-ran-step : (d : Table) (f s : ℕ) (areas : Areas) {values : List ℕ} {o : Outcome} → executedAs values o ≡ exec (areas .registers) (bodyOf d s)
+ran-step : (d : Table) (f s : ℕ) (areas : Areas) {values : List ℕ} {o : Outcome} → executedAs values o ≡ exec (d .registers) (areas .registers) (bodyOf d s)
     → runFrom d (suc f) s areas
     ≡ afterBody d o s (record { registers = values; targets = areas .targets }) (runFrom d f (getD (areas .targets) s 0) (record { registers = values; targets = areas .targets }))
 unfolding runFrom
@@ -92,7 +92,7 @@ cycle-begins d start before l =
 one-left : {f : ℕ} (n m : ℕ) → n < m → n + f ≡ m → f ≡ suc (f - 1)
 one-left n m l e = omega arith
 
-module _ {d : Table} {start now : Areas} {before walk values : List ℕ} {n s : ℕ} {o : Outcome} (so : CycleSo d start before n s now walk) (l : n < length (d .states)) (long : length (d .states) ≤ length before) (ran : executedAs values o ≡ exec (now .registers) (bodyOf d s)) where
+module _ {d : Table} {start now : Areas} {before walk values : List ℕ} {n s : ℕ} {o : Outcome} (so : CycleSo d start before n s now walk) (l : n < length (d .states)) (long : length (d .states) ≤ length before) (ran : executedAs values o ≡ exec (d .registers) (now .registers) (bodyOf d s)) where
   abbrev areasLeft : Areas
   areasLeft = record { registers = values; targets = now .targets }
 
@@ -187,12 +187,12 @@ running-ran running same = record { known = running .known; keeps = running .kee
 
 -- a goto names a state
 named-state : {image : List ℕ} {x : Design} {table registers targets values : List ℕ} {s t : ℕ} {o : Outcome} {e : Ending} → Running image x table registers targets → s < length (designOf image .states)
-    → executedAs values o ≡ exec (valuesIn (designOf image) registers) (bodyOf (designOf image) s) → o ≡ Transferred e → e ≡ Goto t → t < length (designOf image .states)
+    → executedAs values o ≡ exec (designOf image .registers) (valuesIn (designOf image) registers) (bodyOf (designOf image) s) → o ≡ Transferred e → e ≡ Goto t → t < length (designOf image .states)
 named-state {image} {x} {table} {registers} {s = s} {t = t} running l ran h k =
     let d = designOf image in
     let rules = running .keeps .design in
     let ends = exec-ends d s (stateLabel d s ∷ []) (valuesIn d registers) (bodyOf d s) (rules .shaped s l) (rules .flowing s l) in
-    let came : exec (valuesIn d registers) (bodyOf d s) .outcome ≡ Transferred (Goto t) = ap (λ (y : Executed). y .outcome) (sym ran) ∙ rw (h, k) in
+    let came : exec (d .registers) (valuesIn d registers) (bodyOf d s) .outcome ≡ Transferred (Goto t) = ap (λ (y : Executed). y .outcome) (sym ran) ∙ rw (h, k) in
     let sibling = (rw came at ends) .1 in
     sibling-child d s t sibling .state
 
@@ -252,7 +252,7 @@ module _ {image : List ℕ} {x : Design} {table registers₀ targets₀ walk₀ 
   enough : length (designOf image .states) ≤ length walk₀
   enough = let count = states-are in let before = c .before in omega arith
 
-  module _ (after : List ℕ) {o : Outcome} (l : n < x .states) (ran : executedAs (valuesIn (designOf image) after) o ≡ exec (valuesIn (designOf image) registers) (bodyOf (designOf image) s)) where
+  module _ (after : List ℕ) {o : Outcome} (l : n < x .states) (ran : executedAs (valuesIn (designOf image) after) o ≡ exec (designOf image .registers) (valuesIn (designOf image) registers) (bodyOf (designOf image) s)) where
     pub cycling-stops : o ≡ Continued → Cycled (cycle (designOf image) (areasIn (designOf image) registers₀ targets₀)) (areasIn (designOf image) after targets) walk₀ (set walk n s) (n + 1)
     cycling-stops h = cycle-stops (c .so) (below l) enough ran h
 

@@ -19,7 +19,7 @@ ghost use Rattle.machine.specs.Cycles.{Running, Cycled, areasIn};
 // The command of state s runs.
 fn body(image: &[u8], design: Design, registers: &mut [u8], s: usize) -> Outcome
     requires { ⌜ RecordsKept (now image) design × (s < design .states) × (length (now registers) ≡ wordLength * design .registers) ⌝ }
-    ensures { λ o. ⌜ (executedAs (valuesIn (designOf (now (image .entry))) (now (registers .exit))) o ≡ exec (valuesIn (designOf (now (image .entry))) (now (registers .entry))) (bodyOf (designOf (now (image .entry))) s)) × (length (now (registers .exit)) ≡ length (now (registers .entry))) ⌝ }
+    ensures { λ o. ⌜ (executedAs (valuesIn (designOf (now (image .entry))) (now (registers .exit))) o ≡ exec (designOf (now (image .entry)) .registers) (valuesIn (designOf (now (image .entry))) (now (registers .entry))) (bodyOf (designOf (now (image .entry))) s)) × (length (now (registers .exit)) ≡ length (now (registers .entry))) ⌝ }
 {
     let command = Design::state_command(image, design.states_at, s);
     execute(image, design, registers, command)

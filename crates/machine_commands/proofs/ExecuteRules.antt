@@ -1,5 +1,5 @@
 -- What a command of each kind leaves, from what its parts leave, and what the command that ran last came to: the laws that the recursion over commands cites.
-use Prim.Native.Nat.{ℕ, zero, suc, _+_, _*_, _^_, _≤_, _<_}
+use Prim.Native.Nat.{ℕ, zero, suc, _+_, _*_, _%_, _^_, _≤_, _<_}
 use mathlib.Core.Path.{_≡_, refl, sym, _∙_, ap}
 use mathlib.Core.Bool.{Bool, true, false, _||_}
 use mathlib.Core.List.{List}
@@ -12,7 +12,7 @@ use Rattle.model.specs.declared.Ending.{Ending}
 use Rattle.model.specs.declared.Ending.the-variants.{Goto, Fall}
 use Rattle.model.specs.declared.Outcome.{Outcome}
 use Rattle.model.specs.declared.Outcome.the-variants.{Continued, Transferred}
-use Rattle.model.specs.Image.{Design as Table, Node, designOf, commandAt}
+use Rattle.model.specs.Image.{Design as Table, Node, designOf, registerAt, commandAt}
 use Rattle.model.specs.Kinds.{assigns, sequences, branches, commandKind}
 use Rattle.model.specs.Trees.{exprOf, cmdOf}
 use Rattle.model.specs.Values.{wordsOf}
@@ -22,11 +22,12 @@ use Rattle.model.proofs.Laws.Booleans.{true-or-false, or-cases, or-first, or-se
 use Rattle.model.proofs.Laws.Kinds.{kind-skips, kind-falls, kind-goes}
 use Rattle.model.proofs.Laws.Trees.{cmd-skip, cmd-assign, cmd-sequence, cmd-fall, cmd-goto, cmd-branch}
 use Rattle.design.specs.declared.Design.{Design}
-use Rattle.design.specs.Records.{nodeIn, nodeEnd}
-use Rattle.design.proofs.Laws.{registers-count, commands-count, expressions-count, command-inside, command-in}
+use Rattle.design.specs.Records.{registerIn, nodeIn, registerEnd, nodeEnd}
+use Rattle.design.proofs.Laws.{registers-count, commands-count, expressions-count, register-inside, command-inside, command-in}
 use Rattle.design.specs.Words.{putWord}
 use Rattle.design.proofs.FieldRules.{command-at, command-place-inside, command-below, command-kind-is, command-kind-of, item-is, a-is, b-is, c-is, command-holds, assigned-register, assigned-expression, condition, sequence-a-below, sequence-b-below, branch-b-below, branch-c-below, lower-command, expression-at}
 use Rattle.design.proofs.WordRules.{words-put, length-put}
+use Rattle.design.proofs.WidthRules.{width-is, width-narrow}
 use Rattle.design.specs.Kept.{RecordsKept}
 use Rattle.machine_commands.specs.Executions.{Executing, Evaluating, Performing, executedAs, cameTo, cameToBy, valuesIn}
 
@@ -76,7 +77,7 @@ leaves :
     → (k ≡ 2 → ⊥)
     → (k ≡ 5 → ⊥)
     → CommandHolds d n (commandKind k) (commandAt d n)
-    → executedAs values (cameTo (commandAt d n)) ≡ exec values (cmdOf d n)
+    → executedAs values (cameTo (commandAt d n)) ≡ exec (d .registers) values (cmdOf d n)
 unfolding exec commandKind
 leaves d n zero values e a b c h = rw (cmd-skip d n (kind-skips e), came-on (commandAt d n) 0 e (λ q. omega arith) (λ q. omega arith)) refl
 leaves d n (suc zero) values e a b c h = absurd (a refl)
@@ -98,7 +99,7 @@ module _ {image : List ℕ} {x : Design} (known : RecordsKept image x) {m : ℕ}
   counted-in = command-in (known .describes) counted
 
 -- ---- what is known at a command
-module _ {image : List ℕ} {commands expressions : ℕ} {before : List ℕ} {n : ℕ} (here : Performing image commands expressions before n) where
+module _ {image : List ℕ} {places commands expressions : ℕ} {before : List ℕ} {n : ℕ} (here : Performing image places commands expressions before n) where
   -- ---- the command that ran last
   pub last-inside : {l : ℕ} → l < length (designOf image .commands) → nodeEnd commands l ≤ length image
   last-inside below = rw (here .command .begins) (counted-inside (here .known) below)
@@ -108,12 +109,13 @@ module _ {image : List ℕ} {commands expressions : ℕ} {before : List ℕ} {n 
 
   -- ---- parts
   -- a part runs over an area of the same length
-  lower : {m : ℕ} (after : List ℕ) → m < n → length after ≡ length before → Performing image commands expressions after m
+  lower : {m : ℕ} (after : List ℕ) → m < n → length after ≡ length before → Performing image places commands expressions after m
   lower after l same =
       record {
         design = here .design;
         known = here .known;
         command = lower-command (here .command) (here .known .commands) l;
+        registers-begin = here .registers-begin;
         expressions-begin = here .expressions-begin;
         area = same ∙ here .area;
       }
@@ -128,7 +130,7 @@ module _ {image : List ℕ} {commands expressions : ℕ} {before : List ℕ} {n 
         area = here .area;
       }
 
-  pub sequence-a-performing : {k a : ℕ} → k ≡ 2 → k ≡ nodeIn image commands n .kind → a ≡ nodeIn image commands n .a → Performing image commands expressions before a
+  pub sequence-a-performing : {k a : ℕ} → k ≡ 2 → k ≡ nodeIn image commands n .kind → a ≡ nodeIn image commands n .a → Performing image places commands expressions before a
   sequence-a-performing q p f = lower before (sequence-a-below (here .command) q p f) refl
 
   pub sequence-b-performing :
@@ -137,13 +139,13 @@ module _ {image : List ℕ} {commands expressions : ℕ} {before : List ℕ} {n 
       → k ≡ nodeIn image commands n .kind
       → b ≡ nodeIn image commands n .b
       → length after ≡ length before
-      → Performing image commands expressions after b
+      → Performing image places commands expressions after b
   sequence-b-performing {after = after} q p f same = lower after (sequence-b-below (here .command) q p f) same
 
-  pub branch-b-performing : {k b : ℕ} → k ≡ 5 → k ≡ nodeIn image commands n .kind → b ≡ nodeIn image commands n .b → Performing image commands expressions before b
+  pub branch-b-performing : {k b : ℕ} → k ≡ 5 → k ≡ nodeIn image commands n .kind → b ≡ nodeIn image commands n .b → Performing image places commands expressions before b
   branch-b-performing q p f = lower before (branch-b-below (here .command) q p f) refl
 
-  pub branch-c-performing : {k c : ℕ} → k ≡ 5 → k ≡ nodeIn image commands n .kind → c ≡ nodeIn image commands n .c → Performing image commands expressions before c
+  pub branch-c-performing : {k c : ℕ} → k ≡ 5 → k ≡ nodeIn image commands n .kind → c ≡ nodeIn image commands n .c → Performing image places commands expressions before c
   branch-c-performing q p f = lower before (branch-c-below (here .command) q p f) refl
 
   pub assigned-evaluating : {k e : ℕ} → k ≡ 1 → k ≡ nodeIn image commands n .kind → e ≡ nodeIn image commands n .a → Evaluating image expressions before e
@@ -159,46 +161,62 @@ module _ {image : List ℕ} {commands expressions : ℕ} {before : List ℕ} {n 
   pub written-inside : {k r : ℕ} → k ≡ 1 → k ≡ nodeIn image commands n .kind → r ≡ nodeIn image commands n .item → 4 * r + 4 ≤ length before
   written-inside q p f = let area = area-is in let below = assigned-register (here .command) q p f in omega arith
 
+  -- the width of the register written
+  written-register : {k r : ℕ} → k ≡ 1 → k ≡ nodeIn image commands n .kind → r ≡ nodeIn image commands n .item → r < here .design .registers
+  written-register q p f = let count = registers-count (here .known .describes) in let below = assigned-register (here .command) q p f in omega arith
+
+  pub width-inside : {k r : ℕ} → k ≡ 1 → k ≡ nodeIn image commands n .kind → r ≡ nodeIn image commands n .item → registerEnd places r ≤ length image
+  width-inside q p f = rw (here .registers-begin) (register-inside (here .known .describes) (written-register q p f))
+
+  place-width : {w : ℕ} (r : ℕ) → w ≡ registerIn image places r .width → w ≡ registerIn image (here .design .«registers_at») r .width
+  place-width r h = rw (here .registers-begin) at h
+
+  pub written-narrow : {k r w : ℕ} → k ≡ 1 → k ≡ nodeIn image commands n .kind → r ≡ nodeIn image commands n .item → w ≡ registerIn image places r .width → w ≤ 32
+  written-narrow {r = r} q p f h = width-narrow (here .known) (written-register q p f) (place-width r h)
+
   pub executes-leaf :
       {k : ℕ}
       → k ≡ nodeIn image commands n .kind
       → (k ≡ 1 → ⊥)
       → (k ≡ 2 → ⊥)
       → (k ≡ 5 → ⊥)
-      → executedAs (valuesIn (designOf image) before) (cameTo (commandAt (designOf image) n)) ≡ exec (valuesIn (designOf image) before) (cmdOf (designOf image) n)
+      → executedAs (valuesIn (designOf image) before) (cameTo (commandAt (designOf image) n)) ≡ exec (designOf image .registers) (valuesIn (designOf image) before) (cmdOf (designOf image) n)
   executes-leaf {k} p a b c = leaves (designOf image) n k (valuesIn (designOf image) before) (command-kind-is (here .command) refl p) a b c (command-holds (here .command) refl p)
 
   pub executes-assign :
-      {k r e v : ℕ} {after : List ℕ}
+      {k r e v w u : ℕ} {after : List ℕ}
       → k ≡ 1
       → k ≡ nodeIn image commands n .kind
-      → after ≡ putWord before r v
+      → after ≡ putWord before r u
       → r ≡ nodeIn image commands n .item
+      → u ≡ v % 2 ^ w
+      → w ≡ registerIn image places r .width
       → v ≡ eval (valuesIn (designOf image) before) (exprOf (designOf image) e)
       → e ≡ nodeIn image commands n .a
-      → v < 2 ^ 32
-      → executedAs (valuesIn (designOf image) after) (cameTo (commandAt (designOf image) n)) ≡ exec (valuesIn (designOf image) before) (cmdOf (designOf image) n)
+      → u < 2 ^ 32
+      → executedAs (valuesIn (designOf image) after) (cameTo (commandAt (designOf image) n)) ≡ exec (designOf image .registers) (valuesIn (designOf image) before) (cmdOf (designOf image) n)
   unfolding exec commandKind
-  executes-assign {r = r} {e = e} {v = v} {after = after} q p wrote f value g small =
+  executes-assign {r = r} {e = e} {v = v} {w = w} {u = u} {after = after} q p wrote f cut width value g small =
       let d = designOf image in
       let values = valuesIn d before in
       let tree = cmd-assign d n (command-kind-of (here .command) assigns q p refl) in
       let same : v ≡ eval values (exprOf d (commandAt d n .a)) = value ∙ ap (λ (m : ℕ). eval values (exprOf d m)) (a-is (here .command) g) in
+      let stored : u ≡ v % 2 ^ registerAt d r .width = cut ∙ ap (λ (m : ℕ). v % 2 ^ m) (width-is (here .known) (written-register q p f) (place-width r width)) in
       let words = ap (valuesIn d) wrote ∙ words-put before (assigned-register (here .command) q p f) area-is small in
       let on = came-on (commandAt d n) 1 (command-kind-is (here .command) q p) (λ h. omega arith) (λ h. omega arith) in
-      rw (tree, on) (ap (λ (ws : List ℕ). executedAs ws Continued) words ∙ rw (same, item-is (here .command) f) refl)
+      rw (tree, on) (ap (λ (ws : List ℕ). executedAs ws Continued) words ∙ rw (stored, same, item-is (here .command) f) refl)
 
   pub executes-first :
       {k a l m : ℕ} {t : Bool} (after : List ℕ)
       → k ≡ 2
       → k ≡ nodeIn image commands n .kind
-      → executedAs (valuesIn (designOf image) after) (cameTo (commandAt (designOf image) l)) ≡ exec (valuesIn (designOf image) before) (cmdOf (designOf image) a)
+      → executedAs (valuesIn (designOf image) after) (cameTo (commandAt (designOf image) l)) ≡ exec (designOf image .registers) (valuesIn (designOf image) before) (cmdOf (designOf image) a)
       → a ≡ nodeIn image commands n .a
       → t ≡ true
       → t ≡ (eqb m 3 || eqb m 4)
       → m ≡ nodeIn image commands l .kind
       → l < length (designOf image .commands)
-      → executedAs (valuesIn (designOf image) after) (cameTo (commandAt (designOf image) l)) ≡ exec (valuesIn (designOf image) before) (cmdOf (designOf image) n)
+      → executedAs (valuesIn (designOf image) after) (cameTo (commandAt (designOf image) l)) ≡ exec (designOf image .registers) (valuesIn (designOf image) before) (cmdOf (designOf image) n)
   unfolding exec commandKind
   executes-first {l = l} {m = m} after q p first f taken test g below =
       let d = designOf image in
@@ -213,13 +231,13 @@ module _ {image : List ℕ} {commands expressions : ℕ} {before : List ℕ} {n 
       → k ≡ nodeIn image commands n .kind
       → a ≡ nodeIn image commands n .a
       → b ≡ nodeIn image commands n .b
-      → executedAs (valuesIn (designOf image) between) (cameTo (commandAt (designOf image) l)) ≡ exec (valuesIn (designOf image) before) (cmdOf (designOf image) a)
+      → executedAs (valuesIn (designOf image) between) (cameTo (commandAt (designOf image) l)) ≡ exec (designOf image .registers) (valuesIn (designOf image) before) (cmdOf (designOf image) a)
       → l < length (designOf image .commands)
       → m ≡ nodeIn image commands l .kind
       → t ≡ (eqb m 3 || eqb m 4)
       → t ≡ false
-      → executedAs (valuesIn (designOf image) after) o ≡ exec (valuesIn (designOf image) between) (cmdOf (designOf image) b)
-      → executedAs (valuesIn (designOf image) after) o ≡ exec (valuesIn (designOf image) before) (cmdOf (designOf image) n)
+      → executedAs (valuesIn (designOf image) after) o ≡ exec (designOf image .registers) (valuesIn (designOf image) between) (cmdOf (designOf image) b)
+      → executedAs (valuesIn (designOf image) after) o ≡ exec (designOf image .registers) (valuesIn (designOf image) before) (cmdOf (designOf image) n)
   unfolding exec commandKind
   executes-second {l = l} {m = m} between after q p f g first below h test left second =
       let d = designOf image in
@@ -237,8 +255,8 @@ module _ {image : List ℕ} {commands expressions : ℕ} {before : List ℕ} {n 
       → c ≡ nodeIn image commands n .c
       → v ≡ eval (valuesIn (designOf image) before) (exprOf (designOf image) e)
       → v ≡ 0
-      → executedAs (valuesIn (designOf image) after) o ≡ exec (valuesIn (designOf image) before) (cmdOf (designOf image) c)
-      → executedAs (valuesIn (designOf image) after) o ≡ exec (valuesIn (designOf image) before) (cmdOf (designOf image) n)
+      → executedAs (valuesIn (designOf image) after) o ≡ exec (designOf image .registers) (valuesIn (designOf image) before) (cmdOf (designOf image) c)
+      → executedAs (valuesIn (designOf image) after) o ≡ exec (designOf image .registers) (valuesIn (designOf image) before) (cmdOf (designOf image) n)
   unfolding exec commandKind
   executes-other after q p f g value none part =
       let d = designOf image in
@@ -255,8 +273,8 @@ module _ {image : List ℕ} {commands expressions : ℕ} {before : List ℕ} {n 
       → b ≡ nodeIn image commands n .b
       → v ≡ eval (valuesIn (designOf image) before) (exprOf (designOf image) e)
       → (v ≡ 0 → ⊥)
-      → executedAs (valuesIn (designOf image) after) o ≡ exec (valuesIn (designOf image) before) (cmdOf (designOf image) b)
-      → executedAs (valuesIn (designOf image) after) o ≡ exec (valuesIn (designOf image) before) (cmdOf (designOf image) n)
+      → executedAs (valuesIn (designOf image) after) o ≡ exec (designOf image .registers) (valuesIn (designOf image) before) (cmdOf (designOf image) b)
+      → executedAs (valuesIn (designOf image) after) o ≡ exec (designOf image .registers) (valuesIn (designOf image) before) (cmdOf (designOf image) n)
   unfolding exec commandKind
   executes-taken {v = v} after q p f g value some part =
       let d = designOf image in
@@ -270,12 +288,13 @@ pub put-same-length : (before : List ℕ) (r v : ℕ) {after : List ℕ} → aft
 put-same-length before r v wrote = ap (λ (bytes : List ℕ). length bytes) wrote ∙ length-put before r v
 
 -- ---- a command of a design, and the answer by the command that ran last
-pub performing : {image : List ℕ} {x : Design} {registers : List ℕ} {n : ℕ} → Executing image x n → length registers ≡ 4 * x .registers → Performing image (x .«commands_at») (x .«expressions_at») registers n
+pub performing : {image : List ℕ} {x : Design} {registers : List ℕ} {n : ℕ} → Executing image x n → length registers ≡ 4 * x .registers → Performing image (x .«registers_at») (x .«commands_at») (x .«expressions_at») registers n
 performing executing area =
     record {
       design = _;
       known = executing .known;
       command = command-at (executing .known .describes) (executing .known .commands) (executing .node) refl;
+      registers-begin = refl;
       expressions-begin = refl;
       area = area;
     }
@@ -285,24 +304,24 @@ module _ {image : List ℕ} {x : Design} {n : ℕ} (executing : Executing image 
   answer-inside below = counted-inside (executing .known) below
 
   module _ (before after : List ℕ) {l k : ℕ}
-      (ran : executedAs (valuesIn (designOf image) after) (cameTo (commandAt (designOf image) l)) ≡ exec (valuesIn (designOf image) before) (cmdOf (designOf image) n))
+      (ran : executedAs (valuesIn (designOf image) after) (cameTo (commandAt (designOf image) l)) ≡ exec (designOf image .registers) (valuesIn (designOf image) before) (cmdOf (designOf image) n))
       (below : l < length (designOf image .commands))
       (p : k ≡ nodeIn image (x .«commands_at») l .kind) where
     kind-known : {m : ℕ} → k ≡ m → commandAt (designOf image) l .kind ≡ m
     kind-known q = sym (p ∙ ap (λ (y : Node). y .kind) (counted-in (executing .known) below)) ∙ q
 
-    answers : {o : Outcome} → cameTo (commandAt (designOf image) l) ≡ o → executedAs (wordsOf (x .registers) after) o ≡ exec (wordsOf (x .registers) before) (cmdOf (designOf image) n)
+    answers : {o : Outcome} → cameTo (commandAt (designOf image) l) ≡ o → executedAs (wordsOf (x .registers) after) o ≡ exec (designOf image .registers) (wordsOf (x .registers) before) (cmdOf (designOf image) n)
     answers came = rw (registers-count (executing .known .describes), ← came) ran
 
-    pub answers-fall : k ≡ 3 → executedAs (wordsOf (x .registers) after) (Transferred Fall) ≡ exec (wordsOf (x .registers) before) (cmdOf (designOf image) n)
+    pub answers-fall : k ≡ 3 → executedAs (wordsOf (x .registers) after) (Transferred Fall) ≡ exec (designOf image .registers) (wordsOf (x .registers) before) (cmdOf (designOf image) n)
     answers-fall q = answers (came-fall (commandAt (designOf image) l) (kind-known q))
 
-    pub answers-goto : {s : ℕ} → k ≡ 4 → s ≡ nodeIn image (x .«commands_at») l .item → executedAs (wordsOf (x .registers) after) (Transferred (Goto s)) ≡ exec (wordsOf (x .registers) before) (cmdOf (designOf image) n)
+    pub answers-goto : {s : ℕ} → k ≡ 4 → s ≡ nodeIn image (x .«commands_at») l .item → executedAs (wordsOf (x .registers) after) (Transferred (Goto s)) ≡ exec (designOf image .registers) (wordsOf (x .registers) before) (cmdOf (designOf image) n)
     answers-goto {s} q f =
         let named : s ≡ commandAt (designOf image) l .item = f ∙ ap (λ (y : Node). y .item) (counted-in (executing .known) below) in
         answers (came-goto (commandAt (designOf image) l) (kind-known q) ∙ rw named)
 
-    pub answers-on : (k ≡ 3 → ⊥) → (k ≡ 4 → ⊥) → executedAs (wordsOf (x .registers) after) Continued ≡ exec (wordsOf (x .registers) before) (cmdOf (designOf image) n)
+    pub answers-on : (k ≡ 3 → ⊥) → (k ≡ 4 → ⊥) → executedAs (wordsOf (x .registers) after) Continued ≡ exec (designOf image .registers) (wordsOf (x .registers) before) (cmdOf (designOf image) n)
     answers-on a b = answers (came-on (commandAt (designOf image) l) k (kind-known refl) a b)
 
 pub ruleset last-run-laws = (command-place-inside, command-below, last-inside, written-inside, executes-leaf, executes-assign, executes-first, executes-second, executes-other, executes-taken, put-same-length)

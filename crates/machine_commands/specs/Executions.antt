@@ -26,10 +26,11 @@ pub record Evaluating (image : List ℕ) (at : ℕ) (registers : List ℕ) (e : 
   pub expression : ExpressionAt image design at e
   pub area : length registers ≡ wordLength * design .registers
 
-pub record Performing (image : List ℕ) (commandsAt expressionsAt : ℕ) (registers : List ℕ) (n : ℕ) : Type 0 where
+pub record Performing (image : List ℕ) (registersAt commandsAt expressionsAt : ℕ) (registers : List ℕ) (n : ℕ) : Type 0 where
   pub design : Design
   pub known : RecordsKept image design
   pub command : CommandAt image design commandsAt n
+  pub registers-begin : registersAt ≡ design .«registers_at»
   pub expressions-begin : expressionsAt ≡ design .«expressions_at»
   pub area : length registers ≡ wordLength * design .registers
 

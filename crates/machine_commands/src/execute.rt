@@ -1,6 +1,7 @@
 // What a command does to the registers, and what it comes to, by recursion over parts.
 use crate::evaluate::evaluate;
 use design::Design;
+use design::widths::cut;
 use design::words::put_word;
 use model::Ending;
 use model::Outcome;
@@ -28,13 +29,14 @@ fn transfers(kind: u8) -> bool
 // A reborrow keeps the slice in registers of the processor; image itself would go through memory.
 fn last_run(
     image: &[u8],
+    registers_at: usize,
     commands_at: usize,
     expressions_at: usize,
     registers: &mut [u8],
     n: usize,
 ) -> usize
-    requires { ⌜ Performing (now image) «commands_at» «expressions_at» (now registers) n ⌝ }
-    ensures { λ l. ⌜ (executedAs (valuesIn (designOf (now (image .entry))) (now (registers .exit))) (cameTo (commandAt (designOf (now (image .entry))) l)) ≡ exec (valuesIn (designOf (now (image .entry))) (now (registers .entry))) (cmdOf (designOf (now (image .entry))) n)) × (l < length (designOf (now (image .entry)) .commands)) × (length (now (registers .exit)) ≡ length (now (registers .entry))) ⌝ }
+    requires { ⌜ Performing (now image) «registers_at» «commands_at» «expressions_at» (now registers) n ⌝ }
+    ensures { λ l. ⌜ (executedAs (valuesIn (designOf (now (image .entry))) (now (registers .exit))) (cameTo (commandAt (designOf (now (image .entry))) l)) ≡ exec (designOf (now (image .entry)) .registers) (valuesIn (designOf (now (image .entry))) (now (registers .entry))) (cmdOf (designOf (now (image .entry))) n)) × (l < length (designOf (now (image .entry)) .commands)) × (length (now (registers .exit)) ≡ length (now (registers .entry))) ⌝ }
 {
     let a = Design::part_a(image, commands_at, n);
     let b = Design::part_b(image, commands_at, n);
@@ -42,22 +44,51 @@ fn last_run(
         1 => {
             let r = Design::item(image, commands_at, n);
             let v = evaluate(&*image, expressions_at, &*registers, a);
-            put_word(registers, r, v);
+            let width = Design::register_width(image, registers_at, r);
+            put_word(registers, r, cut(v, width));
             n
         }
         2 => {
-            let first = last_run(&*image, commands_at, expressions_at, registers, a);
+            let first = last_run(
+                &*image,
+                registers_at,
+                commands_at,
+                expressions_at,
+                registers,
+                a,
+            );
             if transfers(Design::kind(image, commands_at, first)) {
                 return first;
             }
-            last_run(&*image, commands_at, expressions_at, registers, b)
+            last_run(
+                &*image,
+                registers_at,
+                commands_at,
+                expressions_at,
+                registers,
+                b,
+            )
         }
         5 => {
             let c = Design::part_c(image, commands_at, n);
             if evaluate(&*image, expressions_at, &*registers, a) == 0 {
-                return last_run(&*image, commands_at, expressions_at, registers, c);
+                return last_run(
+                    &*image,
+                    registers_at,
+                    commands_at,
+                    expressions_at,
+                    registers,
+                    c,
+                );
             }
-            last_run(&*image, commands_at, expressions_at, registers, b)
+            last_run(
+                &*image,
+                registers_at,
+                commands_at,
+                expressions_at,
+                registers,
+                b,
+            )
         }
         _ => n,
     }
@@ -66,11 +97,12 @@ fn last_run(
 // Command n runs: the registers are what it leaves, and the answer is what it came to.
 pub fn execute(image: &[u8], design: Design, registers: &mut [u8], n: usize) -> Outcome
     requires { ⌜ Executing (now image) design n × (length (now registers) ≡ wordLength * design .registers) ⌝ }
-    ensures { λ o. ⌜ (executedAs (wordsOf (design .registers) (now (registers .exit))) o ≡ exec (wordsOf (design .registers) (now (registers .entry))) (cmdOf (designOf (now (image .entry))) n)) × (length (now (registers .exit)) ≡ length (now (registers .entry))) ⌝ }
+    ensures { λ o. ⌜ (executedAs (wordsOf (design .registers) (now (registers .exit))) o ≡ exec (designOf (now (image .entry)) .registers) (wordsOf (design .registers) (now (registers .entry))) (cmdOf (designOf (now (image .entry))) n)) × (length (now (registers .exit)) ≡ length (now (registers .entry))) ⌝ }
 {
     let at = design.commands_at;
     let last = last_run(
         image,
+        design.registers_at,
         design.commands_at,
         design.expressions_at,
         registers,

@@ -1,4 +1,4 @@
-use Rattle.checker_records.proofs.Subsets.{shifted-some, shifted-ones}
+use Rattle.design.proofs.ShiftRules.{shifted-some, shifted-ones}
 use borrow.Author.Needs.{needs}
 use Rattle.checker_records.proofs.lattice.full.Statement.{statement}
 use Rattle.checker_records.proofs.lattice.full.Tie as tie

@@ -1,6 +1,6 @@
 use borrow.Author.Needs.{needs}
 use Rattle.design.proofs.FieldRules.{command-place-inside, sequence-a-falls, sequence-b-falls, branch-b-falls, branch-c-falls, command-below}
-use Rattle.machine_commands.proofs.ExecuteRules.{last-run-laws, executes-assign, executes-first, executes-second, last-inside, put-same-length, assigned-evaluating, condition-evaluating, sequence-a-performing, sequence-b-performing, branch-b-performing, branch-c-performing}
+use Rattle.machine_commands.proofs.ExecuteRules.{last-run-laws, executes-assign, executes-first, executes-second, last-inside, width-inside, written-narrow, put-same-length, assigned-evaluating, condition-evaluating, sequence-a-performing, sequence-b-performing, branch-b-performing, branch-c-performing}
 use Prim.Native.Nat.{ℕ, _<_}
 use borrow.Fn.Kinds.{In}
 use borrow.Fn.PlainCycle.{Measures, is, falls, and}
@@ -12,6 +12,8 @@ use Rattle.design.proofs.Design.kind.Reads as kind-reads
 use Rattle.design.proofs.Design.part_a.Reads as part-a-reads
 use Rattle.design.proofs.Design.part_b.Reads as part-b-reads
 use Rattle.design.proofs.Design.part_c.Reads as part-c-reads
+use Rattle.design.proofs.Design.register_width.Reads as register-width-reads
+use Rattle.design.proofs.widths.cut.Reads as cut-reads
 use Rattle.design.proofs.words.put_word.Reads as put-word-reads
 use Rattle.machine_commands.proofs.evaluate.evaluate.Reads as evaluate-reads
 use Rattle.machine_commands.proofs.execute.transfers.Reads as transfers-reads
@@ -19,7 +21,7 @@ use Rattle.machine_commands.proofs.execute.+last_run.{statement}
 use Rattle.machine_commands.proofs.execute.+last_run.Tie.{close}
 
 abbrev μ-last-run : Measures 2 last-run-kinds.ps ℕ
-μ-last-run κs a = a .1 .1 .1 .1 .0
+μ-last-run κs a = a .1 .1 .1 .1 .1 .0
 
 abbrev last-run-at : ℕ → In 2 last-run-kinds.ps
 last-run-at t = and 2 last-run-kinds.ps (is 2 last-run-kinds.ps μ-last-run t) last-run.Pre
@@ -30,7 +32,7 @@ last-run-below t =
 
 -- what the callees ask and tell
 abbrev last-run-calls : ℕ → last-run-lts.Claims
-last-run-calls t = (part-a-reads.Asked, part-a-reads.Learnt, part-b-reads.Asked, part-b-reads.Learnt, kind-reads.Asked, kind-reads.Learnt, item-reads.Asked, item-reads.Learnt, evaluate-reads.Asked, evaluate-reads.Learnt, put-word-reads.Asked, put-word-reads.Learnt, last-run-below t, last-run.Post, transfers-reads.Asked, transfers-reads.Learnt, part-c-reads.Asked, part-c-reads.Learnt)
+last-run-calls t = (part-a-reads.Asked, part-a-reads.Learnt, part-b-reads.Asked, part-b-reads.Learnt, kind-reads.Asked, kind-reads.Learnt, item-reads.Asked, item-reads.Learnt, evaluate-reads.Asked, evaluate-reads.Learnt, register-width-reads.Asked, register-width-reads.Learnt, cut-reads.Asked, cut-reads.Learnt, put-word-reads.Asked, put-word-reads.Learnt, last-run-below t, last-run.Post, transfers-reads.Asked, transfers-reads.Learnt, part-c-reads.Asked, part-c-reads.Learnt)
 
 last-run-part-a-requires : (t : ℕ) → last-run-lts.Need-part-a-requires (last-run-calls t) (last-run-at t) last-run.Post
 last-run-part-a-requires t c κs = search (command-place-inside, needs)
@@ -46,6 +48,12 @@ last-run-item-requires t c κs = search (command-place-inside, needs)
 
 last-run-evaluate-requires : (t : ℕ) → last-run-lts.Need-evaluate-requires (last-run-calls t) (last-run-at t) last-run.Post
 last-run-evaluate-requires t c κs = search assigned-evaluating
+
+last-run-register-width-requires : (t : ℕ) → last-run-lts.Need-register-width-requires (last-run-calls t) (last-run-at t) last-run.Post
+last-run-register-width-requires t c κs = search (width-inside, needs)
+
+last-run-cut-requires : (t : ℕ) → last-run-lts.Need-cut-requires (last-run-calls t) (last-run-at t) last-run.Post
+last-run-cut-requires t c κs = search (written-narrow, needs)
 
 last-run-put-word-requires : (t : ℕ) → last-run-lts.Need-put-word-requires (last-run-calls t) (last-run-at t) last-run.Post
 last-run-put-word-requires t c κs = search (last-run-laws, needs)
@@ -116,6 +124,8 @@ pub +last-run-spec : {M : Type 1} → statement M
     (last-run-kind-requires t)
     (last-run-item-requires t)
     (last-run-evaluate-requires t)
+    (last-run-register-width-requires t)
+    (last-run-cut-requires t)
     (last-run-put-word-requires t)
     (last-run-last-run-requires t)
     (last-run-kind-requires-2 t)
