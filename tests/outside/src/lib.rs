@@ -1,5 +1,5 @@
-//! An implementation of document 01 with request E1 of document 02, written from the documents
-//! alone, a generator of images, and the means to compare both with the proved library.
+//! An implementation of document 01 with requests E1 and E2 of document 02, written from the
+//! documents alone, a generator of images, and the means to compare both with the proved library.
 
 pub mod answer;
 #[cfg(feature = "library")]

@@ -32,6 +32,10 @@ fn main() -> ExitCode {
         findings.hidden_differences
     );
     println!(
+        "  {} writes of values too large were struck out",
+        findings.too_large
+    );
+    println!(
         "{} of {} lists made not to match were seen to differ",
         findings.altered_seen, findings.altered
     );
@@ -41,6 +45,7 @@ fn main() -> ExitCode {
     );
     let able = [
         findings.hidden_differences,
+        findings.too_large,
         findings.altered_seen,
         findings.from_top_seen,
     ];

@@ -32,7 +32,7 @@ fn the_largest_design_is_the_largest_image() {
     let mut random = Random::new(12);
     let image = design(&mut random, Size::LARGEST).image();
     assert_eq!(image.len(), LARGEST_IMAGE);
-    assert_eq!(LARGEST_IMAGE, 25_268);
+    assert_eq!(LARGEST_IMAGE, 25_332);
     assert_eq!(reference::check(&image).number, 0);
 }
 
@@ -55,6 +55,68 @@ fn faults_are_met() {
     for &number in refusal::IMAGE {
         let met = met[number as usize];
         assert!(met >= 20, "refusal {number} met {met} times in 200");
+    }
+}
+
+/// Every reason of refusal 3 is met: label, kind, width and reset value.
+#[test]
+fn register_faults_are_met() {
+    let mut random = Random::new(16);
+    let mut met = [0; 4];
+    for _ in 0..400 {
+        let size = Size::random(&mut random);
+        let spoiled = faults::spoiled(&design(&mut random, size), &[3], &mut random);
+        let answer = reference::check(&spoiled.image());
+        if answer.number == 3 {
+            let register = spoiled.registers[answer.place];
+            let reason = if usize::from(register.label) >= spoiled.rows.len() {
+                0
+            } else if register.kind > PORT {
+                1
+            } else if !(1..=32).contains(&register.width) {
+                2
+            } else {
+                3
+            };
+            met[reason] += 1;
+        }
+    }
+    assert!(met.iter().all(|&met| met >= 50), "{met:?}");
+}
+
+/// Designs have narrow and wide registers of both kinds, and reset values at both ends.
+#[test]
+fn widths_are_met() {
+    let mut random = Random::new(17);
+    let mut met = [[[0; 2]; 33]; 2];
+    for _ in 0..300 {
+        let size = Size::random(&mut random);
+        for register in design(&mut random, size).registers {
+            let met = &mut met[usize::from(register.kind)][usize::from(register.width)];
+            met[0] += usize::from(register.reset == 0);
+            met[1] += usize::from(register.reset == register.most());
+        }
+    }
+    for widths in met {
+        assert_eq!(widths[0], [0, 0]);
+        assert!(widths[1..].iter().flatten().all(|&met| met > 0));
+    }
+}
+
+#[test]
+fn values_on_either_side_of_a_width() {
+    let mut random = Random::new(18);
+    for width in 1..=32 {
+        let bound = 1u64 << width;
+        let fitting: Vec<u64> = (0..200).map(|_| random.fitting(width).into()).collect();
+        assert!(fitting.iter().all(|&value| value < bound));
+        assert!(fitting.contains(&0) && fitting.contains(&(bound - 1)));
+        let too_large: Vec<u64> = (0..200)
+            .filter_map(|_| random.too_large(width))
+            .map(u64::from)
+            .collect();
+        assert!(too_large.iter().all(|&value| value >= bound));
+        assert_eq!(too_large.contains(&bound), width < 32);
     }
 }
 

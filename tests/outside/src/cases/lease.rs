@@ -13,12 +13,12 @@ fn listed(count: u16) -> String {
 #[test]
 fn image_has_the_documented_pairs() {
     let image = lease().image();
-    assert_eq!(image.len(), 208);
+    assert_eq!(image.len(), 210);
     let fields: Vec<u16> = image[..20]
         .chunks(2)
         .map(|field| u16::from_le_bytes([field[0], field[1]]))
         .collect();
-    assert_eq!(fields, [20, 4, 24, 12, 36, 20, 56, 104, 160, 48]);
+    assert_eq!(fields, [20, 4, 24, 14, 38, 20, 58, 104, 162, 48]);
 }
 
 #[test]

@@ -1,27 +1,10 @@
 //! The lengths of the areas, and refusals 13 to 15: areas, targets, ports and cycle counts. No lent
 //! byte changes.
 
-use super::Areas;
+use super::{refused, refused_run, Areas};
 use crate::answer::Answer;
 use crate::designs::{lease, smallest, timer_is_a_port, two_groups};
 use crate::reference;
-
-/// Makes the call on copies and sees that a refusal leaves them alone.
-fn refused(
-    areas: &Areas,
-    call: impl Fn(&[u8], &mut Vec<u8>, &mut Vec<u8>) -> Answer,
-) -> (u32, usize) {
-    let (mut registers, mut targets) = (areas.registers.clone(), areas.targets.clone());
-    let answer = call(&areas.image, &mut registers, &mut targets);
-    assert_ne!(answer.number, 0);
-    assert_eq!(answer.count, 0);
-    assert_eq!((&registers, &targets), (&areas.registers, &areas.targets));
-    (answer.number, answer.place)
-}
-
-fn refused_run(areas: &Areas, cycles: u32) -> (u32, usize) {
-    refused(areas, |image, r, t| reference::run(image, r, t, cycles))
-}
 
 #[test]
 fn ports() {

@@ -1,5 +1,6 @@
 //! The cases that documents and decisions give, run on the reference itself.
 
+mod contents;
 mod examples;
 mod generator;
 mod groups;
@@ -7,6 +8,7 @@ mod lease;
 mod lengths;
 mod ports;
 mod values;
+mod widths;
 
 use crate::answer::Answer;
 use crate::reference;
@@ -44,6 +46,13 @@ impl Areas {
         reference::walk(&self.image, &self.registers, &self.targets).unwrap()
     }
 
+    fn set_values(&mut self, values: &[u32]) {
+        self.registers = values
+            .iter()
+            .flat_map(|value| value.to_le_bytes())
+            .collect();
+    }
+
     fn values(&self) -> Vec<u32> {
         let (values, _) = self.registers.as_chunks::<4>();
         values
@@ -51,4 +60,21 @@ impl Areas {
             .map(|value| u32::from_le_bytes(*value))
             .collect()
     }
+}
+
+/// Makes the call on copies and sees that a refusal leaves them alone.
+fn refused(
+    areas: &Areas,
+    call: impl Fn(&[u8], &mut Vec<u8>, &mut Vec<u8>) -> Answer,
+) -> (u32, usize) {
+    let (mut registers, mut targets) = (areas.registers.clone(), areas.targets.clone());
+    let answer = call(&areas.image, &mut registers, &mut targets);
+    assert_ne!(answer.number, 0);
+    assert_eq!(answer.count, 0);
+    assert_eq!((&registers, &targets), (&areas.registers, &areas.targets));
+    (answer.number, answer.place)
+}
+
+fn refused_run(areas: &Areas, cycles: u32) -> (u32, usize) {
+    refused(areas, |image, r, t| reference::run(image, r, t, cycles))
 }

@@ -12,12 +12,14 @@ use crate::reference::image::PORT;
 fn a_run_leaves_every_port_as_it_was() {
     let mut random = Random::new(15);
     let (mut with_ports, mut with_changes) = (0, 0);
-    for _ in 0..200 {
+    for _ in 0..300 {
         let size = Size::random(&mut random);
         let table = design(&mut random, size);
         let mut areas = Areas::reset(&table);
-        areas.registers.fill_with(|| random.bits() as u8);
-        let before = areas.values();
+        let before: Vec<u32> = (table.registers.iter())
+            .map(|register| random.bits() as u32 & register.most())
+            .collect();
+        areas.set_values(&before);
         assert_eq!(areas.run(20), Answer::accepted(20));
         let after = areas.values();
         let ports = table.of_kind(PORT);

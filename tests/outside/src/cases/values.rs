@@ -32,7 +32,7 @@ fn p4_subtracting_wraps() {
 
 #[test]
 fn an_assignment_shows_at_the_next_read() {
-    let mut areas = Areas::reset(&seen_by_the_child());
+    let mut areas = Areas::reset(&seen_by_the_child(7));
     areas.run(1);
     assert_eq!(areas.targets[0], 2);
     let mut areas = Areas::reset(&assigns_twice());

@@ -2,6 +2,7 @@
 //! of the areas.
 
 use super::difference::Difference;
+use super::reasons::note_register;
 use super::tally::Tally;
 use crate::answer::Answer;
 use crate::generate::random::Random;
@@ -53,9 +54,9 @@ impl Tallies {
     pub fn missing(&self) -> Vec<String> {
         let mut missing = Vec::new();
         for (call, tally) in CALLS.iter().zip(&self.0) {
-            // These take no area, no register and no cycle count.
-            for number in tally.missing(&[13, 14, 15]) {
-                missing.push(format!("{number} of {}", call.name));
+            // These take no area, no register, no value and no cycle count.
+            for what in tally.missing(&[13, 14, 15, 17]) {
+                missing.push(format!("{}: {what}", call.name));
             }
         }
         missing
@@ -83,6 +84,7 @@ impl Judges<'_> {
                 return Err(Difference::new(&image, call.name, changed, ""));
             }
             tally.add(expected, image.len());
+            note_register(tally, &image, expected);
         }
         Ok(())
     }
@@ -101,13 +103,13 @@ pub fn fixed_images(tallies: &mut Tallies) -> Result<(), Difference> {
         calls: &CALLS,
         tallies,
     };
-    for table in [designs::lease(), designs::two_groups(), designs::smallest()] {
+    for table in designs::worked() {
         let image = table.image();
         for length in 0..image.len() {
             judges.compare(image[..length].to_vec())?;
         }
         for place in 0..image.len() {
-            for byte in [0, 1, 2, 3, 4, 5, 6, 8, 9, 16, 64, 128, 255] {
+            for byte in [0, 1, 2, 3, 4, 5, 6, 8, 9, 10, 16, 31, 32, 33, 64, 128, 255] {
                 let mut changed = image.clone();
                 changed[place] = byte;
                 judges.compare(changed)?;

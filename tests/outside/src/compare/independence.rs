@@ -3,7 +3,7 @@
 use super::areas::Areas;
 use super::difference::Difference;
 use super::engine::Call;
-use super::matching::{altered, common_list, dressed};
+use super::matching::{altered, common_list, dressed, is_too_large};
 use super::view::Stage;
 use crate::generate::random::Random;
 use crate::generate::{design, faults, Size};
@@ -23,6 +23,8 @@ pub struct Findings {
     pub refused: u64,
     /// Matching lists after which some register not at or below the level differs.
     pub hidden_differences: u64,
+    /// Writes of values too large, struck out of one list or the other.
+    pub too_large: u64,
     /// Lists made not to match, and how many of them were seen to differ.
     pub altered: u64,
     pub altered_seen: u64,
@@ -64,6 +66,8 @@ fn try_pair(stage: &Stage, random: &mut Random, findings: &mut Findings) -> Resu
     let one = stage.watch(level, &lists[0], &mut areas[0])?;
     let other = stage.watch(level, &lists[1], &mut areas[1])?;
     findings.pairs += 1;
+    let calls = lists.iter().flatten();
+    findings.too_large += calls.filter(|call| is_too_large(call, table)).count() as u64;
     findings.cycles += one.cycles.len() as u64;
     if one != other {
         let what = format!("matching lists at level {level}: {lists:?}");
@@ -105,6 +109,7 @@ fn small_design(random: &mut Random) -> Table {
     let mut table = match random.below(20) {
         0 => designs::lease(),
         1 => designs::two_groups(),
+        2 => designs::valve(),
         _ => {
             let size = Size {
                 labels: *random.pick(&[2, 2, 3, 4, 5, 15]),
@@ -128,13 +133,14 @@ fn small_design(random: &mut Random) -> Table {
     table
 }
 
-/// Any areas, reset, and then any values in the registers not at or below the level.
+/// Any areas, reset, and then any values within their widths in the registers not at or below the
+/// level.
 fn start(stage: &Stage, level: u8, random: &mut Random) -> Areas {
     let mut areas = Areas::new(stage.table, random);
     stage.make(Call::Reset, &mut areas);
     for (register, record) in stage.table.registers.iter().enumerate() {
         if !stage.table.flows(record.label, level) {
-            areas.set_value(register, random.value());
+            areas.set_value(register, random.fitting(record.width));
         }
     }
     areas

@@ -38,6 +38,7 @@ fn any_input(random: &mut Random) -> Vec<u8> {
         0 => designs::lease(),
         1 => designs::two_groups(),
         2 => designs::smallest(),
+        3 => designs::valve(),
         _ => design(random, size),
     };
     let count = match random.below(8) {

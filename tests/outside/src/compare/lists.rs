@@ -2,15 +2,16 @@
 //! all bytes of both areas and their guards are compared.
 
 use super::areas::Areas;
+use super::chance::{any_call, any_lengths, disturb};
 use super::difference::Difference;
 use super::engine::{Call, LIBRARY, REFERENCE};
+use super::reasons::{note_call, Lent};
 use super::tally::Tally;
 use crate::designs;
 use crate::generate::random::Random;
 use crate::generate::{design, faults, Size};
 use crate::reference::image::{Image, PORT};
 use crate::reference::refusal;
-use crate::table::Table;
 
 const CALLS: usize = 40;
 
@@ -33,12 +34,12 @@ impl Tallies {
     pub fn missing(&self) -> Vec<String> {
         let mut missing = Vec::new();
         for (name, tally, never) in [
-            ("reset", &self.reset, &[13, 15][..]),
+            ("reset", &self.reset, &[13, 15, 17][..]),
             ("port write", &self.write_port, &[15]),
-            ("run", &self.run, &[13]),
+            ("run", &self.run, &[13, 17]),
         ] {
-            for number in tally.missing(never) {
-                missing.push(format!("{number} of {name}"));
+            for what in tally.missing(never) {
+                missing.push(format!("{name}: {what}"));
             }
         }
         missing
@@ -65,6 +66,7 @@ impl Pair<'_> {
     fn make(&mut self, call: Call, registers: usize, targets: usize) -> Result<(), Difference> {
         let image = self.image.to_vec().into_boxed_slice();
         let ports = self.port_values();
+        let mut before = self.reference.clone();
         let given = LIBRARY.make(
             call,
             &image,
@@ -89,7 +91,14 @@ impl Pair<'_> {
             let what = format!("{what}: a run that changed a port, by both");
             return Err(Difference::new(self.image, &what, given, expected));
         }
-        self.tallies.of(call).add(expected, self.image.len());
+        let tally = self.tallies.of(call);
+        tally.add(expected, self.image.len());
+        let lent = Lent {
+            image: self.image,
+            registers: before.registers.lend(registers),
+            targets: before.targets.lend(targets),
+        };
+        note_call(tally, call, &lent, expected);
         Ok(())
     }
 
@@ -106,9 +115,9 @@ impl Pair<'_> {
     }
 
     /// The host writes the areas between two calls.
-    fn change(&mut self, change: impl Fn(&mut Areas)) {
-        change(&mut self.library);
-        change(&mut self.reference);
+    fn change(&mut self, random: &mut Random, change: impl Fn(&mut Areas, &mut Random)) {
+        change(&mut self.library, &mut random.clone());
+        change(&mut self.reference, random);
     }
 }
 
@@ -131,12 +140,12 @@ pub fn lists_of_seed(seed: u64, tallies: &mut Tallies) -> Result<(), Difference>
         reference: areas,
         tallies,
     };
-    // Before the first reset the targets are any bytes.
+    // Before the first reset registers and targets are any bytes.
     if random.percent(80) {
         pair.make(Call::Reset, 4 * size.registers, size.states)?;
     }
     for _ in 0..CALLS {
-        disturb(&mut pair, &table, &mut random);
+        pair.change(&mut random, |areas, random| disturb(areas, &table, random));
         let call = any_call(&table, &mut random);
         let (registers, targets) = any_lengths(&pair.library, &mut random);
         pair.make(call, registers, targets)?;
@@ -146,7 +155,7 @@ pub fn lists_of_seed(seed: u64, tallies: &mut Tallies) -> Result<(), Difference>
 
 /// The longest run on the worked designs.
 pub fn longest_runs(tallies: &mut Tallies) -> Result<(), Difference> {
-    for table in [designs::lease(), designs::two_groups(), designs::smallest()] {
+    for table in designs::worked() {
         let areas = Areas::new(&table, &mut Random::new(0));
         let image = table.image();
         let mut pair = Pair {
@@ -162,79 +171,4 @@ pub fn longest_runs(tallies: &mut Tallies) -> Result<(), Difference> {
         }
     }
     Ok(())
-}
-
-/// What the host writes into the areas between two calls.
-fn disturb(pair: &mut Pair, table: &Table, random: &mut Random) {
-    match random.below(8) {
-        // Sound targets everywhere: choices that the design may never have made.
-        0 | 1 => {
-            let targets = any_sound_targets(table, random);
-            pair.change(|areas| areas.targets.whole().copy_from_slice(&targets));
-        }
-        // Any target: soon put right by a reset.
-        2 => {
-            let state = random.below(table.states.len());
-            let (own, any) = (state as u8, random.bits() as u8);
-            let target = *random.pick(&[0, own, own.wrapping_add(1), any]);
-            pair.change(|areas| areas.targets.whole()[state] = target);
-        }
-        3 if !table.registers.is_empty() => {
-            let register = random.below(table.registers.len());
-            let value = random.value();
-            pair.change(|areas| areas.set_value(register, value));
-        }
-        _ => {}
-    }
-}
-
-fn any_sound_targets(table: &Table, random: &mut Random) -> Vec<u8> {
-    let mut targets: Vec<u8> = (0..table.states.len() as u8).collect();
-    for (state, target) in targets.iter_mut().enumerate() {
-        let children = table.children(state);
-        if !children.is_empty() {
-            *target = *random.pick(&children);
-        }
-    }
-    targets
-}
-
-fn any_call(table: &Table, random: &mut Random) -> Call {
-    match random.below(10) {
-        0 | 1 => Call::Reset,
-        2..=4 => Call::WritePort {
-            register: match random.below(8) {
-                0 => table.registers.len() as u32,
-                1 => *random.pick(&[64, 256, 65_536, u32::MAX, 1 << 30]),
-                _ => random.below(table.registers.len().max(1)) as u32,
-            },
-            value: random.value(),
-        },
-        _ => Call::Run {
-            cycles: match random.below(8) {
-                0 => 0,
-                1 => *random.pick(&[1_000_001, 1_000_002, 1 << 31, u32::MAX]),
-                2 | 3 => 1,
-                4 if table.commands.len() < 100 => random.below(3_000) as u32,
-                _ => random.below(20) as u32,
-            },
-        },
-    }
-}
-
-/// Mostly the right lengths.
-fn any_lengths(areas: &Areas, random: &mut Random) -> (usize, usize) {
-    let mut lengths = [areas.registers.length(), areas.targets.length()];
-    if random.percent(15) {
-        let length = random.pick(&[0, 1]).to_owned();
-        let right = lengths[length];
-        lengths[length] = match random.below(5) {
-            0 => right + 1,
-            1 => right.saturating_sub(1),
-            2 => right + 4,
-            3 => right.saturating_sub(4),
-            _ => 0,
-        };
-    }
-    (lengths[0], lengths[1])
 }

@@ -8,6 +8,8 @@ pub mod tally;
 #[cfg(feature = "library")]
 mod areas;
 #[cfg(feature = "library")]
+mod chance;
+#[cfg(feature = "library")]
 pub mod check;
 #[cfg(feature = "library")]
 mod engine;
@@ -17,5 +19,7 @@ pub mod independence;
 pub mod lists;
 #[cfg(feature = "library")]
 mod matching;
+#[cfg(feature = "library")]
+mod reasons;
 #[cfg(feature = "library")]
 mod view;

@@ -1,4 +1,4 @@
-//! How often each answer was met, and at how many different places.
+//! How often each answer was met, at how many different places, and for which reasons.
 
 use crate::answer::Answer;
 use crate::reference::refusal;
@@ -7,6 +7,7 @@ use std::collections::{BTreeMap, HashSet};
 #[derive(Default)]
 pub struct Tally {
     answers: BTreeMap<u32, Hits>,
+    reasons: BTreeMap<&'static str, u64>,
 }
 
 #[derive(Default)]
@@ -28,6 +29,11 @@ impl Tally {
         *longest = image_length.max(*longest);
     }
 
+    /// A reason that some call may have, and whether this one has it.
+    pub fn note(&mut self, reason: &'static str, met: bool) {
+        *self.reasons.entry(reason).or_default() += u64::from(met);
+    }
+
     pub fn total(&self) -> u64 {
         self.answers.values().map(|hits| hits.count).sum()
     }
@@ -44,13 +50,20 @@ impl Tally {
                 hits.longest.unwrap_or(0)
             );
         }
+        for (reason, count) in &self.reasons {
+            println!("{count:>17} {reason}");
+        }
     }
 
-    /// The numbers that were not met, without those that the call never gives.
-    pub fn missing(&self, never: &[u32]) -> Vec<u32> {
-        (0..=refusal::LAST)
+    /// The numbers that were not met, without those that the call never gives, and the reasons.
+    pub fn missing(&self, never: &[u32]) -> Vec<String> {
+        let numbers = (0..=refusal::LAST)
             .filter(|number| !never.contains(number))
             .filter(|number| !self.answers.contains_key(number))
-            .collect()
+            .map(|number| number.to_string());
+        let reasons = (self.reasons.iter())
+            .filter(|(_, count)| **count == 0)
+            .map(|(reason, _)| reason.to_string());
+        numbers.chain(reasons).collect()
     }
 }

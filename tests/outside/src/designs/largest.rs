@@ -1,17 +1,21 @@
 //! A design with every count at its limit.
 
 use crate::reference::limits::{
-    MOST_COMMANDS, MOST_EXPRESSIONS, MOST_LABELS, MOST_REGISTERS, MOST_STATES,
+    MOST_COMMANDS, MOST_EXPRESSIONS, MOST_LABELS, MOST_REGISTERS, MOST_STATES, WIDEST,
 };
 use crate::table::Table;
 
-/// The labels are a chain, the odd registers ports. The root falls; each other state assigns seven
-/// or eight times and goes to the next.
+/// The labels are a chain, the odd registers ports, the widths 32 or 9 to 22. The root falls; each
+/// other state assigns seven or eight times and goes to the next.
 pub fn largest() -> Table {
     let rows: Vec<u16> = (0..MOST_LABELS).map(|label| u16::MAX << label).collect();
     let mut table = Table::new(&rows);
     for register in 0..MOST_REGISTERS {
-        table.register(0, (register % 2) as u8, 7 * register as u32);
+        let width = match register % 3 {
+            0 => WIDEST,
+            _ => 9 + (register % 14) as u8,
+        };
+        table.register(0, (register % 2) as u8, 7 * register as u32, width);
     }
     let body = table.fall();
     table.state(0, 0, body);

@@ -1,22 +1,25 @@
-//! The worked designs: document 01's lease design and the one with two groups; and small ones,
-//! each for one sentence.
+//! The worked designs: document 01's lease design, the one with two groups, and a valve for request
+//! E2; and small ones, each for one sentence.
 
 mod largest;
 mod small;
+mod valve;
 
 pub use largest::largest;
 pub use small::{
-    assigns_twice, low_child, nested_commands, nested_sums, one_operation, seen_by_the_child,
-    three_levels, three_states, timer_counted_by_a_high_state, timer_is_a_port,
+    assigns_twice, copied, low_child, nested_commands, nested_sums, one_operation,
+    seen_by_the_child, tests_one_more, three_levels, three_states, timer_counted_by_a_high_state,
+    timer_is_a_port, with_width,
 };
+pub use valve::valve;
 
 use crate::table::Table;
 
-/// Document 01's lease design, 208 bytes.
+/// Document 01's lease design, with the widths of request E2: 210 bytes.
 pub fn lease() -> Table {
     let mut table = Table::new(&[3, 2]);
-    let timer = table.inner(0, 3);
-    let port = table.port(1, 0);
+    let timer = table.inner(0, 3, 32);
+    let port = table.port(1, 0, 32);
 
     let body = table.fall();
     table.state(0, 0, body);
@@ -49,10 +52,10 @@ pub fn lease() -> Table {
 /// Figure 2(b) of document 004: the lease controller with two groups.
 pub fn two_groups() -> Table {
     let mut table = Table::new(&[3, 2]);
-    let timer = table.inner(0, 3);
-    let mode = table.inner(0, 0);
-    let high = table.port(1, 0);
-    let low = table.port(0, 0);
+    let timer = table.inner(0, 3, 32);
+    let mode = table.inner(0, 0, 32);
+    let high = table.port(1, 0, 32);
+    let low = table.port(0, 0, 32);
 
     let body = table.fall();
     table.state(0, 0, body);
@@ -89,6 +92,11 @@ pub fn two_groups() -> Table {
         table.state(parent, label, body);
     }
     table
+}
+
+/// The designs that every comparison takes besides the random ones.
+pub fn worked() -> [Table; 4] {
+    [lease(), two_groups(), valve(), smallest()]
 }
 
 /// The smallest design that can be accepted: 46 bytes.

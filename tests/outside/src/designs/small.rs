@@ -1,13 +1,13 @@
 //! Small designs.
 
 use crate::reference::image::PORT;
-use crate::table::Table;
+use crate::table::{most, Table};
 
 /// Root falls; state 1 with the given body, state 2 beside it, all of label 0; r0 low and inner, r1 high and a port.
 pub fn three_states(body: impl Fn(&mut Table) -> u16) -> Table {
     let mut table = Table::new(&[3, 2]);
-    table.inner(0, 0);
-    table.port(1, 0);
+    table.inner(0, 0, 32);
+    table.port(1, 0, 32);
     let fall = table.fall();
     table.state(0, 0, fall);
     let body = body(&mut table);
@@ -50,7 +50,7 @@ pub fn nested_commands(count: usize) -> Table {
 /// Figure 2(a): a state of label 1 counts the timer, of label 0, down.
 pub fn timer_counted_by_a_high_state() -> Table {
     let mut table = Table::new(&[3, 2]);
-    let timer = table.inner(0, 3);
+    let timer = table.inner(0, 3, 32);
     let fall = table.fall();
     table.state(0, 0, fall);
     let count = super::count_down(&mut table, timer);
@@ -78,9 +78,9 @@ pub fn timer_is_a_port() -> Table {
 /// r0 := r1 (kind) r2 in each cycle, in the root, which then falls; r1 and r2 are ports.
 pub fn one_operation(kind: u8) -> Table {
     let mut table = Table::new(&[1]);
-    let written = table.inner(0, 99);
-    let one = table.port(0, 0);
-    let other = table.port(0, 0);
+    let written = table.inner(0, 99, 32);
+    let one = table.port(0, 0, 32);
+    let other = table.port(0, 0, 32);
     let left = table.read(one);
     let right = table.read(other);
     let value = table.operation(kind, left, right);
@@ -96,7 +96,7 @@ pub fn one_operation(kind: u8) -> Table {
 /// r0 := r0 + 1; r0 := r0 + r0 in each cycle, in the root, which then falls.
 pub fn assigns_twice() -> Table {
     let mut table = Table::new(&[1]);
-    let register = table.inner(0, 0);
+    let register = table.inner(0, 0, 32);
     let old = table.read(register);
     let one = table.constant(1);
     let sum = table.add(old, one);
@@ -114,12 +114,12 @@ pub fn assigns_twice() -> Table {
     table
 }
 
-/// The root writes r0, and the child tests it in the same cycle.
-pub fn seen_by_the_child() -> Table {
+/// The root writes a number into r0, and the child tests r0 in the same cycle.
+pub fn seen_by_the_child(number: u32) -> Table {
     let mut table = Table::new(&[1]);
-    let register = table.inner(0, 0);
-    let seven = table.constant(7);
-    let assign = table.assign(register, seven);
+    let register = table.inner(0, 0, 32);
+    let value = table.constant(number);
+    let assign = table.assign(register, value);
     let fall = table.fall();
     let body = table.sequence(assign, fall);
     table.state(0, 0, body);
@@ -130,6 +130,51 @@ pub fn seen_by_the_child() -> Table {
     table.state(0, 0, body);
     let body = table.goto(2);
     table.state(0, 0, body);
+    table
+}
+
+/// r0 := the number; r1 := r0 in each cycle, in the root, which then falls; r0 has this width, r1 has
+/// 32.
+pub fn copied(width: u8, number: u32) -> Table {
+    let mut table = Table::new(&[1]);
+    let narrow = table.inner(0, 0, width);
+    let wide = table.inner(0, 0, 32);
+    let value = table.constant(number);
+    let first = table.assign(narrow, value);
+    let value = table.read(narrow);
+    let second = table.assign(wide, value);
+    let both = table.sequence(first, second);
+    let fall = table.fall();
+    let body = table.sequence(both, fall);
+    table.state(0, 0, body);
+    let body = table.goto(1);
+    table.state(0, 0, body);
+    table
+}
+
+/// State 1: if r0 + 1 then goto 2 else goto 1. r0 has this width and all its bits set at reset.
+pub fn tests_one_more(width: u8) -> Table {
+    let mut table = Table::new(&[1]);
+    let register = table.inner(0, most(width), width);
+    let body = table.fall();
+    table.state(0, 0, body);
+    let left = table.read(register);
+    let right = table.constant(1);
+    let condition = table.add(left, right);
+    let then = table.goto(2);
+    let otherwise = table.goto(1);
+    let body = table.branch(condition, then, otherwise);
+    table.state(0, 0, body);
+    let body = table.goto(2);
+    table.state(0, 0, body);
+    table
+}
+
+/// The design with another width for a register, whose reset value is cut to it.
+pub fn with_width(mut table: Table, register: usize, width: u8) -> Table {
+    let register = &mut table.registers[register];
+    register.width = width;
+    register.reset &= register.most();
     table
 }
 

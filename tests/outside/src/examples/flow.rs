@@ -103,7 +103,7 @@ pub fn examples() -> Vec<Example> {
                 }),
                 |table| {
                     table.rows = vec![15, 10, 12, 8];
-                    table.inner(2, 0);
+                    table.inner(2, 0, 32);
                 },
             ),
             10,

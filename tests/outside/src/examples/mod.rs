@@ -7,6 +7,7 @@ mod nodes;
 mod ports;
 mod records;
 mod shape;
+mod widths;
 
 use crate::table::Table;
 
@@ -19,6 +20,7 @@ pub struct Example {
 
 pub fn all() -> Vec<Example> {
     let mut examples = records::examples();
+    examples.extend(widths::examples());
     examples.extend(lattices::examples());
     examples.extend(nodes::examples());
     examples.extend(shape::examples());

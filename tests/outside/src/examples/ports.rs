@@ -89,7 +89,7 @@ fn not_at_all() -> Vec<Example> {
                     table.sequence(choice, go)
                 }),
                 |table| {
-                    table.inner(1, 0);
+                    table.inner(1, 0, 32);
                 },
             ),
         ),
@@ -145,7 +145,7 @@ fn later_checks() -> Vec<Example> {
                     table.sequence(assign, go)
                 }),
                 |table| {
-                    table.port(0, 0);
+                    table.port(0, 0, 32);
                 },
             ),
             16,

@@ -5,7 +5,7 @@ use super::lattice::{largest_lattice, lattice};
 use super::random::Random;
 use super::size::Size;
 use crate::reference::image::{INNER, PORT};
-use crate::reference::limits::MOST_LABELS;
+use crate::reference::limits::{MOST_LABELS, WIDEST};
 use crate::table::{Node, State, Table};
 
 pub fn design(random: &mut Random, size: Size) -> Table {
@@ -19,12 +19,22 @@ pub fn design(random: &mut Random, size: Size) -> Table {
         let label = random.below(rows.len()) as u8;
         // Rather an inner one: only these are assigned to.
         let kind = if random.percent(40) { PORT } else { INNER };
-        table.register(label, kind, random.value());
+        table.register(label, kind, random.value(), WIDEST);
     }
     table.states = states(random, &table, size.states);
     write_bodies(random, &mut table, size);
     table.renumber(random);
+    narrow(random, &mut table);
     table
+}
+
+/// Widths come last, so that they leave the bodies of a seed as they are. Reset values stay within,
+/// mostly at a boundary.
+fn narrow(random: &mut Random, table: &mut Table) {
+    for register in &mut table.registers {
+        register.width = random.width();
+        register.reset = random.fitting(register.width);
+    }
 }
 
 /// A tree of some shape; labels rise from parent to child.

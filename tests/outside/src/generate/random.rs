@@ -1,5 +1,8 @@
 //! Seeded random numbers (splitmix64): the same seed gives the same images everywhere.
 
+use crate::reference::limits::WIDEST;
+use crate::table::most;
+
 #[derive(Clone)]
 pub struct Random {
     state: u64,
@@ -60,5 +63,42 @@ impl Random {
             4 => 1 << self.below(32),
             _ => self.bits() as u32,
         }
+    }
+
+    /// A width, often the widest, a flag's or a valve position's.
+    pub fn width(&mut self) -> u8 {
+        match self.below(4) {
+            0 => WIDEST,
+            1 | 2 => *self.pick(&[1, 1, 2, 8, 10, 10, 16, 31]),
+            _ => self.between(1, WIDEST.into()) as u8,
+        }
+    }
+
+    /// A value of so many bits, often the least or the largest.
+    pub fn fitting(&mut self, width: u8) -> u32 {
+        let most = most(width);
+        match self.below(6) {
+            0 | 1 => 0,
+            2 | 3 => most,
+            4 => most - (self.below(3) as u32).min(most),
+            _ => self.value() & most,
+        }
+    }
+
+    /// A value of more bits than these, often the least such; no value has more than 32.
+    pub fn too_large(&mut self, width: u8) -> Option<u32> {
+        if width == WIDEST {
+            return None;
+        }
+        let above = 1 << self.between(width.into(), 31);
+        Some(match self.below(6) {
+            0 | 1 => 1 << width,
+            // One bit more, all bits set.
+            2 => most(width + 1),
+            3 => u32::MAX,
+            // One bit above, the others within.
+            4 => above | self.fitting(width),
+            _ => above | self.bits() as u32,
+        })
     }
 }

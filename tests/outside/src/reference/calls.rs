@@ -52,12 +52,9 @@ pub fn run(image: &[u8], registers: &mut [u8], targets: &mut [u8], cycles: u32) 
 pub fn walk(image: &[u8], registers: &[u8], targets: &[u8]) -> Result<Vec<u8>, Refusal> {
     let image = judge(image)?;
     let machine = Machine::new(&image);
-    judge_areas(&image, registers, Some(targets))?;
-    judge_targets(&machine, targets)?;
+    let mut now = judge_areas(&image, &machine, registers, targets)?;
     let mut walk = Vec::new();
-    machine.cycle(&mut values(registers), &mut targets.to_vec(), |state| {
-        walk.push(state)
-    });
+    machine.cycle(&mut now, &mut targets.to_vec(), |state| walk.push(state));
     Ok(walk)
 }
 
@@ -67,7 +64,8 @@ fn answer(result: Result<usize, Refusal>) -> Answer {
 
 fn try_reset(bytes: &[u8], registers: &mut [u8], targets: &mut [u8]) -> Result<usize, Refusal> {
     let image = judge(bytes)?;
-    judge_areas(&image, registers, Some(targets))?;
+    // Both areas are overwritten whole.
+    judge_lengths(&image, registers, Some(targets))?;
     for (place, register) in registers.chunks_exact_mut(4).zip(image.registers()) {
         place.copy_from_slice(&register.reset.to_le_bytes());
     }
@@ -82,16 +80,20 @@ fn try_write_port(
     value: u32,
 ) -> Result<usize, Refusal> {
     let image = judge(bytes)?;
-    // Port write judges 14 before 13.
-    judge_areas(&image, registers, None)?;
+    // Port write judges 14 before 13, and the whole area, of which it overwrites one register.
+    judge_lengths(&image, registers, None)?;
+    judge_contents(&image, &values(registers))?;
     let place = number as usize;
-    match image.registers().nth(place) {
-        Some(register) if register.kind == PORT => {
-            registers[4 * place..4 * place + 4].copy_from_slice(&value.to_le_bytes());
-            Ok(0)
-        }
-        _ => Err(Refusal::new(13, place)),
+    let port = image
+        .registers()
+        .nth(place)
+        .filter(|register| register.kind == PORT)
+        .ok_or(Refusal::new(13, place))?;
+    if value > port.most() {
+        return Err(Refusal::new(17, place));
     }
+    registers[4 * place..4 * place + 4].copy_from_slice(&value.to_le_bytes());
+    Ok(0)
 }
 
 fn try_run(
@@ -101,13 +103,11 @@ fn try_run(
     cycles: u32,
 ) -> Result<usize, Refusal> {
     let image = judge(bytes)?;
-    judge_areas(&image, registers, Some(targets))?;
     let machine = Machine::new(&image);
-    judge_targets(&machine, targets)?;
+    let mut now = judge_areas(&image, &machine, registers, targets)?;
     if cycles > MOST_CYCLES {
         return Err(Refusal::new(15, 0));
     }
-    let mut now = values(registers);
     for _ in 0..cycles {
         machine.cycle(&mut now, targets, |_| {});
     }
@@ -117,14 +117,37 @@ fn try_run(
     Ok(cycles as usize)
 }
 
+/// Refusal 14 in its order: lengths, contents, targets. Gives the registers' values.
+fn judge_areas(
+    image: &Image,
+    machine: &Machine,
+    registers: &[u8],
+    targets: &[u8],
+) -> Result<Vec<u32>, Refusal> {
+    judge_lengths(image, registers, Some(targets))?;
+    let values = values(registers);
+    judge_contents(image, &values)?;
+    judge_targets(machine, targets)?;
+    Ok(values)
+}
+
 /// Refusal 14, a wrong length: place 0.
-fn judge_areas(image: &Image, registers: &[u8], targets: Option<&[u8]>) -> Result<(), Refusal> {
+fn judge_lengths(image: &Image, registers: &[u8], targets: Option<&[u8]>) -> Result<(), Refusal> {
     let fitting = registers.len() == 4 * image.registers().len()
         && targets.is_none_or(|targets| targets.len() == image.states().len());
     if fitting {
         Ok(())
     } else {
         Err(Refusal::new(14, 0))
+    }
+}
+
+/// Refusal 14, request E2, a value too large: the lowest such register.
+fn judge_contents(image: &Image, values: &[u32]) -> Result<(), Refusal> {
+    let mut pairs = image.registers().zip(values);
+    match pairs.position(|(register, value)| *value > register.most()) {
+        Some(register) => Err(Refusal::new(14, register)),
+        None => Ok(()),
     }
 }
 

@@ -30,6 +30,14 @@ pub struct Register {
     pub label: u8,
     pub kind: u8,
     pub reset: u32,
+    pub width: u8,
+}
+
+impl Register {
+    /// 2 to the power of the width, less 1. Expects a width in its range.
+    pub fn most(&self) -> u32 {
+        u32::MAX >> (WIDEST - self.width)
+    }
 }
 
 pub struct State {
@@ -87,10 +95,11 @@ impl<'a> Image<'a> {
     pub fn registers(&self) -> impl ExactSizeIterator<Item = Register> + 'a {
         self.registers
             .iter()
-            .map(|&[label, kind, r0, r1, r2, r3]| Register {
+            .map(|&[label, kind, r0, r1, r2, r3, width]| Register {
                 label,
                 kind,
                 reset: u32::from_le_bytes([r0, r1, r2, r3]),
+                width,
             })
     }
 

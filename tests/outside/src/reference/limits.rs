@@ -1,9 +1,9 @@
-//! The numbers of document 01.
+//! The numbers of document 01, and those that document 02 puts in their place.
 
 pub const DIRECTORY_BYTES: usize = 20;
 
 pub const ROW_BYTES: usize = 2;
-pub const REGISTER_BYTES: usize = 6;
+pub const REGISTER_BYTES: usize = 7;
 pub const STATE_BYTES: usize = 4;
 pub const NODE_BYTES: usize = 8;
 
@@ -12,6 +12,9 @@ pub const MOST_REGISTERS: usize = 64;
 pub const MOST_STATES: usize = 64;
 pub const MOST_COMMANDS: usize = 1_024;
 pub const MOST_EXPRESSIONS: usize = 2_048;
+
+/// The bits of the widest register; the narrowest has one.
+pub const WIDEST: u8 = 32;
 
 pub const DEEPEST: u8 = 64;
 pub const MOST_CYCLES: u32 = 1_000_000;

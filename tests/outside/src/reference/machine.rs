@@ -1,4 +1,4 @@
-//! A cycle by the step rules, on an accepted image and sound targets.
+//! A cycle by the step rules, on an accepted image, values within their widths and sound targets.
 
 use super::image::*;
 
@@ -47,6 +47,8 @@ pub struct Machine {
     commands: Vec<Command>,
     expressions: Vec<Expression>,
     bodies: Vec<u16>,
+    /// The largest value of each register: all bits of its width.
+    most: Vec<u32>,
     parents: Vec<u8>,
     /// The default child of each state; a childless state's own number.
     defaults: Vec<u8>,
@@ -69,6 +71,7 @@ impl Machine {
             commands: image.commands().map(command).collect(),
             expressions: image.expressions().map(expression).collect(),
             bodies: image.states().map(|state| state.command).collect(),
+            most: image.registers().map(|register| register.most()).collect(),
             parents,
             defaults,
             families,
@@ -124,7 +127,9 @@ impl Machine {
         match self.commands[usize::from(command)] {
             Command::Skip => Outcome::Done,
             Command::Assign { register, value } => {
-                registers[usize::from(register)] = self.evaluate(value, registers);
+                let value = self.evaluate(value, registers);
+                // Modulo 2 to the power of the width: the bits above it are cut off.
+                registers[usize::from(register)] = value & self.most[usize::from(register)];
                 Outcome::Done
             }
             Command::Sequence { first, second } => match self.execute(first, registers) {

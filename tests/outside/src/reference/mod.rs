@@ -1,6 +1,6 @@
-//! Document 01 with request E1 of document 02, implemented for clarity: tables and passes over node
-//! numbers, no recursion in the checker, so that it shares as little as possible with the proved
-//! library.
+//! Document 01 with requests E1 and E2 of document 02, implemented for clarity: tables and passes
+//! over node numbers, no recursion in the checker, so that it shares as little as possible with the
+//! proved library.
 
 pub mod calls;
 pub mod image;

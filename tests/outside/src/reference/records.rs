@@ -1,16 +1,23 @@
 //! Registers and states, each by itself (refusals 3 and 4).
 
-use super::image::Image;
+use super::image::{Image, Register, PORT};
 use super::labels::Labels;
+use super::limits::WIDEST;
 use super::refusal::Refusal;
 
 pub fn judge_registers(image: &Image, labels: &Labels) -> Result<(), Refusal> {
     for (number, register) in image.registers().enumerate() {
-        if !labels.contains(register.label) || register.kind > 1 {
+        let known = labels.contains(register.label) && register.kind <= PORT;
+        if !known || !starts_within(&register) {
             return Err(Refusal::new(3, number));
         }
     }
     Ok(())
+}
+
+/// Request E2: a width in its range, and a reset value that it holds.
+fn starts_within(register: &Register) -> bool {
+    (1..=WIDEST).contains(&register.width) && register.reset <= register.most()
 }
 
 pub fn judge_states(image: &Image, labels: &Labels) -> Result<(), Refusal> {

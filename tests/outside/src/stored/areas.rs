@@ -39,7 +39,7 @@ fn wrong(script: &mut Script, registers: usize, targets: usize) {
 fn refused_images(script: &mut Script, image: &[u8]) {
     script
         .note("a refused image, good areas")
-        .image(&image[..207])
+        .image(&image[..209])
         .areas(&[3, 0, 0, 0, 0, 0, 0, 0], &[1, 1, 3, 3, 4]);
     script.reset().write(1, 7).run(1);
     script

@@ -10,6 +10,7 @@ mod runs;
 mod script;
 mod text;
 mod values;
+mod widths;
 
 use record::Record;
 use script::Script;
@@ -31,6 +32,7 @@ fn records() -> Vec<Record> {
     values::add(&mut script);
     runs::add(&mut script);
     ports::add(&mut script);
+    widths::add(&mut script);
     areas::add(&mut script);
     script.end()
 }

@@ -69,6 +69,8 @@ fn limits(script: &mut Script) {
     script.note("no registers").design(&smallest());
     script.reset().run(3).write(0, 0);
     script.note("every count at its limit").design(&largest());
+    // Port 63 has width 32, port 61 has 14.
     script.reset().run(1).run(100).write(63, u32::MAX);
+    script.write(61, (1 << 14) - 1).write(61, 1 << 14);
     script.run(1_000).write(62, 1).write(64, 1);
 }

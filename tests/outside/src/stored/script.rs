@@ -22,6 +22,15 @@ impl Script {
         self.add(Record::Areas(registers.to_vec(), targets.to_vec()))
     }
 
+    /// The areas with these values, and with these targets.
+    pub fn values(&mut self, values: &[u32], targets: &[u8]) -> &mut Script {
+        let registers: Vec<u8> = values
+            .iter()
+            .flat_map(|value| value.to_le_bytes())
+            .collect();
+        self.areas(&registers, targets)
+    }
+
     /// The design with areas of the right lengths.
     pub fn design(&mut self, table: &Table) -> &mut Script {
         self.image(&table.image());

@@ -58,6 +58,6 @@ fn reads(script: &mut Script) {
     script.reset().run(1).run(1);
     script
         .note("the child reads what the root wrote in the cycle")
-        .design(&seen_by_the_child());
+        .design(&seen_by_the_child(7));
     script.reset().run(1);
 }

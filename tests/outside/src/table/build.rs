@@ -11,16 +11,21 @@ impl Table {
         }
     }
 
-    pub fn inner(&mut self, label: u8, reset: u32) -> u8 {
-        self.register(label, INNER, reset)
+    pub fn inner(&mut self, label: u8, reset: u32, width: u8) -> u8 {
+        self.register(label, INNER, reset, width)
     }
 
-    pub fn port(&mut self, label: u8, reset: u32) -> u8 {
-        self.register(label, PORT, reset)
+    pub fn port(&mut self, label: u8, reset: u32, width: u8) -> u8 {
+        self.register(label, PORT, reset, width)
     }
 
-    pub fn register(&mut self, label: u8, kind: u8, reset: u32) -> u8 {
-        self.registers.push(Register { label, kind, reset });
+    pub fn register(&mut self, label: u8, kind: u8, reset: u32, width: u8) -> u8 {
+        self.registers.push(Register {
+            label,
+            kind,
+            reset,
+            width,
+        });
         (self.registers.len() - 1) as u8
     }
 

@@ -6,7 +6,7 @@ mod renumber;
 
 use crate::reference::image::LAST_OPERATION;
 use crate::reference::limits::{
-    DIRECTORY_BYTES, NODE_BYTES, REGISTER_BYTES, ROW_BYTES, STATE_BYTES,
+    DIRECTORY_BYTES, NODE_BYTES, REGISTER_BYTES, ROW_BYTES, STATE_BYTES, WIDEST,
 };
 
 #[derive(Clone, Debug, Default, PartialEq, Eq)]
@@ -23,6 +23,19 @@ pub struct Register {
     pub label: u8,
     pub kind: u8,
     pub reset: u32,
+    pub width: u8,
+}
+
+impl Register {
+    /// The largest value that the register holds. Expects a width in its range.
+    pub fn most(&self) -> u32 {
+        most(self.width)
+    }
+}
+
+/// The largest value of so many bits, 1 to 32.
+pub fn most(width: u8) -> u32 {
+    u32::MAX >> (WIDEST - width)
 }
 
 #[derive(Clone, Copy, Debug, Default, PartialEq, Eq)]
@@ -106,6 +119,7 @@ impl Table {
         for register in &self.registers {
             image.extend([register.label, register.kind]);
             image.extend(register.reset.to_le_bytes());
+            image.push(register.width);
         }
         for state in &self.states {
             image.extend([state.parent, state.label]);

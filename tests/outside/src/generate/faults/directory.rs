@@ -44,7 +44,7 @@ fn wrong_field(mut image: Vec<u8>, random: &mut Random) -> Vec<u8> {
 /// A border between two sections moves, so that the sections still join.
 fn moved_border(mut image: Vec<u8>, random: &mut Random) -> Vec<u8> {
     let section = random.below(4);
-    let difference = *random.pick(&[1u16, MINUS_ONE, 2, 3, 4, 5, 6, 8]);
+    let difference = *random.pick(&[1u16, MINUS_ONE, 2, 3, 4, 5, 6, 7, 8]);
     add_to_field(&mut image, 2 * section + 1, difference);
     add_to_field(&mut image, 2 * section + 2, difference);
     add_to_field(&mut image, 2 * section + 3, difference.wrapping_neg());

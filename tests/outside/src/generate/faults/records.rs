@@ -1,8 +1,8 @@
 //! Faults in label rows, registers and states (refusals 2 to 4).
 
 use crate::generate::random::Random;
-use crate::reference::limits::{MOST_COMMANDS, MOST_LABELS, MOST_STATES};
-use crate::table::Table;
+use crate::reference::limits::{MOST_COMMANDS, MOST_LABELS, MOST_STATES, WIDEST};
+use crate::table::{Register, Table};
 
 pub fn spoil_rows(table: &mut Table, random: &mut Random) {
     let count = table.rows.len();
@@ -66,10 +66,21 @@ pub fn spoil_register(table: &mut Table, random: &mut Random) {
     let labels = table.rows.len() as u8;
     let number = random.index(table.registers.len());
     let register = &mut table.registers[number];
-    if random.percent(50) {
-        register.label = *random.pick(&[labels, MOST_LABELS as u8, 17, 255, 0x80]);
-    } else {
-        register.kind = *random.pick(&[2, 3, 128, 255]);
+    match random.below(4) {
+        0 => register.label = *random.pick(&[labels, MOST_LABELS as u8, 17, 255, 0x80]),
+        1 => register.kind = *random.pick(&[2, 3, 128, 255]),
+        2 => register.width = *random.pick(&[0, WIDEST + 1, WIDEST + 2, 64, 128, 255]),
+        _ => spoil_reset(register, random),
+    }
+}
+
+/// A reset value too large, in a register that is narrow enough for one.
+fn spoil_reset(register: &mut Register, random: &mut Random) {
+    if !(1..WIDEST).contains(&register.width) {
+        register.width = *random.pick(&[1, 10, WIDEST - 1]);
+    }
+    if let Some(value) = random.too_large(register.width) {
+        register.reset = value;
     }
 }
 

@@ -1,0 +1,122 @@
+//! What chance puts into a list of calls: the calls, the lengths lent, and what the host writes
+//! between two calls.
+
+use super::areas::Areas;
+use super::engine::Call;
+use crate::generate::random::Random;
+use crate::table::{Register, Table};
+
+/// What the host writes into the areas between two calls.
+pub fn disturb(areas: &mut Areas, table: &Table, random: &mut Random) {
+    match random.below(16) {
+        // Sound targets everywhere: choices that the design may never have made.
+        0..=2 => {
+            let targets = any_sound_targets(table, random);
+            areas.targets.whole().copy_from_slice(&targets);
+        }
+        3 => any_target(areas, table, random),
+        4 | 5 if !table.registers.is_empty() => {
+            let register = random.below(table.registers.len());
+            let width = table.registers[register].width;
+            areas.set_value(register, random.fitting(width));
+        }
+        6 | 7 => {
+            for (register, record) in table.registers.iter().enumerate() {
+                areas.set_value(register, random.fitting(record.width));
+            }
+        }
+        8 => {
+            too_large_values(areas, table, random);
+            if random.percent(30) {
+                any_target(areas, table, random);
+            }
+        }
+        _ => {}
+    }
+}
+
+/// Perhaps unsound: soon put right by a reset.
+fn any_target(areas: &mut Areas, table: &Table, random: &mut Random) {
+    let state = random.below(table.states.len());
+    let (own, any) = (state as u8, random.bits() as u8);
+    areas.targets.whole()[state] = *random.pick(&[0, own, own.wrapping_add(1), any]);
+}
+
+/// In one register or several, where they are narrow: soon put right by a reset.
+fn too_large_values(areas: &mut Areas, table: &Table, random: &mut Random) {
+    for _ in 0..*random.pick(&[1, 1, 2, 5]) {
+        if table.registers.is_empty() {
+            return;
+        }
+        let register = random.index(table.registers.len());
+        if let Some(value) = random.too_large(table.registers[register].width) {
+            areas.set_value(register, value);
+        }
+    }
+}
+
+fn any_sound_targets(table: &Table, random: &mut Random) -> Vec<u8> {
+    let mut targets: Vec<u8> = (0..table.states.len() as u8).collect();
+    for (state, target) in targets.iter_mut().enumerate() {
+        let children = table.children(state);
+        if !children.is_empty() {
+            *target = *random.pick(&children);
+        }
+    }
+    targets
+}
+
+pub fn any_call(table: &Table, random: &mut Random) -> Call {
+    match random.below(10) {
+        0 | 1 => Call::Reset,
+        2..=4 => any_write(table, random),
+        _ => Call::Run {
+            cycles: match random.below(8) {
+                0 => 0,
+                1 => *random.pick(&[1_000_001, 1_000_002, 1 << 31, u32::MAX]),
+                2 | 3 => 1,
+                4 if table.commands.len() < 100 => random.below(3_000) as u32,
+                _ => random.below(20) as u32,
+            },
+        },
+    }
+}
+
+fn any_write(table: &Table, random: &mut Random) -> Call {
+    let register = match random.below(8) {
+        0 => table.registers.len() as u32,
+        1 => *random.pick(&[64, 256, 65_536, u32::MAX, 1 << 30]),
+        _ => random.below(table.registers.len().max(1)) as u32,
+    };
+    let value = match table.registers.get(register as usize) {
+        Some(record) => value_for(record, random),
+        None => random.value(),
+    };
+    Call::WritePort { register, value }
+}
+
+/// Within the width, or too large for it.
+fn value_for(register: &Register, random: &mut Random) -> u32 {
+    let too_large = random.too_large(register.width);
+    match too_large {
+        Some(value) if random.percent(40) => value,
+        _ => random.fitting(register.width),
+    }
+}
+
+/// Mostly the right lengths.
+pub fn any_lengths(areas: &Areas, random: &mut Random) -> (usize, usize) {
+    let mut lengths = [areas.registers.length(), areas.targets.length()];
+    if random.percent(15) {
+        let length = random.pick(&[0, 1]).to_owned();
+        let right = lengths[length];
+        lengths[length] = match random.below(5) {
+            0 => right + 1,
+            1 => right.saturating_sub(1),
+            2 => right + 4,
+            3 => right.saturating_sub(4),
+            _ => 0,
+        };
+    }
+    (lengths[0], lengths[1])
+}
