@@ -1,5 +1,5 @@
 -- 01, 'A cycle': evaluation, execution, reset, a goto, and one cycle with its walk.
-use Prim.Native.Nat.{ℕ, zero, suc, _%_}
+use Prim.Native.Nat.{ℕ, zero, suc}
 use mathlib.Core.Bool.{Bool, _&&_, _||_, not, cond}
 use mathlib.Core.List.{List, [], _∷_, map}
 use lib.Dec.{eqb}
@@ -11,7 +11,7 @@ use Rattle.model.specs.Indices.{tabulate}
 use Rattle.model.specs.Image.{Design, Register}
 use Rattle.model.specs.States.{parent, isChild, hasChild, defaultTarget, within}
 use Rattle.model.specs.Trees.{Expr, constant, register, binary, Cmd, skip, assign, sequence, fall, goto, branch, bodyOf}
-use Rattle.model.specs.Values.{apply, modulus}
+use Rattle.model.specs.Values.{apply, stored}
 
 -- the value of an expression
 unfoldable pub eval : List ℕ → Expr → ℕ
@@ -33,8 +33,8 @@ unlessTransferred (Transferred ending) first second = first
 module _ (registers : List Register) where
   unfoldable pub exec : List ℕ → Cmd → Executed
   exec values (skip n) = record { registers = values; outcome = Continued }
-  -- "An assignment shows at the next read." 02, E2: "An assignment stores the value modulo 2 to the power of the width."
-  exec values (assign n r e) = record { registers = set values r (eval values e % modulus registers r); outcome = Continued }
+  -- "An assignment shows at the next read." 02, E2: what it stores is cut to the width
+  exec values (assign n r e) = record { registers = set values r (stored registers r (eval values e)); outcome = Continued }
   exec values (sequence n p q) =
       let first = exec values p in
       let second = exec (first .registers) q in

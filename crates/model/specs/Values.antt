@@ -30,6 +30,10 @@ module _ (registers : List Register) (r : ℕ) where
   abbrev pub fits : ℕ → Bool
   fits value = ltb value modulus
 
+  -- 02, E2: "An assignment stores the value modulo 2 to the power of the width."
+  abbrev pub stored : ℕ → ℕ
+  stored value = value % modulus
+
 -- "registers, 4 bytes each": the first n values of a register area
 unfoldable pub wordsOf : ℕ → List ℕ → List ℕ
 wordsOf n bytes = recordsOf (λ rest. word32At rest 0) wordLength n bytes

@@ -1,6 +1,6 @@
 -- Why a command keeps a level's secrets: what it reads, and every condition around it, flows to what it writes and to the state it goes to.
 -- In a context that is not seen nothing that is seen is written (`exec-confined`); in one that is seen, two runs that agree go on agreeing (`exec-same`).
-use Prim.Native.Nat.{ℕ, _%_, _<_}
+use Prim.Native.Nat.{ℕ, _<_}
 use mathlib.Core.Path.{_≡_, refl, sym, _∙_, ap₂}
 use mathlib.Core.Logic.{_⊎_, inl, inr}
 use mathlib.Core.Bool.{Bool, true, false, cond}
@@ -16,7 +16,7 @@ use Rattle.model.specs.Trees.{Expr, constant, register, binary, Cmd, ski
 use Rattle.model.specs.Shape.{transfers}
 use Rattle.model.specs.Flow.{labelsRead}
 use Rattle.model.specs.Rules.{DesignKeeps, Shaped, Flows}
-use Rattle.model.specs.Values.{apply, modulus}
+use Rattle.model.specs.Values.{apply, stored}
 use Rattle.model.specs.Machine.{eval, Executed, unlessTransferred, exec}
 use Rattle.model.specs.Parties.{registerSeen, stateSeen}
 use Rattle.model.proofs.Laws.Booleans.{decide, and-first, and-second, and-both, true-or-false, false-unless-true}
@@ -68,7 +68,7 @@ module _ (d : Design) (level : ℕ) (keeps : DesignKeeps d) (isLabel : level < l
         level
         values
         r
-        (eval values e % modulus (d .registers) r)
+        (stored (d .registers) r (eval values e))
         (context-unseen
         d
         level
@@ -163,8 +163,8 @@ module _ (d : Design) (level : ℕ) (keeps : DesignKeeps d) (isLabel : level < l
   exec-same context a (skip n) shaped flows labels low = record { registers = a; outcomes = tt }
   exec-same context {v} {w} a (assign n r e) shaped flows labels low = record { registers = go (decide (allFlowTo (d .rows) (labelsRead d e) level)); outcomes = tt }
     where
-      go : (allFlowTo (d .rows) (labelsRead d e) level ≡ true) ⊎ (allFlowTo (d .rows) (labelsRead d e) level ≡ false) → Agree d level (set v r (eval v e % modulus (d .registers) r)) (set w r (eval w e % modulus (d .registers) r))
-      go (inl h) = rw (eval-same d level keeps isLabel a e h) (agree-set d level a r (eval w e % modulus (d .registers) r))
+      go : (allFlowTo (d .rows) (labelsRead d e) level ≡ true) ⊎ (allFlowTo (d .rows) (labelsRead d e) level ≡ false) → Agree d level (set v r (stored (d .registers) r (eval v e))) (set w r (stored (d .registers) r (eval w e)))
+      go (inl h) = rw (eval-same d level keeps isLabel a e h) (agree-set d level a r (stored (d .registers) r (eval w e)))
       go (inr h) =
           let unseen = context-unseen d level keeps isLabel (labelsRead d e) (registerLabel d r) (labels-read d level keeps isLabel e) (register-label d level keeps isLabel r) (all-flow-second (d .rows) context (labelsRead d e) (registerLabel d r) flows) h in
           agree-trans d level (agree-sym d level (agree-unseen d level v r _ unseen)) (agree-trans d level a (agree-unseen d level w r _ unseen))

@@ -1,6 +1,6 @@
 -- Every register stays within its width: a reset value is (refusal 3), and an assignment stores a value modulo 2 to the power of the width. No width is
 -- above 32, so every value is 32 bits and survives being written as bytes and read again.
-use Prim.Native.Nat.{ℕ, zero, suc, _%_, _≤_, _<_, _^_}
+use Prim.Native.Nat.{ℕ, zero, suc, _≤_, _<_, _^_}
 use mathlib.Core.Path.{_≡_}
 use mathlib.Core.List.{List, [], _∷_}
 use native.Mathlib.Omega.{arith}
@@ -12,7 +12,7 @@ use Rattle.model.specs.Limits.{valueCount, widthMax}
 use Rattle.model.specs.Image.{Design, Register, noRegister, registerAt}
 use Rattle.model.specs.Trees.{Cmd, skip, assign, sequence, fall, goto, branch}
 use Rattle.model.specs.Rules.{DesignKeeps}
-use Rattle.model.specs.Values.{modulus}
+use Rattle.model.specs.Values.{modulus, stored}
 use Rattle.model.specs.Machine.{eval, exec, resetAreas}
 use Rattle.model.proofs.Laws.Commands.{sequence-all, branch-all}
 
@@ -42,13 +42,13 @@ module _ (registers : List Register) where
   set-fitting values i v l h = set-all (λ r x. x < modulus registers r) values i v l h
 
   -- ---- commands
-  pub cut-fits : (r v : ℕ) → v % modulus registers r < modulus registers r
-  cut-fits r v = mod-lt v (pow-pos (getD registers r noRegister .width))
+  stored-fits : (r v : ℕ) → stored registers r v < modulus registers r
+  stored-fits r v = mod-lt v (pow-pos (getD registers r noRegister .width))
 
   pub exec-fitting : (values : List ℕ) (c : Cmd) → Fitting registers values → Fitting registers (exec registers values c .registers)
   unfolding exec
   exec-fitting values (skip n) h = h
-  exec-fitting values (assign n r e) h = set-fitting values r _ (cut-fits r (eval values e)) h
+  exec-fitting values (assign n r e) h = set-fitting values r _ (stored-fits r (eval values e)) h
   exec-fitting values (sequence n p q) h =
       let after = exec-fitting values p h in
       sequence-all registers (λ x. Fitting registers (x .registers)) values n p q after (exec-fitting (exec registers values p .registers) q after)
