@@ -1,15 +1,23 @@
 -- Cases at the boundaries of 02's E2, 'Registers with a width': refusals 3, 14 and 17, and what an assignment stores.
-use Prim.Native.Nat.{ℕ}
+use Prim.Native.Nat.{ℕ, zero, suc, _<_, _^_}
+use native.Mathlib.Omega.{arith}
 use mathlib.Core.Path.{_≡_, refl}
 use mathlib.Core.List.{List, [], _∷_, _++_, map}
-use lib.ListN.{replicate}
-use Rattle.model.specs.Image.{designOf}
+use lib.ListN.{length, replicate}
+use Rattle.model.specs.declared.Refusal.the-variants.{Area}
+use Rattle.model.specs.declared.Answer.the-variants.{Refused}
+use Rattle.model.specs.Limits.{largestImage}
+use Rattle.model.specs.Image.{registerAt, designOf}
 use Rattle.model.specs.Answers.{Numbers, numbersOf}
 use Rattle.model.specs.Machine.{cycle}
-use Rattle.model.specs.Calls.{Lent}
-use Rattle.model.specs.Parties.{Call, resets, writes, runs, perform}
+use Rattle.model.specs.Calls.{Lent, runAnswer}
+use Rattle.model.specs.Parties.{Call, Use, resets, writes, runs, perform}
 use Rattle.model.proofs.Opened.{checks, everything, refused, accepted, judged, told, lent, areas}
-use Rattle.model.proofs.Designs.{assemble, oneState, widthRecord, registerRecord, stateRecord, skips, assigns, sequences, falls, goesTo, branches, constant, reads, adds, subtracts}
+use Rattle.model.proofs.Designs.{assemble, oneState, widthRecord, registerRecord, stateRecord, skips, assigns, sequences, falls, goesTo, branches, constant, reads, adds, subtracts, equals}
+
+-- "The largest image grows by 64 bytes": it had 25,268
+shows-largest-image : largestImage ≡ 25332
+shows-largest-image = refl
 
 -- an image with r1 of this record behind an inner register of width 32
 abbrev withRegister : List ℕ → List ℕ
@@ -17,9 +25,14 @@ withRegister x = oneState (1 ∷ []) (registerRecord 0 0 0 ∷ x ∷ []) 1 (goes
 
 -- "a width of 1 to 32": "A width outside its range .. is refusal 3."
 shows-widths
-    : map (λ (w : ℕ). judged (withRegister (widthRecord 0 0 0 w))) (0 ∷ 1 ∷ 2 ∷ 31 ∷ 32 ∷ 33 ∷ 255 ∷ [])
-    ≡ refused 3 1 ∷ accepted 0 ∷ accepted 0 ∷ accepted 0 ∷ accepted 0 ∷ refused 3 1 ∷ refused 3 1 ∷ []
+    : map (λ (w : ℕ). judged (withRegister (widthRecord 0 0 0 w))) (0 ∷ 1 ∷ 2 ∷ 31 ∷ 32 ∷ 33 ∷ 65 ∷ 255 ∷ [])
+    ≡ refused 3 1 ∷ accepted 0 ∷ accepted 0 ∷ accepted 0 ∷ accepted 0 ∷ refused 3 1 ∷ refused 3 1 ∷ refused 3 1 ∷ []
 shows-widths = unfold checks in refl
+
+-- "A width outside its range": of ports too
+shows-port-widths
+    : map (λ (w : ℕ). judged (withRegister (widthRecord 0 1 0 w))) (0 ∷ 1 ∷ 32 ∷ 33 ∷ []) ≡ refused 3 1 ∷ accepted 0 ∷ accepted 0 ∷ refused 3 1 ∷ []
+shows-port-widths = unfold checks in refl
 
 -- "or a reset value too large": the largest that fits, and one more; of inner registers and of ports
 shows-reset-fits
@@ -44,6 +57,14 @@ shows-lowest-width
     ∷ [])
     ≡ refused 3 0 ∷ refused 3 0 ∷ refused 3 0 ∷ []
 shows-lowest-width = unfold checks in refl
+
+-- "A width outside its range, or a reset value too large, is refusal 3": before 4, here of state 1 with parent 1
+shows-width-before-4
+    : map
+    (λ (x : List ℕ). judged (assemble (1 ∷ []) (x ∷ []) (stateRecord 0 0 0 ∷ stateRecord 1 0 1 ∷ []) (falls ∷ goesTo 1 ∷ []) []))
+    (widthRecord 0 0 0 33 ∷ widthRecord 0 0 2 1 ∷ widthRecord 0 0 1 1 ∷ [])
+    ≡ refused 3 0 ∷ refused 3 0 ∷ refused 4 1 ∷ []
+shows-width-before-4 = unfold checks in refl
 
 -- r0 of the width: r0 := v; goto 1
 abbrev cutTo : ℕ → ℕ → List ℕ
@@ -99,6 +120,14 @@ shows-cut-condition
     ≡ 0 ∷ 9 ∷ []
 shows-cut-condition = unfold everything in refl
 
+-- "An assignment stores the value modulo": the value is cut, and none of the parts that it is computed from. r0, of one bit, becomes 6 = 4, and 6 = 6
+shows-parts-not-cut
+    : map
+    (λ (v : ℕ). after (oneState (1 ∷ []) (widthRecord 0 0 0 1 ∷ []) 3 (assigns 0 2 ∷ goesTo 1 ∷ sequences 1 2 ∷ []) (constant 6 ∷ constant v ∷ equals 0 1 ∷ [])) (1 ∷ []))
+    (4 ∷ 6 ∷ [])
+    ≡ (0 ∷ []) ∷ (1 ∷ []) ∷ []
+shows-parts-not-cut = unfold everything in refl
+
 -- r0 of 10 bits, the port r1 of 1 bit, the port r2 of 32; state 1 goes to itself
 abbrev narrow : List ℕ
 narrow = oneState (1 ∷ []) (widthRecord 0 0 0 10 ∷ widthRecord 0 1 0 1 ∷ widthRecord 0 1 0 32 ∷ []) 1 (goesTo 1 ∷ []) []
@@ -128,6 +157,14 @@ shows-lowest-content
     ≡ refused 14 1 ∷ refused 14 1 ∷ refused 14 1 ∷ refused 14 0 ∷ refused 14 0 ∷ []
 shows-lowest-content = unfold everything in refl
 
+-- "A register area holding a value too large": in its last register too, here r0
+shows-last-content
+    : map
+    (λ (high : ℕ). numbersOf (perform (cutTo 10 0) (lent (0 ∷ high ∷ 0 ∷ 0 ∷ []) (1 ∷ 1 ∷ [])) (runs 1) .answer))
+    (3 ∷ 4 ∷ [])
+    ≡ accepted 1 ∷ refused 14 0 ∷ []
+shows-last-content = unfold everything in refl
+
 -- each byte of a value counts: the third and the fourth too
 shows-content-bytes
     : map
@@ -143,7 +180,7 @@ shows-contents-left
 shows-contents-left = unfold everything in refl
 
 -- 01: "a wrong length comes first, .. then any fault that a request adds in the registers' contents, .. then an unsound target": r1 and the root's target,
--- with a target more and without; and 15 comes last
+-- with a target more and without
 shows-contents-before-targets
     : map
     (λ (targets : List ℕ). answered (lent (255 ∷ 3 ∷ 0 ∷ 0 ∷ 2 ∷ 0 ∷ 0 ∷ 0 ∷ replicate 4 255) targets) (runs 1))
@@ -151,8 +188,14 @@ shows-contents-before-targets
     ≡ refused 14 1 ∷ refused 14 1 ∷ refused 14 0 ∷ []
 shows-contents-before-targets = unfold everything in refl
 
--- a length that is wrong comes before the contents of a port write too
-shows-length-before-contents : answered (lent (0 ∷ 0 ∷ 0 ∷ 0 ∷ 2 ∷ 0 ∷ 0 ∷ 0 ∷ []) (1 ∷ 1 ∷ [])) (writes 1 0) ≡ refused 14 0
+-- 01: "The lowest number that applies comes first": 14 before 15
+shows-contents-before-15 : runAnswer narrow (holding 0 4 1) 1000001 ≡ Refused Area 0
+shows-contents-before-15 = unfold everything in refl
+
+-- "a wrong length comes first": before the contents, in a port write too, and before 17
+shows-length-before-contents
+    : map (answered (lent (0 ∷ 0 ∷ 0 ∷ 0 ∷ 2 ∷ 0 ∷ 0 ∷ 0 ∷ []) (1 ∷ 1 ∷ []))) (runs 1 ∷ writes 1 0 ∷ writes 1 2 ∷ [])
+    ≡ refused 14 0 ∷ refused 14 0 ∷ refused 14 0 ∷ []
 shows-length-before-contents = unfold everything in refl
 
 -- "It refuses with 17 a port value too large for its port": 1 and 2 for r1; all 32 bits and one more for r2; the place is the register
@@ -167,3 +210,37 @@ shows-13-before-17 = unfold everything in refl
 
 shows-17-left : told (perform narrow (holding 1 0 1) (writes 1 2)) ≡ (refused 17 1, holding 1 0 1)
 shows-17-left = unfold everything in refl
+
+-- 01: "Every call makes the image checks .. first": r0, of one bit and of kind 2, holds 2, and 2 is written to it
+shows-image-before-contents
+    : map
+    (λ call. numbersOf (perform (oneState (1 ∷ []) (widthRecord 0 2 0 1 ∷ []) 1 (goesTo 1 ∷ []) []) (lent (2 ∷ 0 ∷ 0 ∷ 0 ∷ []) (1 ∷ 1 ∷ [])) call .answer))
+    (runs 1 ∷ writes 0 2 ∷ [])
+    ≡ refused 3 0 ∷ refused 3 0 ∷ []
+shows-image-before-contents = unfold everything in refl
+
+-- "registers set freely stay within their widths": they are given the largest values that fit, and none that is larger
+abbrev largest : ℕ → ℕ
+largest zero = 1023
+largest (suc zero) = 1
+largest (suc (suc r)) = 4294967295
+
+largestWithin : (r : ℕ) → r < length (designOf narrow .registers) → largest r < 2 ^ registerAt (designOf narrow) r .width
+unfolding checks
+largestWithin zero l = omega arith
+largestWithin (suc zero) l = omega arith
+largestWithin (suc (suc zero)) l = omega arith
+largestWithin (suc (suc (suc r))) l = absurd (omega arith)
+
+shows-given-largest : Use (designOf narrow)
+shows-given-largest =
+    record {
+      lent = holding 0 0 0;
+      lengths = record { registers = unfold everything in refl; targets = unfold everything in refl };
+      given = largest;
+      within = largestWithin;
+      calls = [];
+    }
+
+shows-given-fits : (u : Use (designOf narrow)) → u .given 0 < 1024
+shows-given-fits u = unfold checks in u .within 0 (omega arith)
