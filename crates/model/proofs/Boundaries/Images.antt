@@ -10,7 +10,7 @@ use Rattle.model.specs.Machine.{eval, resetAreas}
 use Rattle.model.proofs.Opened.{checks, everything, refused, accepted, judged}
 use Rattle.model.proofs.Designs.{joined, rows, fromSections, ofRows, oneState, node, registerRecord, stateRecord, skips, sequences, falls, goesTo, branches, constant}
 
--- one register; root: fall; state 1: skip; if 1 then goto 1 else goto 1. Its sections have 2, 6, 8, 48 and 8 bytes.
+-- one register; root: fall; state 1: skip; if 1 then goto 1 else goto 1. Its sections have 2, 7, 8, 48 and 8 bytes.
 abbrev labels : List ℕ
 labels = 1 ∷ 0 ∷ []
 
