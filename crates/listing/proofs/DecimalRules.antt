@@ -1,35 +1,21 @@
--- A number in decimal has one digit more than a tenth of it, so its digits are those at the powers of ten, from the highest down.
-use Prim.Native.Nat.{ℕ, zero, suc, _+_, _-_, _*_, _/_, _%_, _^_, _≤_, _<_}
+-- A number in decimal has one digit more than a tenth of it: its last digit is what dividing by ten leaves, and those before it are those of the tenth. So
+-- they can be counted, and written from the last one on, by dividing.
+use Prim.Native.Nat.{ℕ, zero, suc, _+_, _-_, _/_, _%_, _^_, _≤_, _<_}
 use mathlib.Core.Path.{_≡_, refl, sym, _∙_, ap}
 use mathlib.Core.Bool.{true, false}
 use mathlib.Core.List.{List, [], _∷_, _++_}
 use native.Mathlib.Omega.{arith}
 use native.Mathlib.Decide.{decLt}
-use native.Mathlib.Nat.{pow-suc, pow-succ', pow-le-pow-right, div-lt-iff-lt-mul, le-div-iff-mul-le, div-div-eq-div-mul, div-one, mod-eq-of-lt}
-use lib.Dec.{ltb, eqb}
-use lib.ListN.{length, getD, set, length-append, length-set}
-use borrow.Author.Tests.{lt-ltb, le-ltb, eqb-true}
-use Rattle.model.specs.Indices.{allBelow}
+use native.Mathlib.Nat.{pow-suc, div-lt-iff-lt-mul, mod-eq-of-lt}
+use lib.Dec.{ltb}
+use lib.ListN.{length, set, length-append, length-set}
+use lib.Seq.{set-comm}
+use borrow.Author.Tests.{lt-ltb, le-ltb}
+use mir.Syntax.{w64}
+use mir.Val.{Fits}
 use Rattle.model.specs.Listing.{decimal}
-use Rattle.model.proofs.Laws.Indices.{all-at, recursively-step, onlyBelow, only-below-at}
+use Rattle.model.proofs.Laws.Indices.{recursively-step, onlyBelow, only-below-at}
 use Rattle.listing.specs.Texts.{written, Put}
-
--- ---- the table of the powers of ten
-abbrev pub powers : List ℕ
-powers = 1 ∷ 10 ∷ 100 ∷ 1000 ∷ 10000 ∷ 100000 ∷ 1000000 ∷ 10000000 ∷ 100000000 ∷ 1000000000 ∷ []
-
-pub power-is : (k : ℕ) → k < 10 → getD powers k 0 ≡ 10 ^ k
-unfolding allBelow
-power-is k l = eqb-true (getD powers k 0) (10 ^ k) (all-at (λ j. eqb (getD powers j 0) (10 ^ j)) 10 refl k l)
-
-power-some : (k : ℕ) → 0 < 10 ^ k
-power-some k = pow-le-pow-right {n = 10} (omega arith) {i = 0} {j = k} (omega arith)
-
-pub divisor : {q : ℕ} (k : ℕ) → q ≡ 10 ^ k → 0 < q
-divisor k e = let some = power-some k in omega arith
-
-pub digit-is : {q : ℕ} (n k : ℕ) → q ≡ 10 ^ k → 48 + n / q % 10 ≡ 48 + n / 10 ^ k % 10
-digit-is n k e = rw e
 
 -- ---- the last digit and those before it
 abbrev decimalStep : ℕ → (ℕ → List ℕ) → List ℕ
@@ -69,116 +55,126 @@ few-digits (suc k) n l = go (decLt n 10) (few-digits k (n / 10) (div-lt-iff-lt-m
     go (yes h) shorter = let one = length-small n h in omega arith
     go (no h) shorter = let more = length-large n (omega arith) in omega arith
 
-many-digits : (k n : ℕ) → 10 ^ k ≤ n → suc k ≤ length (decimal n)
-many-digits zero n l = one-digit n
-many-digits (suc k) n l =
-    let whole : 10 ^ k * 10 ≤ n = rw (pow-suc 10 k) at l in
-    let some = power-some k in
-    let more = length-large n (omega arith) in
-    let longer = many-digits k (n / 10) (le-div-iff-mul-le (omega arith) .1 whole) in
-    omega arith
+-- ---- the loop of `digits`
+-- the digits that are left to count: none of 0
+unfoldable pub digitsLeft : ℕ → ℕ
+digitsLeft zero = 0
+digitsLeft (suc m) = length (decimal (suc m))
 
--- the loop of `digits`: there are at least k digits
-pub record DigitsSo (n k : ℕ) : Type 0 where
-  pub some : 1 ≤ k
-  pub most : k ≤ 10
-  pub least : k ≤ length (decimal n)
+left-step : (m : ℕ) → 0 < m → digitsLeft m ≡ suc (digitsLeft (m / 10))
+unfolding digitsLeft
+left-step zero l = absurd (omega arith)
+left-step (suc m) l = go (decLt (suc m) 10) (suc m / 10) refl
+  where
+    go : Dec (suc m < 10) → (tenth : ℕ) → suc m / 10 ≡ tenth → length (decimal (suc m)) ≡ suc (digitsLeft tenth)
+    go (yes h) zero e = length-small (suc m) h
+    go (yes h) (suc t) e = absurd (omega arith)
+    go (no h) zero e = absurd (omega arith)
+    go (no h) (suc t) e = let more = length-large (suc m) (omega arith) in let same = ap (λ (x : ℕ). length (decimal x)) e in omega arith
 
-pub digits-begin : (n : ℕ) → DigitsSo n 1
-digits-begin n = record { some = omega arith; most = omega arith; least = one-digit n }
+whole-digits : (n : ℕ) → length (decimal n) ≡ suc (digitsLeft (n / 10))
+unfolding digitsLeft
+whole-digits zero = length-small 0 (omega arith)
+whole-digits (suc m) = left-step (suc m) (omega arith)
 
-module _ {n k : ℕ} (so : DigitsSo n k) where
-  pub digits-more : {q : ℕ} → k < 10 → q ≡ 10 ^ k → q ≤ n → DigitsSo n (k + 1)
-  digits-more l e h =
-      let some = so .some in
-      let more = many-digits k n (omega arith) in
-      record { some = omega arith; most = omega arith; least = omega arith }
+-- k digits are counted, and those of the rest are left
+pub record DigitsSo (n k rest : ℕ) : Type 0 where
+  pub counted : length (decimal n) ≡ k + digitsLeft rest
+  pub few : length (decimal n) ≤ 10
 
-  below-power : n < 10 ^ k → k ≡ length (decimal n)
-  below-power l =
-      let some = so .some in
-      let least = so .least in
-      let above : k ≡ suc (k - 1) = omega arith in
-      let most = few-digits (k - 1) n (rw above at l) in
-      omega arith
+pub digits-begin : (n : ℕ) → n < 2 ^ 32 → DigitsSo n 1 (n / 10)
+digits-begin n l = let all = whole-digits n in record { counted = omega arith; few = few-digits 9 n (omega arith) }
 
-  pub digits-found : {q : ℕ} → q ≡ 10 ^ k → n < q → k ≡ length (decimal n)
-  digits-found e h = below-power (omega arith)
+module _ {n k rest : ℕ} (so : DigitsSo n k rest) where
+  pub digits-more : 0 < rest → DigitsSo n (k + 1) (rest / 10)
+  digits-more l = let step = left-step rest l in let counted = so .counted in record { counted = omega arith; few = so .few }
 
-  pub digits-all : 10 ≤ k → n < 2 ^ 32 → k ≡ length (decimal n)
-  digits-all l h = let most = so .most in let all : k ≡ 10 = omega arith in below-power (rw all (omega arith))
+  pub digits-room : Fits w64 (k + 1)
+  digits-room = let counted = so .counted in let few = so .few in record { fits = omega arith }
+
+  pub digits-counted : rest ≤ 0 → k ≡ length (decimal n)
+  unfolding digitsLeft
+  digits-counted l = let none : rest ≡ 0 = omega arith in let counted = rw none at (so .counted) in omega arith
+
+  pub digits-few : k ≤ 10
+  digits-few = let counted = so .counted in let few = so .few in omega arith
+
+pub tenth-less : {rest : ℕ} → 0 < rest → rest / 10 < rest
+tenth-less l = omega arith
 
 -- ---- the digits
-unfoldable pub digitsFrom : ℕ → ℕ → List ℕ
-digitsFrom n zero = []
-digitsFrom n (suc k) = (48 + n / 10 ^ k % 10) ∷ digitsFrom n k
+-- the last k digits of a number, the last one behind those of a tenth of it
+unfoldable pub lastDigits : ℕ → ℕ → List ℕ
+lastDigits n zero = []
+lastDigits n (suc k) = lastDigits (n / 10) k ++ (48 + n % 10) ∷ []
 
--- the digits of a tenth, and the last one
-digits-shift : (k n : ℕ) → digitsFrom n (suc k) ≡ digitsFrom (n / 10) k ++ (48 + n % 10) ∷ []
-unfolding digitsFrom
-digits-shift zero n = ap (λ (m : ℕ). (48 + m % 10) ∷ []) (div-one n)
-digits-shift (suc k) n =
-    let tenth : n / 10 ^ suc k ≡ n / 10 / 10 ^ k = ap (λ (q : ℕ). n / q) (pow-succ' 10 k) ∙ sym (div-div-eq-div-mul n 10 (10 ^ k)) in
-    ap (λ (m : ℕ). (48 + m % 10) ∷ digitsFrom n (suc k)) tenth ∙ ap (λ (more : List ℕ). (48 + n / 10 / 10 ^ k % 10) ∷ more) (digits-shift k n)
+length-last : (k n : ℕ) → length (lastDigits n k) ≡ k
+unfolding lastDigits
+length-last zero n = refl
+length-last (suc k) n =
+    let shorter = length-last k (n / 10) in
+    let more = length-append (lastDigits (n / 10) k) ((48 + n % 10) ∷ []) in
+    omega arith
 
-digits-are : (k n : ℕ) → length (decimal n) ≡ k → decimal n ≡ digitsFrom n k
-unfolding digitsFrom
+digits-are : (k n : ℕ) → length (decimal n) ≡ k → decimal n ≡ lastDigits n k
+unfolding lastDigits
 digits-are zero n e = let some = one-digit n in absurd (omega arith)
 digits-are (suc k) n e = go (decLt n 10) (λ h. digits-are k (n / 10) h)
   where
-    go : Dec (n < 10) → (length (decimal (n / 10)) ≡ k → decimal (n / 10) ≡ digitsFrom (n / 10) k) → decimal n ≡ digitsFrom n (suc k)
+    go : Dec (n < 10) → (length (decimal (n / 10)) ≡ k → decimal (n / 10) ≡ lastDigits (n / 10) k) → decimal n ≡ lastDigits (n / 10) k ++ (48 + n % 10) ∷ []
     go (yes l) shorter =
         let one = length-small n l in
         let none : k ≡ 0 = omega arith in
-        rw none (decimal-small n l ∙ ap (λ (m : ℕ). (48 + m) ∷ []) (sym (mod-eq-of-lt l) ∙ ap (λ (m : ℕ). m % 10) (sym (div-one n))))
+        rw none (decimal-small n l ∙ ap (λ (m : ℕ). (48 + m) ∷ []) (sym (mod-eq-of-lt l)))
     go (no l) shorter =
         let more = length-large n (omega arith) in
-        decimal-large n (omega arith)
-        ∙ ap (λ (before : List ℕ). before ++ (48 + n % 10) ∷ []) (shorter (omega arith))
-        ∙ sym (digits-shift k n)
+        decimal-large n (omega arith) ∙ ap (λ (before : List ℕ). before ++ (48 + n % 10) ∷ []) (shorter (omega arith))
 
--- the loop of `put_decimal`: k digits are left to be put at p
-pub record DecimalSo (n : ℕ) (out₀ : List ℕ) (at : ℕ) (out : List ℕ) (p k : ℕ) : Type 0 where
-  pub rest : written out p (digitsFrom n k) ≡ written out₀ at (decimal n)
-  pub behind : p + k ≡ at + length (decimal n)
-  pub most : p + k ≤ at + 10
+-- a text may be written from its end: its last byte first
+written-last : (xs out : List ℕ) (at d : ℕ) → written out at (xs ++ d ∷ []) ≡ written (set out (at + length xs) d) at xs
+unfolding written
+written-last [] out at d = let here : at + 0 ≡ at = omega arith in rw here
+written-last (x ∷ xs) out at d =
+    let there : at + 1 + length xs ≡ at + suc (length xs) = omega arith in
+    written-last xs (set out at x) (at + 1) d
+    ∙ rw there (ap (λ (area : List ℕ). written area (at + 1) xs) (set-comm out at (at + suc (length xs)) x d (λ e. omega arith)))
+
+-- the loop of `put_decimal`: the last k digits of the rest are left to be put, from `at` on
+pub record DecimalSo (n : ℕ) (out₀ : List ℕ) (at : ℕ) (out : List ℕ) (rest k : ℕ) : Type 0 where
+  pub left : written out at (lastDigits rest k) ≡ written out₀ at (decimal n)
   pub few : k ≤ 10
   pub room : at + 10 ≤ length out₀
   pub long : length out ≡ length out₀
 
-pub decimal-begins : {n at k : ℕ} (out : List ℕ) → at + 10 ≤ length out → k ≡ length (decimal n) → k ≤ 10 → DecimalSo n out at out at k
-decimal-begins {n} {at} {k} out room e few =
-    record { rest = ap (written out at) (sym (digits-are k n (sym e))); behind = ap (λ (m : ℕ). at + m) e; most = omega arith; few = few; room = room; long = refl }
+pub decimal-begins : {n at k : ℕ} (out : List ℕ) → at + 10 ≤ length out → k ≡ length (decimal n) → k ≤ 10 → DecimalSo n out at out n k
+decimal-begins {n} {at} {k} out room e few = record { left = ap (written out at) (sym (digits-are k n (sym e))); few = few; room = room; long = refl }
 
-module _ {n at p k : ℕ} {out₀ out : List ℕ} (so : DecimalSo n out₀ at out p k) where
-  pub decimal-power : 0 < k → k - 1 < 10
-  decimal-power l = let few = so .few in omega arith
+module _ {n at rest k : ℕ} {out₀ out : List ℕ} (so : DecimalSo n out₀ at out rest k) where
+  pub decimal-inside : 0 < k → at + (k - 1) < length out
+  decimal-inside l = let few = so .few in let room = so .room in let long = so .long in omega arith
 
-  pub decimal-inside : 0 < k → p < length out
-  decimal-inside l = let most = so .most in let room = so .room in let long = so .long in omega arith
-
-  pub decimal-more : {b : ℕ} → 0 < k → b ≡ 48 + n / 10 ^ (k - 1) % 10 → DecimalSo n out₀ at (set out p b) (p + 1) (k - 1)
-  unfolding written digitsFrom
+  pub decimal-more : {b : ℕ} → 0 < k → b ≡ 48 + rest % 10 → DecimalSo n out₀ at (set out (at + (k - 1)) b) (rest / 10) (k - 1)
+  unfolding lastDigits
   decimal-more {b} l e =
       let one : k ≡ suc (k - 1) = omega arith in
-      let behind = so .behind in
-      let most = so .most in
       let few = so .few in
+      let before = lastDigits (rest / 10) (k - 1) in
+      let last = written-last before out at (48 + rest % 10) in
+      let here : written (set out (at + (k - 1)) b) at before ≡ written (set out (at + length before) (48 + rest % 10)) at before =
+      ap (λ (m : ℕ). written (set out (at + m) b) at before) (sym (length-last (k - 1) (rest / 10)))
+      ∙ ap (λ (c : ℕ). written (set out (at + length before) c) at before) e in
       record {
-        rest = rw e (rw one at (so .rest));
-        behind = omega arith;
-        most = omega arith;
+        left = here ∙ sym last ∙ (rw one at (so .left));
         few = omega arith;
         room = so .room;
-        long = length-set out p b ∙ so .long;
+        long = length-set out (at + (k - 1)) b ∙ so .long;
       }
 
-  pub decimal-done : k ≤ 0 → Put out₀ at (decimal n) out p
-  unfolding written digitsFrom
-  decimal-done l =
+  pub decimal-done : {count : ℕ} → k ≤ 0 → count ≡ length (decimal n) → Put out₀ at (decimal n) out (at + count)
+  unfolding written lastDigits
+  decimal-done l e =
       let none : k ≡ 0 = omega arith in
-      let behind = so .behind in
-      record { bytes = rw none at (so .rest); behind = omega arith }
+      record { bytes = rw none at (so .left); behind = ap (λ (m : ℕ). at + m) e }
 
-  pub decimal-short : p ≤ at + 10
-  decimal-short = let most = so .most in omega arith
+pub decimal-short : (at : ℕ) {count : ℕ} → count ≤ 10 → at + count ≤ at + 10
+decimal-short at l = omega arith

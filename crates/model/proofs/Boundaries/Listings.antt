@@ -33,6 +33,33 @@ shows-refused-expression = unfold everything in refl
 shows-input-of-2 : map listing ([] ∷ (1 ∷ []) ∷ (1 ∷ 0 ∷ []) ∷ []) ≡ replicate 3 (bytesOfText "refused;1;0\n")
 shows-input-of-2 = unfold everything in refl
 
+-- 02, E5: "Every listing stays byte for byte as it was, for numbers up to 4,294,967,295": each power of ten and the number below it
+shows-decimals-at-powers
+    : map decimal (0 ∷ 1 ∷ 9 ∷ 10 ∷ 99 ∷ 100 ∷ 999 ∷ 1000 ∷ 9999 ∷ 10000 ∷ 99999 ∷ 100000 ∷ 999999 ∷ 1000000 ∷ 9999999 ∷ 10000000 ∷ 99999999 ∷ 100000000 ∷ 999999999 ∷ 1000000000 ∷ 4294967295 ∷ [])
+    ≡ bytesOfText "0"
+    ∷ bytesOfText "1"
+    ∷ bytesOfText "9"
+    ∷ bytesOfText "10"
+    ∷ bytesOfText "99"
+    ∷ bytesOfText "100"
+    ∷ bytesOfText "999"
+    ∷ bytesOfText "1000"
+    ∷ bytesOfText "9999"
+    ∷ bytesOfText "10000"
+    ∷ bytesOfText "99999"
+    ∷ bytesOfText "100000"
+    ∷ bytesOfText "999999"
+    ∷ bytesOfText "1000000"
+    ∷ bytesOfText "9999999"
+    ∷ bytesOfText "10000000"
+    ∷ bytesOfText "99999999"
+    ∷ bytesOfText "100000000"
+    ∷ bytesOfText "999999999"
+    ∷ bytesOfText "1000000000"
+    ∷ bytesOfText "4294967295"
+    ∷ []
+shows-decimals-at-powers = unfold everything in refl
+
 -- "Decimal printing": either side of a power of ten, and zeros inside a number
 shows-decimals
     : map decimal (9 ∷ 11 ∷ 99 ∷ 100 ∷ 1002 ∷ 999999999 ∷ 1000000000 ∷ [])

@@ -39,6 +39,7 @@ fn any_input(random: &mut Random) -> Vec<u8> {
         1 => designs::two_groups(),
         2 => designs::smallest(),
         3 => designs::valve(),
+        4 => designs::powers_of_ten(),
         _ => design(random, size),
     };
     let count = match random.below(8) {

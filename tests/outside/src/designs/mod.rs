@@ -7,7 +7,7 @@ mod valve;
 
 pub use largest::largest;
 pub use small::{
-    assigns_twice, copied, low_child, nested_commands, nested_sums, one_operation,
+    assigns_twice, copied, low_child, nested_commands, nested_sums, one_operation, powers_of_ten,
     seen_by_the_child, tests_one_more, three_levels, three_states, timer_counted_by_a_high_state,
     timer_is_a_port, with_width,
 };

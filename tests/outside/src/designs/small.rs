@@ -17,6 +17,22 @@ pub fn three_states(body: impl Fn(&mut Table) -> u16) -> Table {
     table
 }
 
+/// A state that goes to itself, and registers with 0, each power of ten, the number below it, and the largest number.
+pub fn powers_of_ten() -> Table {
+    let mut table = Table::new(&[1]);
+    table.inner(0, 0, 32);
+    for power in 0..10 {
+        table.inner(0, 10u32.pow(power) - 1, 32);
+        table.inner(0, 10u32.pow(power), 32);
+    }
+    table.inner(0, u32::MAX, 32);
+    let fall = table.fall();
+    table.state(0, 0, fall);
+    let go = table.goto(1);
+    table.state(0, 0, go);
+    table
+}
+
 /// So many sums, each adding one constant.
 pub fn nested_sums(count: usize) -> Table {
     three_states(|table| {

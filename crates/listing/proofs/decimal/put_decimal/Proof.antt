@@ -1,13 +1,13 @@
-use Rattle.listing.proofs.DecimalRules.{DecimalSo, decimal-begins, decimal-power, decimal-inside, decimal-more, decimal-done, decimal-short}
+use Rattle.listing.proofs.DecimalRules.{DecimalSo, decimal-begins, decimal-inside, decimal-more, decimal-done, decimal-short}
 use borrow.Author.Needs.{needs}
 use Rattle.listing.proofs.decimal.put_decimal.Statement.{statement}
 use Rattle.listing.proofs.decimal.put_decimal.Tie as tie
 
 abbrev Inv-loop : tie.InvT-loop
-Inv-loop out₀ at n k₀ p₀ out k p = DecimalSo n out₀ at out p k
+Inv-loop out₀ at n count rest₀ k₀ out rest k = DecimalSo n out₀ at out rest k
 
 abbrev μ-loop : tie.MeasureT-loop
-μ-loop out₀ at n k₀ p₀ out k p = k
+μ-loop out₀ at n count rest₀ k₀ out rest k = k
 
 digits-requires : tie.Need-digits-requires Inv-loop μ-loop
 digits-requires c κs = search needs
@@ -18,20 +18,26 @@ loop-holds c = search (decimal-begins, needs)
 sub-k : tie.Need-sub-k Inv-loop μ-loop
 sub-k c = search needs
 
-digit-requires : tie.Need-digit-requires Inv-loop μ-loop
-digit-requires c κs = search (decimal-power, needs)
+add-out : tie.Need-add-out Inv-loop μ-loop
+add-out c = search needs
+
+cast-out : tie.Need-cast-out Inv-loop μ-loop
+cast-out c = search needs
+
+add-out-2 : tie.Need-add-out-2 Inv-loop μ-loop
+add-out-2 c = search (decimal-inside, needs)
 
 slice-write-out : tie.Need-slice-write-out Inv-loop μ-loop
 slice-write-out c = search (decimal-inside, needs)
-
-add-p : tie.Need-add-p Inv-loop μ-loop
-add-p c = search needs
 
 loop-less : tie.Need-loop-less Inv-loop μ-loop
 loop-less c = search needs
 
 loop-again : tie.Need-loop-again Inv-loop μ-loop
 loop-again c = search (decimal-more, needs)
+
+add-result : tie.Need-add-result Inv-loop μ-loop
+add-result c = search needs
 
 same-length : tie.Need-same-length Inv-loop μ-loop
 same-length c = search needs
@@ -48,10 +54,12 @@ put-decimal-spec =
     digits-requires
     loop-holds
     sub-k
-    digit-requires
+    add-out
+    cast-out
+    add-out-2
     slice-write-out
-    add-p
     loop-less
     loop-again
+    add-result
     same-length
     returns)
