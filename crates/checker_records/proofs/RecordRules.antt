@@ -7,6 +7,7 @@ use native.Mathlib.Omega.{arith}
 use lib.Dec.{ltb, leb, eqb}
 use borrow.Author.Tests.{le-leb}
 use lib.ListN.{length}
+use Rattle.model.specs.Limits.{widthMax}
 use Rattle.model.specs.declared.Found.{Found}
 use Rattle.model.specs.declared.Found.the-variants.{Nowhere}
 use Rattle.model.specs.Indices.{lowestFailing}
@@ -62,7 +63,7 @@ module _ {image : List ℕ} {x : Design} (d : Describes image x) where
     pub too-wide : 32 < w → false ≡ registerKept (designOf image) r
     too-wide l = sym (false-unless-true (registerKept (designOf image) r) (λ e. let most = register-iff (designOf image) r .0 e .width-most in let is = width-is in omega arith))
 
-    pub register-rule : {l k v : ℕ} {f : Bool} → 1 ≤ w → w ≤ 32 → l ≡ registerIn image (x .«registers_at») r .label → k ≡ registerIn image (x .«registers_at») r .kind
+    pub register-rule : {l k v : ℕ} {f : Bool} → 1 ≤ w → w ≤ widthMax → l ≡ registerIn image (x .«registers_at») r .label → k ≡ registerIn image (x .«registers_at») r .kind
         → v ≡ registerIn image (x .«registers_at») r .reset → f ≡ ltb v (2 ^ w)
         → (ltb l (x .labels) && leb k 1 && f) ≡ registerKept (designOf image) r
     unfolding registerKept widthKept

@@ -12,6 +12,7 @@ use lib.Dec.{ltb, eqb}
 use borrow.Author.Tests.{eq-eqb, ne-eqb, lt-ltb, le-ltb}
 use mir.Syntax.{w32}
 use mir.Val.{Fits}
+use Rattle.model.specs.Limits.{widthMax}
 
 one-shifted : {n : ℕ} → n < 64 → 1 * 2 ^ n % 18446744073709551616 ≡ 2 ^ n
 one-shifted {n} l = shl-exact 1 n 64 (omega arith) (omega arith) ∙ one-mul (2 ^ n)
@@ -38,7 +39,7 @@ shifted-out a k = go (decLt a (2 ^ k))
         rw (ne-eqb (a / 2 ^ k) 0 some, le-ltb a (2 ^ k) (omega arith))
 
 -- ---- widths
-module _ {w : ℕ} (l : w ≤ 32) where
+module _ {w : ℕ} (l : w ≤ widthMax) where
   pub width-some : 1 ≤ 1 * 2 ^ w % 18446744073709551616
   width-some = shifted-some {n = w} (omega arith)
 

@@ -8,6 +8,7 @@ use native.Mathlib.Omega.{arith}
 use lib.Dec.{eqb}
 use lib.ListN.{length}
 use borrow.Author.Tests.{eqb-true, eq-eqb, ne-eqb}
+use Rattle.model.specs.Limits.{widthMax}
 use Rattle.model.specs.declared.Ending.{Ending}
 use Rattle.model.specs.declared.Ending.the-variants.{Goto, Fall}
 use Rattle.model.specs.declared.Outcome.{Outcome}
@@ -171,7 +172,7 @@ module _ {image : List ℕ} {places commands expressions : ℕ} {before : List �
   place-width : {w : ℕ} (r : ℕ) → w ≡ registerIn image places r .width → w ≡ registerIn image (here .design .«registers_at») r .width
   place-width r h = rw (here .registers-begin) at h
 
-  pub written-narrow : {k r w : ℕ} → k ≡ 1 → k ≡ nodeIn image commands n .kind → r ≡ nodeIn image commands n .item → w ≡ registerIn image places r .width → w ≤ 32
+  pub written-narrow : {k r w : ℕ} → k ≡ 1 → k ≡ nodeIn image commands n .kind → r ≡ nodeIn image commands n .item → w ≡ registerIn image places r .width → w ≤ widthMax
   written-narrow {r = r} q p f h = width-narrow (here .known) (written-register q p f) (place-width r h)
 
   pub executes-leaf :

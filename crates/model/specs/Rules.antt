@@ -1,5 +1,5 @@
--- The rules of document 01, as document 02 changes them, as propositions. `Keeps` is what "keeps the rules" means; that the verdict accepts exactly the images that keep them is
--- the law `verdict-exact` of `proofs/Exact.antt`.
+-- The rules of document 01, as document 02 changes them, as propositions. `Keeps` is what "keeps the rules" means; that the verdict accepts exactly the
+-- images that keep them is the law `verdict-exact` of `proofs/Exact.antt`.
 use Prim.Native.Nat.{ℕ, _%_, _≤_, _<_, _^_}
 use mathlib.Core.Path.{_≡_}
 use mathlib.Core.Bool.{true, false}

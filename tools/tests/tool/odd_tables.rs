@@ -125,16 +125,21 @@ fn widths_are_shown() {
     assert_line(&printed(|_| ()), "port r1 : l1 = 0");
 }
 
+/// What the tool says of the lease design after a change that has it refused with this number.
+fn lease_explained(number: u32, change: impl Fn(&mut Table)) -> String {
+    let mut table = lease();
+    change(&mut table);
+    let image = table.image();
+    let answer = library::check(&image);
+    assert_eq!(answer.number, number);
+    explain::explain(&image, answer)
+}
+
 /// Refusal 3 says which fields are wrong.
 #[test]
 fn registers_are_explained() {
     let explained = |change: &dyn Fn(&mut Table)| {
-        let mut table = lease();
-        change(&mut table);
-        let image = table.image();
-        let answer = library::check(&image);
-        assert_eq!(answer.number, 3);
-        let text = explain::explain(&image, answer);
+        let text = lease_explained(3, change);
         let (_, reasons) = text.split_once("\nBecause:\n").unwrap();
         reasons.to_string()
     };
@@ -170,14 +175,7 @@ fn registers_are_explained() {
 /// Refusal 6 names what uses the node.
 #[test]
 fn uses_are_explained() {
-    let explained = |change: &dyn Fn(&mut Table)| {
-        let mut table = lease();
-        change(&mut table);
-        let image = table.image();
-        let answer = library::check(&image);
-        assert_eq!(answer.number, 6);
-        explain::explain(&image, answer)
-    };
+    let explained = |change: &dyn Fn(&mut Table)| lease_explained(6, change);
     let text = explained(&|table| table.commands[3].b = 1);
     assert!(
         text.ends_with("\nUsed by: command 3, command 3\n"),

@@ -121,13 +121,7 @@ pub fn assigns_twice() -> Table {
     let right = table.read(register);
     let sum = table.add(left, right);
     let second = table.assign(register, sum);
-    let both = table.sequence(first, second);
-    let fall = table.fall();
-    let body = table.sequence(both, fall);
-    table.state(0, 0, body);
-    let body = table.goto(1);
-    table.state(0, 0, body);
-    table
+    root_does(table, first, second)
 }
 
 /// The root writes a number into r0, and the child tests r0 in the same cycle.
@@ -149,6 +143,17 @@ pub fn seen_by_the_child(number: u32) -> Table {
     table
 }
 
+/// The root does both and falls, to a child that goes to itself.
+fn root_does(mut table: Table, first: u16, second: u16) -> Table {
+    let both = table.sequence(first, second);
+    let fall = table.fall();
+    let body = table.sequence(both, fall);
+    table.state(0, 0, body);
+    let body = table.goto(1);
+    table.state(0, 0, body);
+    table
+}
+
 /// r0 := the number; r1 := r0 in each cycle, in the root, which then falls; r0 has this width, r1 has
 /// 32.
 pub fn copied(width: u8, number: u32) -> Table {
@@ -159,13 +164,7 @@ pub fn copied(width: u8, number: u32) -> Table {
     let first = table.assign(narrow, value);
     let value = table.read(narrow);
     let second = table.assign(wide, value);
-    let both = table.sequence(first, second);
-    let fall = table.fall();
-    let body = table.sequence(both, fall);
-    table.state(0, 0, body);
-    let body = table.goto(1);
-    table.state(0, 0, body);
-    table
+    root_does(table, first, second)
 }
 
 /// State 1: if r0 + 1 then goto 2 else goto 1. r0 has this width and all its bits set at reset.

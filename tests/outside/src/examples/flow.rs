@@ -1,6 +1,6 @@
 //! Refusals 10 to 12: leaks through assignments, gotos and falls.
 
-use super::{accepted, changed, refused, Example};
+use super::{accepted, changed, copy_and_go, go_by_r1, refused, Example};
 use crate::designs::{three_states, timer_counted_by_a_high_state};
 use crate::table::Table;
 
@@ -8,23 +8,13 @@ pub fn examples() -> Vec<Example> {
     vec![
         refused(
             "10: r0 := r1, labels 0 and 1",
-            &three_states(|table| {
-                let value = table.read(1);
-                let assign = table.assign(0, value);
-                let go = table.goto(1);
-                table.sequence(assign, go)
-            }),
+            &three_states(|table| copy_and_go(table, 0, 1)),
             10,
             1,
         ),
         refused(
             "11: if r1 then goto 1 else goto 2, both label 0",
-            &three_states(|table| {
-                let secret = table.read(1);
-                let then = table.goto(1);
-                let otherwise = table.goto(2);
-                table.branch(secret, then, otherwise)
-            }),
+            &three_states(go_by_r1),
             11,
             1,
         ),
@@ -94,18 +84,10 @@ pub fn examples() -> Vec<Example> {
         // "Not above" is not "at or below".
         refused(
             "10: labels that cannot be compared",
-            &changed(
-                three_states(|table| {
-                    let value = table.read(1);
-                    let assign = table.assign(2, value);
-                    let go = table.goto(1);
-                    table.sequence(assign, go)
-                }),
-                |table| {
-                    table.rows = vec![15, 10, 12, 8];
-                    table.inner(2, 0, 32);
-                },
-            ),
+            &changed(three_states(|table| copy_and_go(table, 2, 1)), |table| {
+                table.rows = vec![15, 10, 12, 8];
+                table.inner(2, 0, 32);
+            }),
             10,
             1,
         ),

@@ -50,3 +50,19 @@ fn changed(mut table: Table, change: impl FnOnce(&mut Table)) -> Table {
     change(&mut table);
     table
 }
+
+/// One register := another; goto 1.
+fn copy_and_go(table: &mut Table, to: u8, from: u8) -> u16 {
+    let value = table.read(from);
+    let assign = table.assign(to, value);
+    let go = table.goto(1);
+    table.sequence(assign, go)
+}
+
+/// If r1 then goto 1 else goto 2.
+fn go_by_r1(table: &mut Table) -> u16 {
+    let condition = table.read(1);
+    let then = table.goto(1);
+    let otherwise = table.goto(2);
+    table.branch(condition, then, otherwise)
+}

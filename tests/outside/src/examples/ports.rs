@@ -1,6 +1,6 @@
 //! Refusal 16: an assignment names a port. It is judged after 8 and before 9.
 
-use super::{accepted, changed, refused, Example};
+use super::{accepted, changed, copy_and_go, go_by_r1, refused, Example};
 use crate::designs::{low_child, nested_sums, three_states, timer_is_a_port};
 use crate::reference::image::PORT;
 use crate::table::Table;
@@ -18,12 +18,7 @@ fn alone() -> Vec<Example> {
         refused("16: r1 := 0, a port", &three_states(assign_port), 16, 1),
         refused(
             "16: r1 := r1, which would change nothing",
-            &three_states(|table| {
-                let value = table.read(1);
-                let assign = table.assign(1, value);
-                let go = table.goto(1);
-                table.sequence(assign, go)
-            }),
+            &three_states(|table| copy_and_go(table, 1, 1)),
             16,
             1,
         ),
@@ -137,39 +132,21 @@ fn later_checks() -> Vec<Example> {
         ),
         refused(
             "16 before 10, at one command",
-            &changed(
-                three_states(|table| {
-                    let value = table.read(1);
-                    let assign = table.assign(2, value);
-                    let go = table.goto(1);
-                    table.sequence(assign, go)
-                }),
-                |table| {
-                    table.port(0, 0, 32);
-                },
-            ),
+            &changed(three_states(|table| copy_and_go(table, 2, 1)), |table| {
+                table.port(0, 0, 32);
+            }),
             16,
             1,
         ),
         refused(
             "16 before 10, though at a higher command",
-            &then_assign_port(three_states(|table| {
-                let value = table.read(1);
-                let assign = table.assign(0, value);
-                let go = table.goto(1);
-                table.sequence(assign, go)
-            })),
+            &then_assign_port(three_states(|table| copy_and_go(table, 0, 1))),
             16,
             5,
         ),
         refused(
             "16 before 11, though at a higher command",
-            &then_assign_port(three_states(|table| {
-                let secret = table.read(1);
-                let then = table.goto(1);
-                let otherwise = table.goto(2);
-                table.branch(secret, then, otherwise)
-            })),
+            &then_assign_port(three_states(go_by_r1)),
             16,
             5,
         ),
