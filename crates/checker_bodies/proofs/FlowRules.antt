@@ -19,6 +19,7 @@ use Rattle.model.specs.Kinds.{Operation, less, constants, commandKind, expressi
 use Rattle.model.specs.Trees.{Expr, constant, register, binary, exprOf, cmdOf, registersRead}
 use Rattle.model.specs.Flow.{refusedUnless, labelsRead, flowFaults, nearer, nearest, flowRefusal}
 use Rattle.model.specs.Rules.{ExpressionHolds}
+use Rattle.model.proofs.Laws.Kinds.{expressionKinds, kind-constants, no-expression-kind}
 use Rattle.model.proofs.Laws.Trees.{expr-constant, expr-register, expr-binary, cmd-assign}
 use Rattle.model.proofs.Exact.Records.{state-iff}
 use Rattle.design.specs.declared.Design.{Design}
@@ -134,20 +135,6 @@ labels-constant : (d : Table) (v : ℕ) → labelsRead d (constant v) ≡ []
 unfolding labelsRead registersRead
 labels-constant d v = refl
 
--- a kind that is no register and no operation is a constant
-constant-kind : (d : Table) (n k : ℕ) (x : Node) → (k ≡ 1 → ⊥) → (2 ≤ k → k ≤ 8 → ⊥) → ExpressionHolds d n (expressionKind k) x → expressionKind k ≡ constants
-unfolding expressionKind
-constant-kind d n zero x a b h = refl
-constant-kind d n (suc zero) x a b h = absurd (a refl)
-constant-kind d n (suc (suc zero)) x a b h = absurd (b (omega arith) (omega arith))
-constant-kind d n (suc (suc (suc zero))) x a b h = absurd (b (omega arith) (omega arith))
-constant-kind d n (suc (suc (suc (suc zero)))) x a b h = absurd (b (omega arith) (omega arith))
-constant-kind d n (suc (suc (suc (suc (suc zero))))) x a b h = absurd (b (omega arith) (omega arith))
-constant-kind d n (suc (suc (suc (suc (suc (suc zero)))))) x a b h = absurd (b (omega arith) (omega arith))
-constant-kind d n (suc (suc (suc (suc (suc (suc (suc zero))))))) x a b h = absurd (b (omega arith) (omega arith))
-constant-kind d n (suc (suc (suc (suc (suc (suc (suc (suc zero)))))))) x a b h = absurd (b (omega arith) (omega arith))
-constant-kind d n (suc (suc (suc (suc (suc (suc (suc (suc (suc k))))))))) x a b h = absurd h
-
 module _ {image : List ℕ} {registersAt place e : ℕ} (here : Gathering image registersAt place e) where
   pub gathered-register : {k r : ℕ} → k ≡ 1 → k ≡ nodeIn image place e .kind → r ≡ nodeIn image place e .item → Labelled image registersAt r
   gathered-register q p f =
@@ -159,10 +146,10 @@ module _ {image : List ℕ} {registersAt place e : ℕ} (here : Gathering image 
   lower-gathering m l =
       record { design = here .design; known = here .known; expression = lower-expression (here .expression) (here .known .expressions) l; registers-begin = here .registers-begin }
 
-  pub operand-a-gathering : {k a : ℕ} → k < 9 → 1 ≤ k → (k ≡ 1 → ⊥) → k ≡ nodeIn image place e .kind → a ≡ nodeIn image place e .a → Gathering image registersAt place a
+  pub operand-a-gathering : {k a : ℕ} → k < expressionKinds → 1 ≤ k → (k ≡ 1 → ⊥) → k ≡ nodeIn image place e .kind → a ≡ nodeIn image place e .a → Gathering image registersAt place a
   operand-a-gathering {a = a} u l other p f = lower-gathering a (operand-a-below (here .expression) u l other p f)
 
-  pub operand-b-gathering : {k b : ℕ} → k < 9 → 1 ≤ k → (k ≡ 1 → ⊥) → k ≡ nodeIn image place e .kind → b ≡ nodeIn image place e .b → Gathering image registersAt place b
+  pub operand-b-gathering : {k b : ℕ} → k < expressionKinds → 1 ≤ k → (k ≡ 1 → ⊥) → k ≡ nodeIn image place e .kind → b ≡ nodeIn image place e .b → Gathering image registersAt place b
   operand-b-gathering {b = b} u l other p f = lower-gathering b (operand-b-below (here .expression) u l other p f)
 
   -- ---- what is read
@@ -177,7 +164,7 @@ module _ {image : List ℕ} {registersAt place e : ℕ} (here : Gathering image 
 
   pub gathers-operation :
       {k a b m n : ℕ}
-      → k < 9
+      → k < expressionKinds
       → 1 ≤ k
       → (k ≡ 1 → ⊥)
       → k ≡ nodeIn image place e .kind
@@ -196,17 +183,15 @@ module _ {image : List ℕ} {registersAt place e : ℕ} (here : Gathering image 
       let tree = expr-binary d e (o .1) lower lower′ in
       rw (tree, labels-binary d (o .0) (exprOf d (expressionAt d e .a)) (exprOf d (expressionAt d e .b))) (mask-both (rw first at mask) (rw second at mask′))
 
-  gathers-nothing : {k : ℕ} → k ≡ nodeIn image place e .kind → (k ≡ 1 → ⊥) → (2 ≤ k → k ≤ 8 → ⊥) → MaskOf (designOf image .rows) (labelsRead (designOf image) (exprOf (designOf image) e)) 65535
-  gathers-nothing {k} p a b =
-      let d = designOf image in
-      let kind = constant-kind d e k (expressionAt d e) a b (expression-holds (here .expression) p) in
-      rw (expr-constant d e (ap expressionKind (expression-kind-is (here .expression) p) ∙ kind), labels-constant d _) (mask-none (here .known .describes))
-
   pub gathers-low : {k : ℕ} → k < 1 → k ≡ nodeIn image place e .kind → MaskOf (designOf image .rows) (labelsRead (designOf image) (exprOf (designOf image) e)) 65535
-  gathers-low l p = gathers-nothing p (λ h. omega arith) (λ h k. omega arith)
+  gathers-low l p =
+      let d = designOf image in
+      let none = expression-kind-is (here .expression) p in
+      rw (expr-constant d e (kind-constants (omega arith)), labels-constant d _) (mask-none (here .known .describes))
 
-  pub gathers-high : {k : ℕ} → 9 ≤ k → k ≡ nodeIn image place e .kind → MaskOf (designOf image .rows) (labelsRead (designOf image) (exprOf (designOf image) e)) 65535
-  gathers-high l p = gathers-nothing p (λ h. omega arith) (λ h k. omega arith)
+  -- no number from here on is a kind
+  pub gathers-high : {k : ℕ} → expressionKinds ≤ k → k ≡ nodeIn image place e .kind → MaskOf (designOf image .rows) (labelsRead (designOf image) (exprOf (designOf image) e)) 65535
+  gathers-high l p = absurd (rw (no-expression-kind l) at (expression-holds (here .expression) p))
 
 pub ruleset reads-laws = (expression-place-inside, gathered-register, gathers-register, gathers-operation, gathers-low, gathers-high)
 

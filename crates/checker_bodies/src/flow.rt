@@ -41,7 +41,7 @@ fn reads(image: &[u8], registers_at: usize, expressions_at: usize, e: usize) -> 
             let r = Design::item(image, expressions_at, e);
             register_mask(image, registers_at, r)
         }
-        2..=8 => {
+        2..=11 => {
             let a = Design::part_a(image, expressions_at, e);
             let b = Design::part_b(image, expressions_at, e);
             let p = reads(&*image, registers_at, expressions_at, a);

@@ -18,7 +18,7 @@ use Rattle.model.specs.Trees.{exprOf, cmdOf, exprDepth, cmdDepth}
 use Rattle.model.specs.Nodes.{commandDepthKept, expressionDepthKept}
 use Rattle.model.proofs.Laws.Booleans.{decide}
 use Rattle.model.proofs.Laws.Indices.{below-suc}
-use Rattle.model.proofs.Laws.Kinds.{kind-sequences, kind-branches, sequences-number, branches-number, no-operation-zero, no-operation-one, no-operation-above}
+use Rattle.model.proofs.Laws.Kinds.{kind-sequences, kind-branches, sequences-number, branches-number, expressionKinds, no-operation-zero, no-operation-one, no-operation-above}
 use Rattle.model.proofs.Laws.Trees.{cmd-flat-depth, cmd-sequence-depth, cmd-branch-depth, expr-flat-depth, expr-binary-depth}
 use Rattle.design.specs.declared.Design.{Design}
 use Rattle.design.specs.Records.{nodeIn}
@@ -100,13 +100,13 @@ module _ {image : List ℕ} {x : Design} {place n k : ℕ} (here : ExpressionAt 
   pub low-depth : k < 2 → 1 ≡ depthEntry (exprDepth (exprOf (designOf image) n))
   low-depth h = no-operation (λ o e. ⊎-elim (λ (z : k < 1). no-operation-zero (omega arith) o e) (λ (z : k ≡ 1). no-operation-one z o e) (below-suc h))
 
-  pub high-depth : 9 ≤ k → 1 ≡ depthEntry (exprDepth (exprOf (designOf image) n))
+  pub high-depth : expressionKinds ≤ k → 1 ≡ depthEntry (exprDepth (exprOf (designOf image) n))
   high-depth h = no-operation (no-operation-above h)
 
   module _ {table : List ℕ} {a b r : ℕ} (t : Depths table (λ m. exprDepth (exprOf (designOf image) m)) n) where
     pub operation-depth :
         2 ≤ k
-        → k < 9
+        → k < expressionKinds
         → a ≡ nodeIn image place n .a
         → b ≡ nodeIn image place n .b
         → r ≡ depthEntry (max (getD table a 0) (getD table b 0) + 1)

@@ -8,7 +8,7 @@ use native.Mathlib.Omega.{arith}
 use lib.Dec.{ltb, eqb}
 use Rattle.model.specs.Image.{Node, designOf, commandAt, expressionAt}
 use Rattle.model.specs.Kinds.{CommandKind, ExpressionKind, commandKind, expressionKind, commandHolds, expressionHolds, commandKept, expressionKept}
-use Rattle.model.proofs.Laws.Kinds.{kind-skips, kind-assigns, kind-sequences, kind-falls, kind-goes, kind-branches, no-command-kind, kind-constants, kind-reads, kind-operates, no-expression-kind}
+use Rattle.model.proofs.Laws.Kinds.{kind-skips, kind-assigns, kind-sequences, kind-falls, kind-goes, kind-branches, no-command-kind, expressionKinds, kind-constants, kind-reads, kind-operates, no-expression-kind}
 use Rattle.design.specs.declared.Design.{Design}
 use Rattle.design.specs.Records.{nodeIn}
 use Rattle.design.specs.Describes.{Describes}
@@ -135,7 +135,7 @@ module _ {image : List ℕ} {x : Design} (d : Describes image x) where
       let same = expression-in d l in
       rw (i ∙ ap (λ (y : Node). y .item) same, a ∙ ap (λ (y : Node). y .a) same) (expression-of n (k ∙ ap (λ (y : Node). y .kind) same) (kind-constants e))
 
-  pub expression-unknown : {n k : ℕ} → n < x .expressions → k ≡ nodeIn image (x .«expressions_at») n .kind → 9 ≤ k → false ≡ expressionKept (designOf image) n
+  pub expression-unknown : {n k : ℕ} → n < x .expressions → k ≡ nodeIn image (x .«expressions_at») n .kind → expressionKinds ≤ k → false ≡ expressionKept (designOf image) n
   unfolding expressionHolds
   expression-unknown {n} l same h = expression-of n (same ∙ ap (λ (y : Node). y .kind) (expression-in d l)) (no-expression-kind h)
 
@@ -145,7 +145,7 @@ module _ {image : List ℕ} {x : Design} (d : Describes image x) where
     expression-register e = rw (f .item, f .a, f .b, f .c, registers-count d) (expression-of n (f .kind) (kind-reads e))
 
     pub expression-operation :
-        (k ≡ 0 → ⊥) → (k ≡ 1 → ⊥) → k < 9 → (eqb i 0 && ltb a n && ltb b n && eqb c 0) ≡ expressionKept (designOf image) n
+        (k ≡ 0 → ⊥) → (k ≡ 1 → ⊥) → k < expressionKinds → (eqb i 0 && ltb a n && ltb b n && eqb c 0) ≡ expressionKept (designOf image) n
     unfolding expressionHolds
     expression-operation p q l = let o = kind-operates p q l in rw (f .item, f .a, f .b, f .c) (expression-of n (f .kind) (o .1))
 

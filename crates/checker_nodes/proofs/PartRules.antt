@@ -8,6 +8,7 @@ use Rattle.model.specs.Limits.{commandsMax, expressionsMax}
 use Rattle.model.specs.Image.{designOf}
 use Rattle.model.specs.Kinds.{commandKept, expressionKept}
 use Rattle.model.proofs.Laws.Booleans.{not-false}
+use Rattle.model.proofs.Laws.Kinds.{expressionKinds}
 use Rattle.design.specs.declared.Design.{Design}
 use Rattle.design.specs.Records.{nodeIn}
 use Rattle.design.specs.Describes.{Describes}
@@ -32,10 +33,10 @@ module _ {image : List ℕ} {x : Design} (d : Describes image x) where
 
 -- the parts of an operation, where its kind is the first that a match looks for
 module _ {image : List ℕ} {x : Design} {place n k m : ℕ} (here : ExpressionAt image x place n) where
-  pub operation-a : 2 ≤ k → k < 9 → k ≡ nodeIn image place n .kind → m ≡ nodeIn image place n .a → m < n
+  pub operation-a : 2 ≤ k → k < expressionKinds → k ≡ nodeIn image place n .kind → m ≡ nodeIn image place n .a → m < n
   operation-a low high same p = operand-a-below here high (omega arith) (λ e. omega arith) same p
 
-  pub operation-b : 2 ≤ k → k < 9 → k ≡ nodeIn image place n .kind → m ≡ nodeIn image place n .b → m < n
+  pub operation-b : 2 ≤ k → k < expressionKinds → k ≡ nodeIn image place n .kind → m ≡ nodeIn image place n .b → m < n
   operation-b low high same p = operand-b-below here high (omega arith) (λ e. omega arith) same p
 
 -- a part of a node stands in the table of its family
@@ -56,10 +57,10 @@ module _ {image : List ℕ} {x : Design} {place n : ℕ} (here : CommandAt image
   branch-c-inside e same p = lower-inside (branch-c-below here e same p)
 
 module _ {image : List ℕ} {x : Design} {place n k m : ℕ} (here : ExpressionAt image x place n) where
-  pub operation-a-inside : 2 ≤ k → k < 9 → k ≡ nodeIn image place n .kind → m ≡ nodeIn image place n .a → m < expressionsMax
+  pub operation-a-inside : 2 ≤ k → k < expressionKinds → k ≡ nodeIn image place n .kind → m ≡ nodeIn image place n .a → m < expressionsMax
   operation-a-inside low high same p = let most = expression-entry (here .describes) (here .node) in let below = operation-a here low high same p in omega arith
 
-  pub operation-b-inside : 2 ≤ k → k < 9 → k ≡ nodeIn image place n .kind → m ≡ nodeIn image place n .b → m < expressionsMax
+  pub operation-b-inside : 2 ≤ k → k < expressionKinds → k ≡ nodeIn image place n .kind → m ≡ nodeIn image place n .b → m < expressionsMax
   operation-b-inside low high same p = let most = expression-entry (here .describes) (here .node) in let below = operation-b here low high same p in omega arith
 
 -- the counts of a design, for `search`

@@ -12,7 +12,7 @@ use Rattle.model.specs.Image.{Node, designOf, commandAt, expressionAt}
 use Rattle.model.specs.Kinds.{CommandKind, skips, assigns, sequences, falls, goes, branches, unknownCommand, ExpressionKind, constants, reads, unknownExpression, Operation, operates, commandKind, expressionKind, commandKept, expressionKept}
 use Rattle.model.specs.Nodes.{commandParts, expressionsOf, expressionParts, commandUses, expressionUses, commandUsedOnce, expressionUsedOnce}
 use Rattle.model.proofs.Laws.Indices.{below-suc}
-use Rattle.model.proofs.Laws.Kinds.{kind-assigns, kind-sequences, kind-branches, assigns-number, sequences-number, branches-number, no-operation-zero, no-operation-one, no-operation-above}
+use Rattle.model.proofs.Laws.Kinds.{kind-assigns, kind-sequences, kind-branches, assigns-number, sequences-number, branches-number, expressionKinds, no-operation-zero, no-operation-one, no-operation-above}
 use Rattle.design.specs.declared.Design.{Design}
 use Rattle.design.specs.Records.{stateIn, nodeIn}
 use Rattle.design.specs.Describes.{Describes}
@@ -149,7 +149,7 @@ module _ {image : List ℕ} {x : Design} {place n k : ℕ} (here : ExpressionAt 
   pub uses-operation :
       (t : List ℕ) {u v : List ℕ} {a b : ℕ}
       → 2 ≤ k
-      → k < 9
+      → k < expressionKinds
       → a ≡ nodeIn image place n .a
       → b ≡ nodeIn image place n .b
       → u ≡ countUse t a
@@ -170,7 +170,7 @@ module _ {image : List ℕ} {x : Design} {place n k : ℕ} (here : ExpressionAt 
   pub uses-low : {t : List ℕ} → k < 2 → t ≡ countUses t (operandsOf (designOf image) n)
   uses-low h = no-operation (λ o e. ⊎-elim (λ (z : k < 1). no-operation-zero (omega arith) o e) (λ (z : k ≡ 1). no-operation-one z o e) (below-suc h))
 
-  pub uses-high : {t : List ℕ} → 9 ≤ k → t ≡ countUses t (operandsOf (designOf image) n)
+  pub uses-high : {t : List ℕ} → expressionKinds ≤ k → t ≡ countUses t (operandsOf (designOf image) n)
   uses-high h = no-operation (no-operation-above h)
 
 -- ---- a state's use

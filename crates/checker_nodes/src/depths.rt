@@ -70,7 +70,7 @@ pub fn expression_depth(
     let a = Design::part_a(image, at, n);
     let b = Design::part_b(image, at, n);
     match kind {
-        2..=8 => above(depths[a], depths[b]),
+        2..=11 => above(depths[a], depths[b]),
         _ => 1,
     }
 }

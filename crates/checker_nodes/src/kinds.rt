@@ -41,7 +41,7 @@ pub fn expression_kept(image: &[u8], design: Design, n: usize) -> bool
     match kind {
         0 => (item == 0) & (a == 0),
         1 => (item < design.registers) & (a == 0) & (b == 0) & (c == 0),
-        2..=8 => (item == 0) & (a < n) & (b < n) & (c == 0),
+        2..=11 => (item == 0) & (a < n) & (b < n) & (c == 0),
         _ => false,
     }
 }

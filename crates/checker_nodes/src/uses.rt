@@ -94,7 +94,7 @@ pub fn use_operands(table: &mut [u8; Design::EXPRESSIONS], image: &[u8], design:
     let a = Design::part_a(image, at, n);
     let b = Design::part_b(image, at, n);
     match kind {
-        2..=8 => {
+        2..=11 => {
             use_expression(table, a);
             use_expression(table, b);
         }

@@ -7,7 +7,7 @@ use lib.ListN.{length}
 use Rattle.model.specs.Image.{State, Node, designOf, stateAt, commandAt, expressionAt}
 use Rattle.model.specs.Kinds.{CommandKind, commandKind, Operation, operates, expressionKind}
 use Rattle.model.specs.Rules.{CommandHolds, ExpressionHolds}
-use Rattle.model.proofs.Laws.Kinds.{kind-operates}
+use Rattle.model.proofs.Laws.Kinds.{expressionKinds, kind-operates}
 use Rattle.model.proofs.Exact.Records.{state-iff, command-iff, expression-iff}
 use Rattle.design.specs.declared.Design.{Design}
 use Rattle.design.specs.Records.{stateIn, nodeIn, stateEnd, nodeEnd}
@@ -161,24 +161,24 @@ module _ {image : List ℕ} {x : Design} {place e : ℕ} (here : ExpressionAt im
   read-register q p f = rw (read-is f) ((rw q at (expression-holds p)) .0)
 
   -- the kind byte of an operation
-  pub operation : {k : ℕ} → k < 9 → 1 ≤ k → (k ≡ 1 → ⊥) → k ≡ nodeIn image place e .kind → (o : Operation) × (expressionKind (expressionAt (designOf image) e .kind) ≡ operates o)
+  pub operation : {k : ℕ} → k < expressionKinds → 1 ≤ k → (k ≡ 1 → ⊥) → k ≡ nodeIn image place e .kind → (o : Operation) × (expressionKind (expressionAt (designOf image) e .kind) ≡ operates o)
   operation u l other p =
       let found = kind-operates (λ z. omega arith) other u in
       (found .0, ap expressionKind (expression-kind-is p) ∙ found .1)
 
-  operation-holds : {k : ℕ} → k < 9 → 1 ≤ k → (k ≡ 1 → ⊥) → k ≡ nodeIn image place e .kind → (o : Operation) × ExpressionHolds (designOf image) e (operates o) (expressionAt (designOf image) e)
+  operation-holds : {k : ℕ} → k < expressionKinds → 1 ≤ k → (k ≡ 1 → ⊥) → k ≡ nodeIn image place e .kind → (o : Operation) × ExpressionHolds (designOf image) e (operates o) (expressionAt (designOf image) e)
   operation-holds u l other p = let o = operation u l other p in (o .0, rw (o .1) at (expression-iff (designOf image) e .0 (here .kept)))
 
-  pub operand-a-below : {k a : ℕ} → k < 9 → 1 ≤ k → (k ≡ 1 → ⊥) → k ≡ nodeIn image place e .kind → a ≡ nodeIn image place e .a → a < e
+  pub operand-a-below : {k a : ℕ} → k < expressionKinds → 1 ≤ k → (k ≡ 1 → ⊥) → k ≡ nodeIn image place e .kind → a ≡ nodeIn image place e .a → a < e
   operand-a-below u l other p f = rw (first-is f) (operation-holds u l other p .1 .1)
 
-  pub operand-b-below : {k b : ℕ} → k < 9 → 1 ≤ k → (k ≡ 1 → ⊥) → k ≡ nodeIn image place e .kind → b ≡ nodeIn image place e .b → b < e
+  pub operand-b-below : {k b : ℕ} → k < expressionKinds → 1 ≤ k → (k ≡ 1 → ⊥) → k ≡ nodeIn image place e .kind → b ≡ nodeIn image place e .b → b < e
   operand-b-below u l other p f = rw (second-is f) (operation-holds u l other p .1 .2)
 
-  pub operand-a-falls : {k a t : ℕ} → k < 9 → 1 ≤ k → (k ≡ 1 → ⊥) → k ≡ nodeIn image place e .kind → a ≡ nodeIn image place e .a → e ≡ t → a < t
+  pub operand-a-falls : {k a t : ℕ} → k < expressionKinds → 1 ≤ k → (k ≡ 1 → ⊥) → k ≡ nodeIn image place e .kind → a ≡ nodeIn image place e .a → e ≡ t → a < t
   operand-a-falls u l other p f m = rw m at (operand-a-below u l other p f)
 
-  pub operand-b-falls : {k b t : ℕ} → k < 9 → 1 ≤ k → (k ≡ 1 → ⊥) → k ≡ nodeIn image place e .kind → b ≡ nodeIn image place e .b → e ≡ t → b < t
+  pub operand-b-falls : {k b t : ℕ} → k < expressionKinds → 1 ≤ k → (k ≡ 1 → ⊥) → k ≡ nodeIn image place e .kind → b ≡ nodeIn image place e .b → e ≡ t → b < t
   operand-b-falls u l other p f m = rw m at (operand-b-below u l other p f)
 
   -- a lower expression

@@ -1,17 +1,19 @@
 -- The operations by the number of their kind, and the value of an expression from the values of its parts: the laws that the recursion over parts cites.
 use Prim.Native.Nat.{ℕ, _+_, _-_, _*_, _%_, _^_, _≤_, _<_}
 use mathlib.Core.Path.{_≡_, refl, sym, _∙_, ap}
+use mathlib.Core.Bool.{Bool}
 use mathlib.Core.List.{List}
 use native.Mathlib.Omega.{arith}
 use lib.Bits.{bitAnd, bitOr, bitXor}
 use lib.Dec.{ltb, eqb}
 use lib.ListN.{length}
 use Rattle.model.specs.Image.{designOf, expressionAt, word32At, constantOf}
-use Rattle.model.specs.Kinds.{Operation, add, subtract, bitwiseAnd, bitwiseOr, bitwiseXor, equal, less, ExpressionKind, constants, reads, operates, unknownExpression, expressionKind}
+use Rattle.model.specs.Kinds.{Operation, add, subtract, bitwiseAnd, bitwiseOr, bitwiseXor, equal, less, signedLess, arithmeticShift, signedDivision, ExpressionKind, constants, reads, operates, unknownExpression, expressionKind}
+use Rattle.model.specs.Signed.{belowSigned, shiftedRight, dividedSigned}
 use Rattle.model.specs.Trees.{exprOf}
 use Rattle.model.specs.Values.{apply, oneOrZero}
 use Rattle.model.specs.Machine.{eval}
-use Rattle.model.proofs.Laws.Kinds.{kind-constants, kind-reads, kind-operates, no-expression-kind}
+use Rattle.model.proofs.Laws.Kinds.{expressionKinds, kind-constants, kind-reads, kind-operates, no-expression-kind}
 use Rattle.model.proofs.Laws.Trees.{expr-constant, expr-register, expr-binary}
 use Rattle.design.specs.Records.{nodeIn, constantIn}
 use Rattle.design.proofs.Laws.{registers-count}
@@ -26,6 +28,13 @@ operationOf constants = add
 operationOf reads = add
 operationOf unknownExpression = add
 operationOf (operates o) = o
+
+-- The kind that is left, in two steps: `omega` splits at each number that is excluded.
+behind-xor : (k : ℕ) → (k ≡ 2 → ⊥) → (k ≡ 3 → ⊥) → (k ≡ 4 → ⊥) → (k ≡ 5 → ⊥) → (k ≡ 6 → ⊥) → 2 ≤ k → 7 ≤ k
+behind-xor k a b c d e l = omega arith
+
+last-kind : (k : ℕ) → 7 ≤ k → (k ≡ 7 → ⊥) → (k ≡ 8 → ⊥) → (k ≡ 9 → ⊥) → (k ≡ 10 → ⊥) → k ≤ 11 → k ≡ 11
+last-kind k l a b c d u = omega arith
 
 module _ (k : ℕ) (o : Operation) (x y : ℕ) where
   -- the value of the operation that a number has
@@ -52,7 +61,19 @@ module _ (k : ℕ) (o : Operation) (x y : ℕ) where
   unfolding apply expressionKind
   applies-equal n h f = same-value equal (ap expressionKind n) f h
 
-  pub applies-less :
+  pub applies-less : {r : ℕ} → k ≡ 8 → r ≡ oneOrZero (ltb x y) → expressionKind k ≡ operates o → r ≡ apply o x y
+  unfolding apply expressionKind
+  applies-less n h f = same-value less (ap expressionKind n) f h
+
+  pub applies-signed-less : {r : ℕ} {b : Bool} → k ≡ 9 → r ≡ oneOrZero b → b ≡ belowSigned x y → expressionKind k ≡ operates o → r ≡ apply o x y
+  unfolding apply expressionKind
+  applies-signed-less n h e f = same-value signedLess (ap expressionKind n) f (h ∙ ap oneOrZero e)
+
+  pub applies-shift : {r : ℕ} → k ≡ 10 → r ≡ shiftedRight x y → expressionKind k ≡ operates o → r ≡ apply o x y
+  unfolding apply expressionKind
+  applies-shift n h f = same-value arithmeticShift (ap expressionKind n) f h
+
+  pub applies-division :
       {r : ℕ}
       → (k ≡ 2 → ⊥)
       → (k ≡ 3 → ⊥)
@@ -60,13 +81,16 @@ module _ (k : ℕ) (o : Operation) (x y : ℕ) where
       → (k ≡ 5 → ⊥)
       → (k ≡ 6 → ⊥)
       → (k ≡ 7 → ⊥)
+      → (k ≡ 8 → ⊥)
+      → (k ≡ 9 → ⊥)
+      → (k ≡ 10 → ⊥)
       → 2 ≤ k
-      → k ≤ 8
-      → r ≡ oneOrZero (ltb x y)
+      → k ≤ 11
+      → r ≡ dividedSigned x y
       → expressionKind k ≡ operates o
       → r ≡ apply o x y
   unfolding apply expressionKind
-  applies-less a b c d e g l u h f = let n : k ≡ 8 = omega arith in same-value less (ap expressionKind n) f h
+  applies-division a b c d e g i j m l u h f = same-value signedDivision (ap expressionKind (last-kind k (behind-xor k a b c d e l) g i j m u)) f h
 
   -- a difference that the subtrahend added to wraps back to the minuend
   difference : {r : ℕ} → r < 2 ^ 32 → y < 2 ^ 32 → (r + y) % 2 ^ 32 ≡ x → r ≡ (x + (2 ^ 32 - y)) % 2 ^ 32
@@ -76,7 +100,7 @@ module _ (k : ℕ) (o : Operation) (x y : ℕ) where
   unfolding apply expressionKind
   applies-subtract n a b h f = same-value subtract (ap expressionKind n) f (difference a b h)
 
-pub ruleset apply-laws = (applies-add, applies-subtract, applies-and, applies-or, applies-xor, applies-equal, applies-less)
+pub ruleset apply-laws = (applies-add, applies-subtract, applies-and, applies-or, applies-xor, applies-equal, applies-less, applies-signed-less, applies-shift, applies-division)
 
 -- ---- expressions
 module _ {image : List ℕ} {place : ℕ} {registers : List ℕ} {e : ℕ} (here : Evaluating image place registers e) where
@@ -105,15 +129,15 @@ module _ {image : List ℕ} {place : ℕ} {registers : List ℕ} {e : ℕ} (here
   lower-evaluating : (m : ℕ) → m < e → Evaluating image place registers m
   lower-evaluating m l = record { design = here .design; known = here .known; expression = lower-expression (here .expression) (here .known .expressions) l; area = here .area }
 
-  pub operand-a-evaluating : {k a : ℕ} → k < 9 → 1 ≤ k → (k ≡ 1 → ⊥) → k ≡ nodeIn image place e .kind → a ≡ nodeIn image place e .a → Evaluating image place registers a
+  pub operand-a-evaluating : {k a : ℕ} → k < expressionKinds → 1 ≤ k → (k ≡ 1 → ⊥) → k ≡ nodeIn image place e .kind → a ≡ nodeIn image place e .a → Evaluating image place registers a
   operand-a-evaluating {a = a} u l other p f = lower-evaluating a (operand-a-below (here .expression) u l other p f)
 
-  pub operand-b-evaluating : {k b : ℕ} → k < 9 → 1 ≤ k → (k ≡ 1 → ⊥) → k ≡ nodeIn image place e .kind → b ≡ nodeIn image place e .b → Evaluating image place registers b
+  pub operand-b-evaluating : {k b : ℕ} → k < expressionKinds → 1 ≤ k → (k ≡ 1 → ⊥) → k ≡ nodeIn image place e .kind → b ≡ nodeIn image place e .b → Evaluating image place registers b
   operand-b-evaluating {b = b} u l other p f = lower-evaluating b (operand-b-below (here .expression) u l other p f)
 
   pub evaluates-operation :
       {k a b m n v : ℕ}
-      → k < 9
+      → k < expressionKinds
       → 1 ≤ k
       → (k ≡ 1 → ⊥)
       → k ≡ nodeIn image place e .kind
@@ -147,8 +171,8 @@ module _ {image : List ℕ} {place : ℕ} {registers : List ℕ} {e : ℕ} (here
   pub evaluates-low : {k v : ℕ} → k ≡ nodeIn image place e .kind → k < 1 → v ≡ constantIn image place e → v ≡ eval (valuesIn (designOf image) registers) (exprOf (designOf image) e)
   evaluates-low p l h = let none = expression-kind-is (here .expression) p in constant-is (kind-constants (omega arith)) h
 
-  -- no number from 9 on is a kind
-  pub evaluates-high : {k v : ℕ} → k ≡ nodeIn image place e .kind → 9 ≤ k → v ≡ constantIn image place e → v ≡ eval (valuesIn (designOf image) registers) (exprOf (designOf image) e)
+  -- no number from here on is a kind
+  pub evaluates-high : {k v : ℕ} → k ≡ nodeIn image place e .kind → expressionKinds ≤ k → v ≡ constantIn image place e → v ≡ eval (valuesIn (designOf image) registers) (exprOf (designOf image) e)
   evaluates-high p l h = absurd (rw (no-expression-kind l) at (expression-holds (here .expression) p))
 
 pub ruleset evaluate-laws = (expression-place-inside, read-inside, evaluates-register, evaluates-operation, evaluates-low, evaluates-high)

@@ -1,4 +1,5 @@
 // The value of an expression, by recursion over parts.
+use super::signed;
 use design::Design;
 use design::words::word;
 ghost use Prim.Native.Nat.{_≤_};
@@ -19,7 +20,7 @@ fn one_or_zero(test: bool) -> u32
 
 // The operation of a kind, on two values.
 fn apply(kind: u8, x: u32, y: u32) -> u32
-    requires { ⌜ (2 ≤ kind) × (kind ≤ 8) ⌝ }
+    requires { ⌜ (2 ≤ kind) × (kind ≤ 11) ⌝ }
     ensures { λ r. ⌜ ((o : Operation) → expressionKind kind ≡ operates o → r ≡ applyOf o x y) ⌝ }
 {
     match kind {
@@ -29,7 +30,10 @@ fn apply(kind: u8, x: u32, y: u32) -> u32
         5 => x | y,
         6 => x ^ y,
         7 => one_or_zero(x == y),
-        _ => one_or_zero(x < y),
+        8 => one_or_zero(x < y),
+        9 => one_or_zero(signed::signed_less(x, y)),
+        10 => signed::shift_right(x, y),
+        _ => signed::divide(x, y),
     }
 }
 
@@ -46,7 +50,7 @@ pub fn evaluate(image: &[u8], at: usize, registers: &[u8], e: usize) -> u32
             let r = Design::item(image, at, e);
             word(registers, r)
         }
-        2..=8 => {
+        2..=11 => {
             let a = Design::part_a(image, at, e);
             let b = Design::part_b(image, at, e);
             let x = evaluate(&*image, at, &*registers, a);

@@ -10,6 +10,7 @@ pub mod Ports
 pub mod Widths
 pub mod Flows
 pub mod Cycles
+pub mod Signed
 pub mod Calls
 pub mod Lists
 pub mod Listings

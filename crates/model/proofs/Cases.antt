@@ -18,7 +18,7 @@ use Rattle.model.specs.Calls.{leaves, areasOf, lentOf, check, reset, run
 use Rattle.model.specs.Listing.{bytesOfText, decimal, lines, listing}
 use Rattle.model.specs.Parties.{resets, writes, runs, perform, events, atEnd}
 use Rattle.model.proofs.Opened.{checks, everything, accepted, refused, judged, told, lent, areas, faultOfRows, cyclesOf, walks, pairOf, anyLent, resetLent, shortLent, longLent, longTargets, unsoundLent, groupsLent}
-use Rattle.model.proofs.Designs.{lease, deep, deepCondition, twoGroups, tower, ofRows, smallest, kindTwo, ownParent, noCommands, kindSix, expressionKindNine, sharedCommand, twiceInSequence, halfTransferring, halfInside, transfersFirst, onlySkips, rootGoes, gotoRoot, rootAlone, portAssigned, lowUnderHigh, highToLow, acrossLabels, secretBranch, flatLease, secretGotos, gotoBelowAssign, secretFalls, fallOrGoto}
+use Rattle.model.proofs.Designs.{lease, deep, deepCondition, twoGroups, tower, ofRows, smallest, kindTwo, ownParent, noCommands, kindSix, expressionKindTwelve, sharedCommand, twiceInSequence, halfTransferring, halfInside, transfersFirst, onlySkips, rootGoes, gotoRoot, rootAlone, portAssigned, lowUnderHigh, highToLow, acrossLabels, secretBranch, flatLease, secretGotos, gotoBelowAssign, secretFalls, fallOrGoto}
 
 -- 01, 'Proved cases, one table'.
 
@@ -161,8 +161,8 @@ refusal-05-command-kind-6 : judged kindSix ≡ refused 5 1
 refusal-05-command-kind-6 = unfold checks in refl
 
 -- 5: "an expression's place is 1,024 plus its number"
-refusal-05-expression-kind-9 : judged expressionKindNine ≡ refused 5 (1024 + 1)
-refusal-05-expression-kind-9 = unfold checks in refl
+refusal-05-expression-kind-12 : judged expressionKindTwelve ≡ refused 5 (1024 + 1)
+refusal-05-expression-kind-12 = unfold checks in refl
 
 -- 6: "states 0 and 1 both with command 0"
 refusal-06-shared-command : judged sharedCommand ≡ refused 6 0

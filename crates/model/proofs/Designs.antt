@@ -250,8 +250,8 @@ abbrev pub kindSix : List ℕ
 kindSix = oneState (1 ∷ []) [] 1 (node 6 0 0 0 0 ∷ []) []
 
 -- 5: expression 1 of kind 9
-abbrev pub expressionKindNine : List ℕ
-expressionKindNine = oneState (1 ∷ []) [] 3 (goesTo 1 ∷ goesTo 1 ∷ branches 1 1 2 ∷ []) (constant 1 ∷ node 9 0 0 0 0 ∷ [])
+abbrev pub expressionKindTwelve : List ℕ
+expressionKindTwelve = oneState (1 ∷ []) [] 3 (goesTo 1 ∷ goesTo 1 ∷ branches 1 1 2 ∷ []) (constant 1 ∷ node 12 0 0 0 0 ∷ [])
 
 -- 6: states 0 and 1 both with command 0
 abbrev pub sharedCommand : List ℕ

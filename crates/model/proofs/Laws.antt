@@ -19,4 +19,5 @@ pub mod Broken
 pub mod Finds
 pub mod Faults
 pub mod Kinds
+pub mod Signed
 pub mod Trees

@@ -16,6 +16,7 @@ use Rattle.model.specs.Ports.{sparesPorts, namesNoPort}
 use Rattle.model.specs.Flow.{labelsRead, flowFaults, stateFlowFaults, nearer, nearest, flowAnswer}
 use Rattle.model.specs.Answers.{Numbers, numbersOf}
 use Rattle.model.specs.Verdict.{_before_, refusedAt, lowestNode, designVerdict, verdict}
+use Rattle.model.specs.Signed.{signedValue, wordOf, belowSigned, shiftedRight, dividedSigned}
 use Rattle.model.specs.Values.{apply, wordsOf, bytesOf}
 use Rattle.model.specs.Machine.{Areas, Cycle, eval, exec, resetAreas, targetSound, cleared, goneTo, afterBody, runFrom, cycle, cycles, afterLast, afterCycles}
 use Rattle.model.specs.Calls.{Lent, Left, registerAreaAnswer, lengthAnswer, contentKept, contentsAnswer, targetsAnswer, isWritable, portAnswer, valueAnswer, areasOf, lentOf, cyclesAnswer, check, registersLength, targetsLength, resetAnswer, reset, runAnswer, run, writePortAnswer, writePort}
@@ -29,7 +30,7 @@ checks = 0
 
 -- and with these every definition of the cycle, the calls, the lists of calls and the listing
 unfoldable pub everything : ℕ
-unfolding checks apply wordsOf bytesOf eval exec resetAreas targetSound cleared goneTo afterBody runFrom cycle cycles afterLast afterCycles registerAreaAnswer lengthAnswer contentKept contentsAnswer targetsAnswer isWritable portAnswer valueAnswer areasOf lentOf cyclesAnswer check registersLength targetsLength resetAnswer reset runAnswer run writePortAnswer writePort bytesOfText decimal spaced header line lines refusalLine listed listing perform eventsOf events atEnd
+unfolding checks signedValue wordOf belowSigned shiftedRight dividedSigned apply wordsOf bytesOf eval exec resetAreas targetSound cleared goneTo afterBody runFrom cycle cycles afterLast afterCycles registerAreaAnswer lengthAnswer contentKept contentsAnswer targetsAnswer isWritable portAnswer valueAnswer areasOf lentOf cyclesAnswer check registersLength targetsLength resetAnswer reset runAnswer run writePortAnswer writePort bytesOfText decimal spaced header line lines refusalLine listed listing perform eventsOf events atEnd
 everything = 0
 
 -- Short ways to put a case.

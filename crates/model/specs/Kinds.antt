@@ -7,8 +7,9 @@ use lib.ListN.{length, getD}
 use Rattle.model.specs.Image.{Design, Node, commandAt, expressionAt}
 
 -- "Kinds 2 to 8 take two parts each, a and b: add, subtract, and, or, xor, equal, less."
+-- 02, E3: "Expression kinds 9, 10 and 11 are signed less, arithmetic right shift and signed division .. Each takes two parts"
 pub data Operation : Type 0 where
-  add subtract bitwiseAnd bitwiseOr bitwiseXor equal less : Operation
+  add subtract bitwiseAnd bitwiseOr bitwiseXor equal less signedLess arithmeticShift signedDivision : Operation
 
 pub data CommandKind : Type 0 where
   skips assigns sequences falls goes branches unknownCommand : CommandKind
@@ -21,7 +22,7 @@ pub data ExpressionKind : Type 0 where
 unfoldable pub commandKind : ℕ → CommandKind
 commandKind kind = getD (skips ∷ assigns ∷ sequences ∷ falls ∷ goes ∷ branches ∷ []) kind unknownCommand
 
--- "Expression kinds: 0 constant; 1 register. Kinds 2 to 8 .."
+-- "Expression kinds: 0 constant; 1 register. Kinds 2 to 8 ..", and since E3 kinds 9 to 11: "refusal 5 starts at kind 12"
 unfoldable pub expressionKind : ℕ → ExpressionKind
 expressionKind kind =
     getD
@@ -34,6 +35,9 @@ expressionKind kind =
     ∷ operates bitwiseXor
     ∷ operates equal
     ∷ operates less
+    ∷ operates signedLess
+    ∷ operates arithmeticShift
+    ∷ operates signedDivision
     ∷ [])
     kind
     unknownExpression

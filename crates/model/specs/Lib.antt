@@ -15,6 +15,7 @@ pub mod Shape
 pub mod Ports
 pub mod Flow
 -- 'A cycle'
+pub mod Signed
 pub mod Values
 pub mod Machine
 -- 'What a party sees'

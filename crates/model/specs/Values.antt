@@ -1,4 +1,4 @@
--- 01, 'A cycle': "Values are 32 bits; adding and subtracting wrap." The values that fit a register (02, E2). And the bytes of a register area.
+-- 01, 'A cycle': "Values are 32 bits; adding and subtracting wrap." The signed operations are those of 02, E3. The values that fit a register (02, E2). And the bytes of a register area.
 use Prim.Native.Nat.{ℕ, _+_, _-_, _/_, _%_, _^_}
 use mathlib.Core.Bool.{Bool, cond}
 use mathlib.Core.List.{List, [], _∷_}
@@ -7,7 +7,8 @@ use lib.Dec.{ltb, eqb}
 use lib.ListN.{getD}
 use Rattle.model.specs.Limits.{valueCount, wordLength}
 use Rattle.model.specs.Image.{Register, noRegister, word32At, recordsOf}
-use Rattle.model.specs.Kinds.{Operation, add, subtract, bitwiseAnd, bitwiseOr, bitwiseXor, equal, less}
+use Rattle.model.specs.Kinds.{Operation, add, subtract, bitwiseAnd, bitwiseOr, bitwiseXor, equal, less, signedLess, arithmeticShift, signedDivision}
+use Rattle.model.specs.Signed.{belowSigned, shiftedRight, dividedSigned}
 
 -- "Equal and less (unsigned) give 1 or 0."
 abbrev pub oneOrZero : Bool → ℕ
@@ -21,6 +22,9 @@ apply bitwiseOr x y = bitOr x y
 apply bitwiseXor x y = bitXor x y
 apply equal x y = oneOrZero (eqb x y)
 apply less x y = oneOrZero (ltb x y)
+apply signedLess x y = oneOrZero (belowSigned x y)
+apply arithmeticShift x y = shiftedRight x y
+apply signedDivision x y = dividedSigned x y
 
 -- 02, E2: "2 to the power of the width" of register r. A value fits the register where it is below this.
 module _ (registers : List Register) (r : ℕ) where

@@ -4,7 +4,7 @@ use mathlib.Core.List.{[], _∷_, map}
 use lib.ListN.{drop, replicate}
 use Rattle.model.specs.Listing.{bytesOfText, decimal, listing}
 use Rattle.model.proofs.Opened.{everything}
-use Rattle.model.proofs.Designs.{smallest, highToLow, expressionKindNine, oneState, registerRecord, goesTo}
+use Rattle.model.proofs.Designs.{smallest, highToLow, expressionKindTwelve, oneState, registerRecord, goesTo}
 
 -- "a 16-bit cycle count", little-endian: 256 cycles; behind 2,208 bytes stands the last line, and nothing more
 shows-line-256 : drop 2208 (listing (0 ∷ 1 ∷ smallest)) ≡ bytesOfText "256;0 1;\n"
@@ -26,7 +26,7 @@ shows-listing-from-reset = unfold everything in refl
 shows-refused-count-0 : listing (0 ∷ 0 ∷ highToLow) ≡ bytesOfText "refused;10;1\n"
 shows-refused-count-0 = unfold everything in refl
 
-shows-refused-expression : listing (1 ∷ 0 ∷ expressionKindNine) ≡ bytesOfText "refused;5;1025\n"
+shows-refused-expression : listing (1 ∷ 0 ∷ expressionKindTwelve) ≡ bytesOfText "refused;5;1025\n"
 shows-refused-expression = unfold everything in refl
 
 -- "input under two bytes gives "refused;1;0"", and input of two bytes has an empty image

@@ -3,7 +3,7 @@ use Prim.Native.Nat.{ℕ}
 use mathlib.Core.Path.{_≡_, refl}
 use mathlib.Core.List.{List, [], _∷_, _++_, map}
 use lib.ListN.{replicate}
-use Rattle.model.specs.Kinds.{ExpressionKind, constants, unknownExpression, operates, add, subtract, bitwiseAnd, bitwiseOr, bitwiseXor, equal, less, expressionKind}
+use Rattle.model.specs.Kinds.{ExpressionKind, constants, unknownExpression, operates, add, subtract, bitwiseAnd, bitwiseOr, bitwiseXor, equal, less, signedLess, arithmeticShift, signedDivision, expressionKind}
 use Rattle.model.proofs.Opened.{checks, refused, accepted, judged}
 use Rattle.model.proofs.Designs.{assemble, oneState, node, registerRecord, stateRecord, skips, assigns, sequences, falls, goesTo, branches, constant, reads, adds}
 
@@ -100,18 +100,27 @@ shows-read = unfold checks in refl
 
 -- "Kinds 2 to 8 take two parts each, a and b"; "A part of the same family has a number below its owner's."
 shows-operation
-    : map (λ (x : List ℕ). judged (ofOperation x)) (node 2 1 0 1 0 ∷ node 2 0 2 1 0 ∷ node 2 0 0 2 0 ∷ node 2 0 0 1 1 ∷ node 9 0 0 1 0 ∷ node 255 0 0 1 0 ∷ [])
+    : map (λ (x : List ℕ). judged (ofOperation x)) (node 2 1 0 1 0 ∷ node 2 0 2 1 0 ∷ node 2 0 0 2 0 ∷ node 2 0 0 1 1 ∷ node 12 0 0 1 0 ∷ node 255 0 0 1 0 ∷ [])
     ≡ replicate 6 (refused 5 1026)
 shows-operation = unfold checks in refl
 
--- "Kinds 2 to 8", with the higher part first
+-- 02, E3: "Each takes two parts", of the kinds 9 to 11
+shows-signed-operation
+    : map
+    (λ (x : List ℕ). judged (ofOperation x))
+    (node 9 1 0 1 0 ∷ node 9 0 2 1 0 ∷ node 10 0 0 2 0 ∷ node 10 0 0 1 1 ∷ node 11 255 0 1 0 ∷ node 11 0 2 1 0 ∷ node 11 0 0 2 0 ∷ node 11 0 0 1 256 ∷ [])
+    ≡ replicate 8 (refused 5 1026)
+shows-signed-operation = unfold checks in refl
+
+-- "Kinds 2 to 8", and since E3 9 to 11, with the higher part first; "refusal 5 starts at kind 12"
 shows-operations
-    : map (λ (kind : ℕ). judged (ofOperation (node kind 0 1 0 0))) (2 ∷ 3 ∷ 4 ∷ 5 ∷ 6 ∷ 7 ∷ 8 ∷ []) ≡ replicate 7 (accepted 0)
+    : map (λ (kind : ℕ). judged (ofOperation (node kind 0 1 0 0))) (2 ∷ 3 ∷ 4 ∷ 5 ∷ 6 ∷ 7 ∷ 8 ∷ 9 ∷ 10 ∷ 11 ∷ 12 ∷ 13 ∷ [])
+    ≡ replicate 10 (accepted 0) ++ replicate 2 (refused 5 1026)
 shows-operations = unfold checks in refl
 
--- "add, subtract, and, or, xor, equal, less"
+-- "add, subtract, and, or, xor, equal, less"; 02, E3: "signed less, arithmetic right shift and signed division"
 shows-kinds
-    : map expressionKind (0 ∷ 1 ∷ 2 ∷ 3 ∷ 4 ∷ 5 ∷ 6 ∷ 7 ∷ 8 ∷ 9 ∷ [])
+    : map expressionKind (0 ∷ 1 ∷ 2 ∷ 3 ∷ 4 ∷ 5 ∷ 6 ∷ 7 ∷ 8 ∷ 9 ∷ 10 ∷ 11 ∷ 12 ∷ [])
     ≡ constants
     ∷ ExpressionKind.reads
     ∷ operates add
@@ -121,6 +130,9 @@ shows-kinds
     ∷ operates bitwiseXor
     ∷ operates equal
     ∷ operates less
+    ∷ operates signedLess
+    ∷ operates arithmeticShift
+    ∷ operates signedDivision
     ∷ unknownExpression
     ∷ []
 shows-kinds = unfold checks in refl

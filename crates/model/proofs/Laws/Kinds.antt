@@ -4,7 +4,7 @@ use mathlib.Core.Path.{_≡_, refl, ap, _∙_, sym}
 use mathlib.Core.List.{[], _∷_}
 use native.Mathlib.Omega.{arith}
 use lib.ListN.{List·getD-eq-default}
-use Rattle.model.specs.Kinds.{CommandKind, ExpressionKind, Operation, add, subtract, bitwiseAnd, bitwiseOr, bitwiseXor, equal, less, skips, assigns, sequences, falls, goes, branches, unknownCommand, constants, reads, unknownExpression, operates, commandKind, expressionKind}
+use Rattle.model.specs.Kinds.{CommandKind, ExpressionKind, Operation, add, subtract, bitwiseAnd, bitwiseOr, bitwiseXor, equal, less, signedLess, arithmeticShift, signedDivision, skips, assigns, sequences, falls, goes, branches, unknownCommand, constants, reads, unknownExpression, operates, commandKind, expressionKind}
 
 -- ---- commands
 pub kind-skips : {k : ℕ} → k ≡ 0 → commandKind k ≡ skips
@@ -65,6 +65,10 @@ pub branches-number : (k : ℕ) → commandKind k ≡ branches → k ≡ 5
 branches-number k e = let n = sym (ap commandNumber e) ∙ command-number k in omega arith
 
 -- ---- expressions
+-- the kinds of expressions are the numbers below this one
+abbrev pub expressionKinds : ℕ
+expressionKinds = 12
+
 pub kind-constants : {k : ℕ} → k ≡ 0 → expressionKind k ≡ constants
 unfolding expressionKind
 kind-constants e = rw e
@@ -74,7 +78,7 @@ unfolding expressionKind
 kind-reads e = rw e
 
 -- the operation of a number
-operation : (k : ℕ) → (k ≡ 0 → ⊥) → (k ≡ 1 → ⊥) → k < 9 → (o : Operation) × (expressionKind k ≡ operates o)
+operation : (k : ℕ) → (k ≡ 0 → ⊥) → (k ≡ 1 → ⊥) → k < expressionKinds → (o : Operation) × (expressionKind k ≡ operates o)
 unfolding expressionKind
 operation zero p q l = absurd (p refl)
 operation (suc zero) p q l = absurd (q refl)
@@ -85,12 +89,15 @@ operation (suc (suc (suc (suc (suc zero))))) p q l = (bitwiseOr, refl)
 operation (suc (suc (suc (suc (suc (suc zero)))))) p q l = (bitwiseXor, refl)
 operation (suc (suc (suc (suc (suc (suc (suc zero))))))) p q l = (equal, refl)
 operation (suc (suc (suc (suc (suc (suc (suc (suc zero)))))))) p q l = (less, refl)
-operation (suc (suc (suc (suc (suc (suc (suc (suc (suc k))))))))) p q l = absurd (omega arith)
+operation (suc (suc (suc (suc (suc (suc (suc (suc (suc zero))))))))) p q l = (signedLess, refl)
+operation (suc (suc (suc (suc (suc (suc (suc (suc (suc (suc zero)))))))))) p q l = (arithmeticShift, refl)
+operation (suc (suc (suc (suc (suc (suc (suc (suc (suc (suc (suc zero))))))))))) p q l = (signedDivision, refl)
+operation (suc (suc (suc (suc (suc (suc (suc (suc (suc (suc (suc (suc k)))))))))))) p q l = absurd (omega arith)
 
-pub kind-operates : {k : ℕ} → (k ≡ 0 → ⊥) → (k ≡ 1 → ⊥) → k < 9 → (o : Operation) × (expressionKind k ≡ operates o)
+pub kind-operates : {k : ℕ} → (k ≡ 0 → ⊥) → (k ≡ 1 → ⊥) → k < expressionKinds → (o : Operation) × (expressionKind k ≡ operates o)
 kind-operates {k} p q l = operation k p q l
 
-pub no-expression-kind : {k : ℕ} → 9 ≤ k → expressionKind k ≡ unknownExpression
+pub no-expression-kind : {k : ℕ} → expressionKinds ≤ k → expressionKind k ≡ unknownExpression
 unfolding expressionKind
 no-expression-kind l =
     List·getD-eq-default
@@ -103,6 +110,9 @@ no-expression-kind l =
     ∷ operates bitwiseXor
     ∷ operates equal
     ∷ operates less
+    ∷ operates signedLess
+    ∷ operates arithmeticShift
+    ∷ operates signedDivision
     ∷ [])
     unknownExpression
     l
@@ -114,7 +124,7 @@ isOperation reads = 0
 isOperation unknownExpression = 0
 isOperation (operates o) = 1
 
-pub no-operation-above : {k : ℕ} → 9 ≤ k → (o : Operation) → expressionKind k ≡ operates o → ⊥
+pub no-operation-above : {k : ℕ} → expressionKinds ≤ k → (o : Operation) → expressionKind k ≡ operates o → ⊥
 no-operation-above l o e = let n = ap isOperation (sym (no-expression-kind l) ∙ e) in omega arith
 
 pub no-operation-zero : {k : ℕ} → k ≡ 0 → (o : Operation) → expressionKind k ≡ operates o → ⊥

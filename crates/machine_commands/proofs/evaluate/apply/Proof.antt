@@ -20,6 +20,18 @@ one-or-zero-requires c κs = search needs
 one-or-zero-requires-2 : tie.Need-one-or-zero-requires-2
 one-or-zero-requires-2 c κs = search needs
 
+one-or-zero-requires-3 : tie.Need-one-or-zero-requires-3
+one-or-zero-requires-3 c κs = search needs
+
+signed-less-requires : tie.Need-signed-less-requires
+signed-less-requires c κs = search needs
+
+shift-right-requires : tie.Need-shift-right-requires
+shift-right-requires c κs = search needs
+
+divide-requires : tie.Need-divide-requires
+divide-requires c κs = search needs
+
 returns : tie.Need-returns
 returns c = search (apply-laws, needs)
 
@@ -41,6 +53,15 @@ returns-6 c = search (apply-laws, needs)
 returns-7 : tie.Need-returns-7
 returns-7 c = search (apply-laws, needs)
 
+returns-8 : tie.Need-returns-8
+returns-8 c = search (apply-laws, needs)
+
+returns-9 : tie.Need-returns-9
+returns-9 c = search (apply-laws, needs)
+
+returns-10 : tie.Need-returns-10
+returns-10 c = search (apply-laws, needs)
+
 pub apply-spec : {M : Type 1} → statement M
 apply-spec =
     tie.close
@@ -49,10 +70,17 @@ apply-spec =
     wrapping-sub-u32-requires
     one-or-zero-requires
     one-or-zero-requires-2
+    signed-less-requires
+    one-or-zero-requires-3
+    shift-right-requires
+    divide-requires
     returns
     returns-2
     returns-3
     returns-4
     returns-5
     returns-6
-    returns-7)
+    returns-7
+    returns-8
+    returns-9
+    returns-10)
