@@ -21,6 +21,21 @@ bool number_read(const char **cursor, const char *end, uint64_t most, uint64_t *
     return true;
 }
 
+bool number_read_word(const char **cursor, const char *end, uint32_t *word)
+{
+    const char *at = *cursor;
+    bool negative = at < end && *at == '-';
+    uint64_t number;
+
+    if (negative)
+        at++;
+    if (!number_read(&at, end, negative ? (uint64_t)INT32_MAX + 1 : UINT32_MAX, &number))
+        return false;
+    *cursor = at;
+    *word = negative ? 0 - (uint32_t)number : (uint32_t)number;
+    return true;
+}
+
 bool number_read_all(const char *text, uint64_t most, uint64_t *number)
 {
     const char *end = text + strlen(text);

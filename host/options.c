@@ -11,7 +11,9 @@ const char options_usage[] =
     "  --fast              run as fast as possible, not 100 cycles a second\n"
     "  --cycles N          stop after N cycles, not after the last cycle that the trace names\n"
     "  --every K           a sample after each K cycles, not after each cycle\n"
-    "  --party NAME:LEVEL  a flow record at this label, not one for each label; may be repeated\n";
+    "  --party NAME:LEVEL  a flow record at this label, not one for each label; may be repeated\n"
+    "A line of TRACE is CYCLE REGISTER VALUE. A VALUE below zero, as -40, is written to the port as its\n"
+    "two's complement.\n";
 
 static enum status wrong(const char *what, const char *argument)
 {

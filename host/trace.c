@@ -39,33 +39,40 @@ static void skip_blanks(struct text *text)
         text->at++;
 }
 
-/* A number that ends where its field does, and the blanks behind it. */
-static bool field_read(struct text *text, uint64_t most, uint64_t *number)
+/* Whether a field ends here; the blanks behind it are skipped. */
+static bool field_end(struct text *text)
 {
-    const char *start;
+    const char *start = text->at;
 
-    if (!number_read(&text->at, text->end, most, number))
-        return false;
-    start = text->at;
     skip_blanks(text);
     return text->at > start || text->at == text->end;
+}
+
+static bool field_read(struct text *text, uint64_t most, uint64_t *number)
+{
+    return number_read(&text->at, text->end, most, number) && field_end(text);
+}
+
+/* A reading may be below zero. */
+static bool value_read(struct text *text, uint32_t *value)
+{
+    return number_read_word(&text->at, text->end, value) && field_end(text);
 }
 
 /* What is wrong with a line that has a reading, or NULL. */
 static const char *reading_read(struct reading *reading, struct text *text)
 {
-    uint64_t reg, value;
+    uint64_t reg;
 
     if (!field_read(text, UINT64_MAX, &reading->cycle) || reading->cycle == 0)
         return "the cycle is no number from 1 to 18446744073709551615";
     if (!field_read(text, UINT32_MAX, &reg))
         return "the register is no number from 0 to 4294967295";
-    if (!field_read(text, UINT32_MAX, &value))
-        return "the value is no number from 0 to 4294967295";
+    if (!value_read(text, &reading->value))
+        return "the value is no number from -2147483648 to 4294967295";
     if (text->at != text->end)
         return "more than the three numbers CYCLE REGISTER VALUE";
     reading->reg = (uint32_t)reg;
-    reading->value = (uint32_t)value;
     return NULL;
 }
 

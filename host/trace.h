@@ -15,7 +15,7 @@
 struct reading {
     uint64_t cycle; /* written before this cycle; from 1 */
     uint32_t reg;
-    uint32_t value;
+    uint32_t value; /* of a reading below zero its two's complement */
     size_t line;    /* where it stands in the file; from 1 */
 };
 

@@ -35,6 +35,10 @@
  * leave every register within its width. So 14 is answered for contents only where a register area
  * was not reset, or where the host has filled or changed it by itself.
  *
+ * A value has 32 bits, and some operations of a design read them as signed, in two's complement. So a
+ * host hands a reading of -40 over as (uint32_t)-40, to a port of width CAISSON_WIDTH: no narrower
+ * register holds a value below zero.
+ *
  * Two calls at the same time are safe if they are lent no area in common.
  */
 #ifndef CAISSON_H
@@ -49,7 +53,7 @@ extern "C" {
 
 /* The version of the library and the number of the image's format. CHANGELOG.md says when each moves;
    docs/FORMAT.md has the format byte by byte. */
-#define CAISSON_VERSION "2.0.1"
+#define CAISSON_VERSION "2.1.0"
 #define CAISSON_FORMAT 2
 
 /* Limits of a design table. */

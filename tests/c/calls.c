@@ -1,5 +1,5 @@
-/* The library called from C: 01's lease design checked, its areas' lengths told, and run; null slices, and
-   what is refused. */
+/* The library called from C: 01's lease design checked, its areas' lengths told, and run; narrow registers
+   and signed operations; null slices, and what is refused. */
 #include <stdio.h>
 #include <string.h>
 
@@ -69,6 +69,37 @@ static const uint8_t narrow[] = {
     2, 0, 0, 0, 1, 0, 0, 0, /* 2: e0 + e1 */
 };
 
+/* r0, r1 and r2 take the signed less, the arithmetic right shift and the signed quotient of the ports r3
+   and r4. */
+static const uint8_t signed_operations[] = {
+    20, 0, 2, 0, 22, 0, 35, 0, 57, 0, 8, 0, 65, 0, 64, 0, 129, 0, 72, 0,
+    /* labels */
+    1, 0,
+    /* registers: label, kind, reset, width */
+    0, 0, 0, 0, 0, 0, 32, 0, 0, 0, 0, 0, 0, 32, 0, 0, 0, 0, 0, 0, 32, 0, 1, 0, 0, 0, 0, 32, 0, 1, 0, 0, 0, 0, 32,
+    /* states */
+    0, 0, 0, 0, 0, 0, 7, 0,
+    /* commands */
+    3, 0, 0, 0, 0, 0, 0, 0, /* 0: fall */
+    1, 0, 2, 0, 0, 0, 0, 0, /* 1: r0 := e2 */
+    1, 1, 5, 0, 0, 0, 0, 0, /* 2: r1 := e5 */
+    1, 2, 8, 0, 0, 0, 0, 0, /* 3: r2 := e8 */
+    2, 0, 1, 0, 2, 0, 0, 0, /* 4: 1; 2 */
+    2, 0, 4, 0, 3, 0, 0, 0, /* 5: 4; 3 */
+    4, 1, 0, 0, 0, 0, 0, 0, /* 6: goto 1 */
+    2, 0, 5, 0, 6, 0, 0, 0, /* 7: 5; 6 */
+    /* expressions */
+    1, 3, 0, 0, 0, 0, 0, 0, /* 0: r3 */
+    1, 4, 0, 0, 0, 0, 0, 0, /* 1: r4 */
+    9, 0, 0, 0, 1, 0, 0, 0, /* 2: signed less of e0 and e1 */
+    1, 3, 0, 0, 0, 0, 0, 0, /* 3: r3 */
+    1, 4, 0, 0, 0, 0, 0, 0, /* 4: r4 */
+    10, 0, 3, 0, 4, 0, 0, 0, /* 5: arithmetic right shift of e3 by e4 */
+    1, 3, 0, 0, 0, 0, 0, 0, /* 6: r3 */
+    1, 4, 0, 0, 0, 0, 0, 0, /* 7: r4 */
+    11, 0, 6, 0, 7, 0, 0, 0, /* 8: signed quotient of e6 and e7 */
+};
+
 static int failures;
 static int answers;
 
@@ -103,9 +134,11 @@ static void checks(void)
     expect("a register of kind 2", caisson_check(damaged, sizeof damaged), CAISSON_REGISTER_RECORD, 0, 0);
 
     memcpy(damaged, lease, sizeof lease);
-    damaged[202] = 9; /* the kind of expression 5 */
-    expect("an expression of kind 9", caisson_check(damaged, sizeof damaged), CAISSON_NODE_RECORD,
-           CAISSON_EXPRESSION_PLACE + 5, 0);
+    damaged[186] = 11; /* the kind of expression 3, which has two parts */
+    expect("an expression of kind 11", caisson_check(damaged, sizeof damaged), CAISSON_ACCEPTED, 0, 0);
+    damaged[186] = 12;
+    expect("an expression of kind 12", caisson_check(damaged, sizeof damaged), CAISSON_NODE_RECORD,
+           CAISSON_EXPRESSION_PLACE + 3, 0);
 
     memcpy(damaged, lease, sizeof lease);
     damaged[51] = 0; /* the label of state 3, which branches on the port of label 1 */
@@ -212,6 +245,51 @@ static void narrow_registers(void)
     expect_bytes("registers", registers, (const uint8_t[]){3, 0, 0, 0, 255, 3, 0, 0, 1, 0, 0, 0}, 12);
 }
 
+/* The four bytes of a value, the least significant first. */
+static void put_word(uint8_t word[CAISSON_WORD], uint32_t value)
+{
+    for (size_t i = 0; i < CAISSON_WORD; i++)
+        word[i] = (uint8_t)(value >> 8 * i);
+}
+
+/* Two readings, and the values that the operations give of them: less, shifted, quotient. */
+static void signed_readings(void)
+{
+    static const int32_t cases[][5] = {
+        {-40, 3, 1, -5, -13},
+        {40, -3, 0, 0, -13}, /* the count is 29 */
+        {-40, -3, 1, -1, 13},
+        {-41, 1, 1, -21, -41}, /* a shift rounds down, */
+        {-41, 2, 1, -11, -20}, /* a division toward zero */
+        {-1, 0, 1, -1, 0},     /* no division by zero */
+        {0, 0, 0, 0, 0},
+        {7, 32, 1, 7, 0}, /* of 32 the low five bits are 0, */
+        {-7, 33, 1, -4, 0}, /* and of 33 they are 1 */
+        {-7, 31, 1, -1, 0},
+        {INT32_MIN, -1, 1, -1, INT32_MIN}, /* the lowest value again */
+        {INT32_MIN, INT32_MAX, 1, -1, -1},
+        {INT32_MAX, INT32_MIN, 0, INT32_MAX, 0},
+        {INT32_MIN, 1, 1, INT32_MIN / 2, INT32_MIN},
+        {INT32_MIN, INT32_MIN, 0, INT32_MIN, 1},
+    };
+    uint8_t registers[20], targets[2], expected[20];
+
+    expect("reset", caisson_reset(signed_operations, sizeof signed_operations, registers, 20, targets, 2),
+           CAISSON_ACCEPTED, 0, 0);
+    for (size_t i = 0; i < sizeof cases / sizeof cases[0]; i++) {
+        for (uint32_t port = 0; port < 2; port++)
+            expect("a reading",
+                   caisson_write_port(signed_operations, sizeof signed_operations, registers, 20, 3 + port,
+                                      (uint32_t)cases[i][port]),
+                   CAISSON_ACCEPTED, 0, 0);
+        expect("a cycle", caisson_run(signed_operations, sizeof signed_operations, registers, 20, targets, 2, 1),
+               CAISSON_ACCEPTED, 0, 1);
+        for (size_t reg = 0; reg < 5; reg++)
+            put_word(expected + CAISSON_WORD * reg, (uint32_t)cases[i][(reg + 2) % 5]);
+        expect_bytes("signed operations", registers, expected, 20);
+    }
+}
+
 /* A port write goes: the image, 14 by length, 14 by contents, 13, 17. A run judges contents before targets,
    also with 0 cycles. A reset judges lengths alone. */
 static void narrow_refusals(void)
@@ -299,6 +377,7 @@ int main(void)
     cycles();
     ports();
     narrow_registers();
+    signed_readings();
     refusals();
     narrow_refusals();
     if (failures == 0)

@@ -9,11 +9,14 @@ pub enum Operator {
     Xor,
     Equal,
     Less,
+    SignedLess,
+    ShiftRight,
+    SignedDivide,
 }
 
 impl Operator {
-    /// In the order of the node kinds 2 to 8.
-    pub const ALL: [Operator; 7] = [
+    /// In the order of the node kinds 2 to 11.
+    pub const ALL: [Operator; 10] = [
         Operator::Add,
         Operator::Subtract,
         Operator::And,
@@ -21,6 +24,9 @@ impl Operator {
         Operator::Xor,
         Operator::Equal,
         Operator::Less,
+        Operator::SignedLess,
+        Operator::ShiftRight,
+        Operator::SignedDivide,
     ];
 
     pub fn kind(self) -> u8 {
@@ -31,6 +37,7 @@ impl Operator {
         Operator::ALL.into_iter().find(|one| one.kind() == kind)
     }
 
+    /// A `$` says that the parts are read as signed.
     pub fn symbol(self) -> &'static str {
         match self {
             Operator::Add => "+",
@@ -40,17 +47,31 @@ impl Operator {
             Operator::Xor => "^",
             Operator::Equal => "==",
             Operator::Less => "<",
+            Operator::SignedLess => "<$",
+            Operator::ShiftRight => ">>$",
+            Operator::SignedDivide => "/$",
+        }
+    }
+
+    /// Which of its two parts are read as signed. The count of a shift is not.
+    pub fn signed_parts(self) -> (bool, bool) {
+        match self {
+            Operator::SignedLess | Operator::SignedDivide => (true, true),
+            Operator::ShiftRight => (true, false),
+            _ => (false, false),
         }
     }
 
     /// The higher, the tighter it binds. `COMPARISON` is the loosest.
     pub fn binding(self) -> u8 {
         match self {
-            Operator::Add | Operator::Subtract => 5,
+            Operator::SignedDivide => 7,
+            Operator::Add | Operator::Subtract => 6,
+            Operator::ShiftRight => 5,
             Operator::And => 4,
             Operator::Xor => 3,
             Operator::Or => 2,
-            Operator::Equal | Operator::Less => COMPARISON,
+            Operator::Equal | Operator::Less | Operator::SignedLess => COMPARISON,
         }
     }
 

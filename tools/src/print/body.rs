@@ -83,6 +83,11 @@ impl<'a> Reader<'a> {
     }
 
     pub fn expression(&mut self, number: u16) -> Written {
+        self.part(number, false)
+    }
+
+    /// A constant is shown with a sign where it is read as signed.
+    fn part(&mut self, number: u16, signed: bool) -> Written {
         let node = match self.table.expressions.get(usize::from(number)) {
             None => return Written::tight(format!("[expression {number}]")),
             Some(_) if self.has_expression(number) => {
@@ -93,13 +98,17 @@ impl<'a> Reader<'a> {
         self.expressions[usize::from(number)] = true;
         match Expression::of(node) {
             None => Written::tight(raw("expression", number, node)),
+            Some(Expression::Constant(value)) if signed => {
+                Written::tight((value as i32).to_string())
+            }
             Some(Expression::Constant(value)) => Written::tight(value.to_string()),
             Some(Expression::Register(register)) => {
                 Written::tight(register_name(self.table, register))
             }
             Some(Expression::Operation(operator, left, right)) => {
-                let left = self.expression(left).within(operator.left_binding());
-                let right = self.expression(right).within(operator.right_binding());
+                let signed = operator.signed_parts();
+                let left = self.part(left, signed.0).within(operator.left_binding());
+                let right = self.part(right, signed.1).within(operator.right_binding());
                 Written {
                     text: format!("{left} {} {right}", operator.symbol()),
                     binding: operator.binding(),

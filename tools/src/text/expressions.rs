@@ -1,7 +1,6 @@
 //! Expressions, by how tightly each operator binds.
 
 use super::fault::Fault;
-use super::lexer::Token;
 use super::parser::Parser;
 use super::tree::Expression;
 use crate::operator::{Operator, COMPARISON};
@@ -40,11 +39,10 @@ impl Parser {
             return Ok(inner);
         }
         self.count_expression()?;
-        if let Token::Number(value) = *self.peek() {
-            self.advance();
-            return Ok(Expression::Constant(value));
-        }
         let expected = "an expression: a number, the name of a register or `(`";
+        if self.is_number() {
+            return Ok(Expression::Constant(self.number(expected)?));
+        }
         Ok(Expression::Register(self.name(expected)?))
     }
 

@@ -12,8 +12,15 @@ pub enum Token {
 }
 
 /// The longer ones first, so that `:=` is not taken for `:`.
-const SYMBOLS: [&str; 17] = [
-    "->", ":=", "==", ":", "=", ",", ";", "{", "}", "(", ")", "+", "-", "&", "|", "^", "<",
+const SYMBOLS: [&str; 20] = [
+    ">>$", "->", ":=", "==", "<$", "/$", ":", "=", ",", ";", "{", "}", "(", ")", "+", "-", "&",
+    "|", "^", "<",
+];
+
+/// Operators of other languages, and the one that there is.
+const NO_SYMBOLS: [(&str, &str); 2] = [
+    ("/", "`/$`, signed division"),
+    (">>", "`>>$`, arithmetic right shift"),
 ];
 
 /// The last token is the end.
@@ -61,12 +68,13 @@ fn token(text: &str, at: Position) -> Result<(Token, usize), Fault> {
     if let Some(symbol) = SYMBOLS.into_iter().find(|symbol| text.starts_with(symbol)) {
         return Ok((Token::Symbol(symbol), symbol.len()));
     }
-    let found: String = text.chars().take(1).collect();
-    Err(Fault::new(
-        at,
-        "a name, a number or a symbol",
-        format!("`{found}`"),
-    ))
+    let no_symbol = NO_SYMBOLS.iter().find(|(one, _)| text.starts_with(one));
+    let first: String = text.chars().take(1).collect();
+    let (found, expected) = match no_symbol {
+        Some(&(found, expected)) => (found, expected),
+        None => (first.as_str(), "a name, a number or a symbol"),
+    };
+    Err(Fault::new(at, expected, format!("`{found}`")))
 }
 
 impl fmt::Display for Token {

@@ -18,6 +18,9 @@ const RESERVED: [&str; 12] = [
     "else",
 ];
 
+/// How far a number may go below 0: 32 bits in two's complement reach no further.
+const MOST_BELOW: u32 = 1 << 31;
+
 /// As deep as a table's 2,048 expressions can nest. It bounds the parser's recursion.
 const NESTING: usize = 1_024;
 
@@ -101,9 +104,26 @@ impl Parser {
         Ok(name)
     }
 
+    /// Whether a number, with or without a sign, may be taken.
+    pub fn is_number(&self) -> bool {
+        matches!(self.peek(), Token::Number(_)) || self.is_symbol("-")
+    }
+
+    /// A number. With `-` before it it is its two's complement.
     pub fn number(&mut self, expected: &str) -> Result<u32, Fault> {
-        let Token::Number(number) = *self.peek() else {
-            return Err(self.fault(expected));
+        let negative = self.take_symbol("-");
+        let number = match *self.peek() {
+            Token::Number(number) if !negative => number,
+            Token::Number(number) if number <= MOST_BELOW => number.wrapping_neg(),
+            Token::Number(_) => {
+                let expected = format!("a number from 0 to {MOST_BELOW} behind `-`");
+                return Err(self.fault(&expected));
+            }
+            _ if negative => {
+                let expected = "a number behind `-` (what is no number is negated as `0 - x`)";
+                return Err(self.fault(expected));
+            }
+            _ => return Err(self.fault(expected)),
         };
         self.advance();
         Ok(number)

@@ -141,6 +141,11 @@ fn explain_shows_the_place() {
             "    [command 0: bytes 6 0 0 0 0 0 0 0]\n",
         ),
         (
+            "expression_kind",
+            5,
+            "    [expression 3: bytes 12 0 1 0 2 0 0 0]\n\nIn the body of state 2:\n",
+        ),
+        (
             "shared_command",
             6,
             "    state s0 : l0 { fall }\n\nUsed by: state 0, state 1\n",

@@ -29,6 +29,14 @@ pub fn designs(extension: &str) -> Vec<String> {
     names
 }
 
+/// A design with three registers, whose state `s` has this body.
+pub fn with_body(body: &str) -> String {
+    format!(
+        "label low\nregister a : low = 0\nregister b : low = 0\nport c : low = 0\n\
+         state root : low {{ fall }}\nstate s in root : low {{ {body} }}\n"
+    )
+}
+
 /// With the stack of the tool, for what nests deep.
 pub fn on_large_stack(work: impl FnOnce() + Send + 'static) {
     let thread = thread::Builder::new().stack_size(64 << 20).spawn(work);

@@ -16,6 +16,7 @@ fn damaged() -> Vec<(&'static str, Vec<u8>, (u32, usize))> {
         ("register_kind", changed(25, 2), (3, 0)),
         ("register_width", changed(37, 33), (3, 1)),
         ("command_kind", changed(58, 6), (5, 0)),
+        ("expression_kind", changed(186, 12), (5, 1_027)),
         ("shared_command", changed(44, 0), (6, 0)),
     ]
 }

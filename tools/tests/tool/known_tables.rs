@@ -1,6 +1,6 @@
 //! Texts that must give bytes known from elsewhere.
 
-use crate::common::text;
+use crate::common::{designs, text};
 use caisson_tests::reference::listing;
 use caisson_tools::assemble;
 
@@ -42,12 +42,16 @@ fn two_groups_is_the_worked_design() {
     assert_eq!(image, caisson_tests::designs::two_groups().image());
 }
 
-/// Positions of 10 bits, flags of 1, and a count of 2 that goes from 3 to 0.
+/// The listings stored beside their designs, which the gate compares with the proved lister too.
 #[test]
-fn valves_are_cut_to_their_widths() {
-    let image = assemble(&text("designs/valves.caisson")).unwrap();
-    let lines = listing(&[&[5, 0], &image[..]].concat());
-    let expected = "cycle;walk;registers\n1;0 1;0 1 0 0 1023 1\n2;0 1 2;1 1 0 0 1022 0\n\
-                    3;0 1 2;2 1 0 0 1021 1\n4;0 1 2;3 1 0 0 1020 0\n5;0 1;0 0 0 0 1020 0\n";
-    assert_eq!(String::from_utf8(lines).unwrap(), expected);
+fn designs_run_as_their_listings_say() {
+    let names = designs("listing");
+    assert!(names.contains(&"tank".to_string()));
+    for name in names {
+        let image = assemble(&text(&format!("designs/{name}.caisson"))).unwrap();
+        let expected = text(&format!("designs/{name}.listing"));
+        let cycles = expected.lines().count() as u16 - 1;
+        let lines = listing(&[&cycles.to_le_bytes(), &image[..]].concat());
+        assert_eq!(String::from_utf8(lines).unwrap(), expected, "{name}");
+    }
 }

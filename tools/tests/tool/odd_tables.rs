@@ -68,14 +68,16 @@ fn numbers_out_of_range_stand_in_brackets() {
         table.states[3].command = 99;
         table.commands[4].which = 64;
         table.commands[6].which = 5;
-        table.expressions[4].kind = 9;
+        table.expressions[4].kind = 12;
     });
     assert_line(&text, "label l0 -> [not l0], l1, [label 3]");
     assert_line(&text, "register r0 : [label 9] [width 0] = 3");
     assert_line(&text, "[kind 7] r1 : l1 [width 33] = 0");
     assert_line(&text, "state s1 in [state 8] : l0 { r0 := 3; goto s2 }");
     assert!(text.contains("[register 64] := r0 - 1;"), "{text}");
-    assert!(text.contains("if [expression 4: bytes 9 0 0 0 0 0 0 0] then fall else goto [state 5]"));
+    assert!(
+        text.contains("if [expression 4: bytes 12 0 0 0 0 0 0 0] then fall else goto [state 5]")
+    );
     assert_line(&text, "state s3 in s2 : l1 { [command 99] }");
     assert!(assemble(&text).is_err());
 }
@@ -123,6 +125,20 @@ fn widths_are_shown() {
     let answer = library::check(&image);
     assert_eq!((answer.number, answer.place), (3, 0));
     assert_line(&printed(|_| ()), "port r1 : l1 = 0");
+}
+
+/// Signed operations and constants are explained in the form of the text.
+#[test]
+fn signed_operations_are_explained() {
+    let source = "label low -> high label high register alarm : low = 0 port level : high = -40\n\
+                  state root : low { fall }\n\
+                  state s in root : low { alarm := level /$ 10 <$ -3; goto s }";
+    let image = assemble(source).unwrap();
+    let text = explain::explain(&image, library::check(&image));
+    let shown = "    r0 := r1 /$ 10 <$ -3\n";
+    assert!(text.starts_with("refused by 10 at place 1\n"), "{text}");
+    assert!(text.contains(shown), "{text}");
+    assert!(text.ends_with("Because:\n    r1 : l1 does not flow to r0 : l0\n"));
 }
 
 /// What the tool says of the lease design after a change that has it refused with this number.

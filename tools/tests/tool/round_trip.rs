@@ -1,6 +1,6 @@
 //! Tables printed and assembled again.
 
-use crate::common::{bytes, designs, on_large_stack};
+use crate::common::{bytes, designs, on_large_stack, with_body};
 use caisson_tests::generate::random::Random;
 use caisson_tests::generate::{design, faults, Size};
 use caisson_tests::{designs::largest, examples, reference, table};
@@ -63,6 +63,55 @@ fn designs_come_back() {
     for name in designs("caisson") {
         assert_comes_back(&name, &bytes(&format!("designs/{name}.table")));
     }
+}
+
+/// Every operator as either part of every other, in all five trees of three operators, with constants
+/// that have a sign in some places and none in others.
+#[test]
+fn operators_come_back_at_every_nesting() {
+    let operators = ["+", "-", "&", "|", "^", "==", "<", "<$", ">>$", "/$"];
+    for round in 0..1_000 {
+        let [first, second, third] =
+            [round / 100, round / 10 % 10, round % 10].map(|one| operators[one]);
+        for expression in [
+            format!("((a {first} -1) {second} 2147483648) {third} 7"),
+            format!("(-1 {first} (a {second} -2147483648)) {third} a"),
+            format!("(0 {first} a) {second} (-40 {third} 31)"),
+            format!("a {first} ((-1 {second} 2147483647) {third} -1)"),
+            format!("-40 {first} (4294967295 {second} (-5 {third} a))"),
+        ] {
+            let source = with_body(&format!("a := {expression}; goto s"));
+            assert_comes_back(&expression, &assemble(&source).unwrap());
+        }
+    }
+}
+
+/// A constant has a sign where it is read as signed, whatever the text had. A reset value has none.
+#[test]
+fn signs_are_shown_where_they_count() {
+    for (text, shown) in [
+        ("a <$ 4294967256", "r0 <$ -40"),
+        ("4294967256 <$ a", "-40 <$ r0"),
+        ("2147483648 /$ 4294967295", "-2147483648 /$ -1"),
+        ("2147483647 /$ 0", "2147483647 /$ 0"),
+        ("-8 >>$ -1", "-8 >>$ 4294967295"),
+        ("a - -40", "r0 - 4294967256"),
+        ("a < -40", "r0 < 4294967256"),
+        ("a == -1", "r0 == 4294967295"),
+        ("-1", "4294967295"),
+        ("-1 + -2 <$ a", "4294967295 + 4294967294 <$ r0"),
+        ("(-1 <$ a) <$ (-9 >>$ 1)", "(-1 <$ r0) <$ -9 >>$ 1"),
+        ("1 - -40 /$ 3", "1 - -40 /$ 3"),
+        ("a - (a >>$ 2) /$ 4", "r0 - (r0 >>$ 2) /$ 4"),
+        ("(a - b) >>$ 2", "r0 - r1 >>$ 2"),
+    ] {
+        let image = assemble(&with_body(&format!("a := {text}; goto s"))).unwrap();
+        let line = format!("state s1 in s0 : l0 {{ r0 := {shown}; goto s1 }}\n");
+        assert!(printed(&image).ends_with(&line), "{text}");
+        assert_comes_back(text, &image);
+    }
+    let tank = printed(&bytes("designs/tank.table"));
+    assert!(tank.contains("port r0 : l0 = 4294967256\n"), "{tank}");
 }
 
 /// The generator numbers its nodes in any order.

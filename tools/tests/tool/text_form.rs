@@ -1,23 +1,15 @@
 //! The text form: what binds how, what is numbered how, and what each fault says.
 
-use crate::common::on_large_stack;
+use crate::common::{on_large_stack, with_body};
 use caisson_tools::assemble;
 
-/// A design with three registers, whose state `s` has this body.
-fn design(body: &str) -> String {
-    format!(
-        "label low\nregister a : low = 0\nregister b : low = 0\nport c : low = 0\n\
-         state root : low {{ fall }}\nstate s in root : low {{ {body} }}\n"
-    )
-}
-
 fn assert_same(one: &str, other: &str) {
-    let tables = [one, other].map(|body| assemble(&design(body)).unwrap());
+    let tables = [one, other].map(|body| assemble(&with_body(body)).unwrap());
     assert!(tables[0] == tables[1], "{one} is not {other}");
 }
 
 fn assert_differ(one: &str, other: &str) {
-    let tables = [one, other].map(|body| assemble(&design(body)).unwrap());
+    let tables = [one, other].map(|body| assemble(&with_body(body)).unwrap());
     assert!(tables[0] != tables[1], "{one} is {other}");
 }
 
@@ -45,6 +37,111 @@ fn operators_bind() {
     assert_differ(&value("a & b + c"), &value("(a & b) + c"));
 }
 
+/// Each two operators: the tighter one first, of equals the left one, and comparisons do not chain.
+#[test]
+fn every_two_operators_bind() {
+    let levels: [&[&str]; 7] = [
+        &["/$"],
+        &["+", "-"],
+        &[">>$"],
+        &["&"],
+        &["^"],
+        &["|"],
+        &["==", "<", "<$"],
+    ];
+    let operators = (0..7).flat_map(|level| levels[level].iter().map(move |one| (level, *one)));
+    let operators: Vec<(usize, &str)> = operators.collect();
+    for &(first_level, first) in &operators {
+        for &(second_level, second) in &operators {
+            let plain = value(&format!("a {first} b {second} c"));
+            let left = value(&format!("(a {first} b) {second} c"));
+            let right = value(&format!("a {first} (b {second} c)"));
+            assert_differ(&left, &right);
+            if (first_level, second_level) == (6, 6) {
+                let found = fault(&with_body(&plain));
+                let expected = "expected parentheses, as comparisons do not chain, found ";
+                assert!(found.ends_with(&format!("{expected}`{second}`")), "{found}");
+            } else if second_level < first_level {
+                assert_same(&plain, &right);
+            } else {
+                assert_same(&plain, &left);
+            }
+        }
+    }
+}
+
+/// The expressions of a body with one assignment.
+fn expressions(text: &str) -> Vec<u8> {
+    let image = assemble(&with_body(&value(text))).unwrap();
+    let at = usize::from(u16::from_le_bytes([image[16], image[17]]));
+    image[at..].to_vec()
+}
+
+#[test]
+fn signed_operators_have_their_kinds() {
+    for (symbol, kind) in [("<$", 9), (">>$", 10), ("/$", 11)] {
+        let expected = [
+            [1, 0, 0, 0, 0, 0, 0, 0],
+            [1, 1, 0, 0, 0, 0, 0, 0],
+            [kind, 0, 0, 0, 1, 0, 0, 0],
+        ];
+        assert_eq!(expressions(&format!("a {symbol} b")), expected.concat());
+        assert_eq!(expressions(&format!("a{symbol}b")), expected.concat());
+    }
+}
+
+/// One constant each; behind an operand `-` is the operator.
+#[test]
+fn numbers_below_zero() {
+    for (text, bytes) in [
+        ("-40", [216, 255, 255, 255]),
+        ("- 40", [216, 255, 255, 255]),
+        ("(-1)", [255, 255, 255, 255]),
+        ("-0", [0, 0, 0, 0]),
+        ("-2147483648", [0, 0, 0, 128]),
+        ("-2147483647", [1, 0, 0, 128]),
+    ] {
+        assert_eq!(expressions(text), [[0, 0, 0, 0], bytes].concat(), "{text}");
+    }
+    for (one, other) in [
+        ("a -40", "a - 40"),
+        ("a-40", "a - 40"),
+        ("(a)-40", "a - 40"),
+        ("3 -40", "3 - 40"),
+        ("a - -40", "a - 4294967256"),
+        ("a--40", "a - 4294967256"),
+        ("a <$-40", "a <$ 4294967256"),
+        ("-40 - a", "4294967256 - a"),
+        ("-6 /$ -3 - 1", "(4294967290 /$ 4294967293) - 1"),
+        ("b & -1 >>$ 1", "b & (4294967295 >>$ 1)"),
+    ] {
+        assert_same(&value(one), &value(other));
+    }
+    assert_differ(&value("-40"), &value("0 - 40"));
+}
+
+/// The library judges whether it is within the width.
+#[test]
+fn reset_values_below_zero() {
+    let declared = |register: &str| {
+        let source = format!("label low {register} state root : low {{ fall }}");
+        assemble(&source).unwrap()
+    };
+    for (one, other) in [
+        ("port r : low = -40", "port r : low = 4294967256"),
+        (
+            "register r : low = -2147483648",
+            "register r : low = 2147483648",
+        ),
+        (
+            "port r : low width 10=-1",
+            "port r : low width 10 = 4294967295",
+        ),
+    ] {
+        assert_eq!(declared(one), declared(other));
+    }
+}
+
 #[test]
 fn commands_bind() {
     assert_same("skip; skip; goto s", "skip; { skip; goto s }");
@@ -67,7 +164,7 @@ fn commands_bind() {
 fn layout_does_not_matter() {
     let other = "state root:low{fall} # the root\n\n\tstate s in root:low{a:=c+1;goto s}\n\
                  register a:low=0 register b:low=0\r\nport c:low=0 label low";
-    let expected = assemble(&design("a := c + 1; goto s")).unwrap();
+    let expected = assemble(&with_body("a := c + 1; goto s")).unwrap();
     assert_eq!(assemble(other).unwrap(), expected);
 }
 
@@ -133,6 +230,15 @@ fn faults_of_declarations() {
             "line 1, column 18: expected a decimal number from 0 to 4294967295, found `4294967296`",
         ),
         (
+            "label a port r : a = -2147483649",
+            "line 1, column 23: expected a number from 0 to 2147483648 behind `-`, found `2147483649`",
+        ),
+        (
+            "label a port r : a = -b",
+            "line 1, column 23: expected a number behind `-` (what is no number is negated as `0 - x`), found `b`",
+        ),
+        ("label a port r : a width -1 = 0", "line 1, column 26: expected a width from 1 to 32, found `-`"),
+        (
             "label a state r : a { fall } state s : a { fall }",
             "line 1, column 38: expected `in` and the parent (only the first state goes without), found `:`",
         ),
@@ -153,7 +259,17 @@ fn faults_of_bodies() {
         ("a := 1 < 2 == 3", "expected parentheses, as comparisons do not chain, found `==`"),
         ("a := (1", "expected an operator or `)`, found `}`"),
         ("a := 1x", "expected a decimal number from 0 to 4294967295, found `1x`"),
-        ("a := -1", "expected an expression: a number, the name of a register or `(`, found `-`"),
+        ("a := + 1", "expected an expression: a number, the name of a register or `(`, found `+`"),
+        ("a := -b", "expected a number behind `-` (what is no number is negated as `0 - x`), found `b`"),
+        ("a := 1 + -(b)", "expected a number behind `-` (what is no number is negated as `0 - x`), found `(`"),
+        ("a := --1", "expected a number behind `-` (what is no number is negated as `0 - x`), found `-`"),
+        ("a := b -", "expected an expression: a number, the name of a register or `(`, found `}`"),
+        ("a := -2147483649", "expected a number from 0 to 2147483648 behind `-`, found `2147483649`"),
+        ("a := -4294967296", "expected a decimal number from 0 to 4294967295, found `4294967296`"),
+        ("a := b / 2", "expected `/$`, signed division, found `/`"),
+        ("a := b >> 2", "expected `>>$`, arithmetic right shift, found `>>`"),
+        ("a := b > 2", "expected a name, a number or a symbol, found `>`"),
+        ("a := b < $ 2", "expected a name, a number or a symbol, found `$`"),
         ("if a fall else fall", "expected an operator or `then`, found `fall`"),
         (
             "if a then a := 1; fall else fall",
@@ -166,7 +282,7 @@ fn faults_of_bodies() {
         ("fall fall", "expected `;` or `}`, found `fall`"),
         ("[command 3]", "expected a name, a number or a symbol, found `[`"),
     ] {
-        let found = fault(&design(body));
+        let found = fault(&with_body(body));
         assert!(found.starts_with("line 6, column "), "{found}");
         assert!(found.ends_with(message), "{found}");
     }
@@ -192,10 +308,10 @@ fn counts_are_kept() {
     };
     assert!(assemble(&states(63)).is_ok());
     assert!(fault(&states(64)).ends_with("expected at most 64 states, found one more"));
-    let commands = |count| design(&(vec!["skip"; count].join(";") + "; fall"));
+    let commands = |count| with_body(&(vec!["skip"; count].join(";") + "; fall"));
     assert!(assemble(&commands(511)).is_ok());
     assert!(fault(&commands(512)).ends_with("expected at most 1024 commands, found one more"));
-    let sums = |count| design(&value(&vec!["1"; count].join("+")));
+    let sums = |count| with_body(&value(&vec!["1"; count].join("+")));
     assert!(assemble(&sums(1_024)).is_ok());
     assert!(fault(&sums(1_025)).ends_with("expected at most 2048 expressions, found one more"));
 }
@@ -205,14 +321,14 @@ fn counts_are_kept() {
 fn nesting_is_bounded() {
     on_large_stack(|| {
         let parentheses = |count| value(&("(".repeat(count) + "1" + &")".repeat(count)));
-        assert!(assemble(&design(&parentheses(1_024))).is_ok());
+        assert!(assemble(&with_body(&parentheses(1_024))).is_ok());
         let braces = "{".repeat(100_000);
         for body in [parentheses(1_025), parentheses(100_000), braces] {
-            let found = fault(&design(&body));
+            let found = fault(&with_body(&body));
             let expected = "expected at most 1024 levels of nesting, found one more";
             assert!(found.ends_with(expected), "{found}");
         }
-        let found = fault(&design(&"if a then ".repeat(100_000)));
+        let found = fault(&with_body(&"if a then ".repeat(100_000)));
         assert!(
             found.ends_with("expected at most 1024 commands, found one more"),
             "{found}"
