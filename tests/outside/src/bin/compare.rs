@@ -56,6 +56,11 @@ fn compare_checks(arguments: &Arguments) -> bool {
 }
 
 fn compare_lists(arguments: &Arguments) -> bool {
+    // Not in the tallies below: random designs have to meet the operands by themselves.
+    if let Err(difference) = lists::operations(&mut lists::Tallies::default()) {
+        difference.report("the operations");
+        return false;
+    }
     let mut tallies = lists::Tallies::default();
     if let Err(difference) = lists::longest_runs(&mut tallies) {
         difference.report("the longest runs");

@@ -1,9 +1,13 @@
 //! The generator keeps its word: accepted designs of every size, and every fault met.
 
+use super::Areas;
+use crate::compare::kinds::note_kind;
+use crate::compare::operands::note_operands;
+use crate::compare::tally::Tally;
 use crate::generate::random::Random;
 use crate::generate::{design, faults, Size};
 use crate::reference;
-use crate::reference::image::PORT;
+use crate::reference::image::{Image, PORT};
 use crate::reference::limits::LARGEST_IMAGE;
 use crate::reference::refusal;
 use crate::table::Table;
@@ -82,6 +86,41 @@ fn register_faults_are_met() {
         }
     }
     assert!(met.iter().all(|&met| met >= 50), "{met:?}");
+}
+
+/// Refusal 5 is met at kind 12 and above, and at the kinds of request E3.
+#[test]
+fn kinds_are_met() {
+    let mut random = Random::new(19);
+    let mut tally = Tally::default();
+    for _ in 0..1_000 {
+        let size = Size::random(&mut random);
+        let image = faults::spoiled(&design(&mut random, size), &[5], &mut random).image();
+        note_kind(&mut tally, &image, reference::check(&image));
+    }
+    assert_eq!(missing_reasons(&tally), NONE);
+}
+
+/// The operations of request E3 have every sort of operands, in the first cycle already.
+#[test]
+fn operands_are_met() {
+    let mut random = Random::new(20);
+    let mut tally = Tally::default();
+    for _ in 0..3_000 {
+        let size = Size::random(&mut random);
+        let areas = Areas::reset(&design(&mut random, size));
+        let image = Image::open(&areas.image).expect("an accepted image");
+        note_operands(&mut tally, &image, &areas.registers, &areas.targets);
+    }
+    assert_eq!(missing_reasons(&tally), NONE);
+}
+
+const NONE: [&str; 0] = [];
+
+/// Of the reasons alone.
+fn missing_reasons(tally: &Tally) -> Vec<String> {
+    let numbers: Vec<u32> = (0..=refusal::LAST).collect();
+    tally.missing(&numbers)
 }
 
 /// Designs have narrow and wide registers of both kinds, and reset values at both ends.

@@ -1,14 +1,8 @@
 //! The lease design: its bytes, its listing, P1 to P3.
 
-use super::Areas;
+use super::{listed, Areas};
 use crate::designs::{lease, timer_is_a_port};
 use crate::reference::listing;
-
-fn listed(count: u16) -> String {
-    let mut input = count.to_le_bytes().to_vec();
-    input.extend(lease().image());
-    String::from_utf8(listing(&input)).unwrap()
-}
 
 #[test]
 fn image_has_the_documented_pairs() {
@@ -28,17 +22,17 @@ fn p1_listing_of_four_cycles() {
                     2;0 2 3;2 0\n\
                     3;0 2 3;1 0\n\
                     4;0 2;0 0\n";
-    assert_eq!(listed(4), expected);
+    assert_eq!(listed(&lease(), 4), expected);
 }
 
 #[test]
 fn listing_of_no_cycle_is_the_header() {
-    assert_eq!(listed(0), "cycle;walk;registers\n");
+    assert_eq!(listed(&lease(), 0), "cycle;walk;registers\n");
 }
 
 #[test]
 fn listing_of_most_cycles() {
-    let text = listed(u16::MAX);
+    let text = listed(&lease(), u16::MAX);
     assert_eq!(text.lines().count(), 65_536);
     assert_eq!(text.lines().last(), Some("65535;0 2 3;1 0"));
 }

@@ -7,6 +7,7 @@ mod groups;
 mod lease;
 mod lengths;
 mod ports;
+mod signed;
 mod values;
 mod widths;
 
@@ -60,6 +61,22 @@ impl Areas {
             .map(|value| u32::from_le_bytes(*value))
             .collect()
     }
+}
+
+/// So many cycles of the design, as the lister shows them.
+fn listed(table: &Table, count: u16) -> String {
+    let mut input = count.to_le_bytes().to_vec();
+    input.extend(table.image());
+    String::from_utf8(reference::listing(&input)).unwrap()
+}
+
+/// r0 after one cycle of the design with these values in the ports r1 and r2.
+fn computed(table: &Table, left: u32, right: u32) -> u32 {
+    let mut areas = Areas::reset(table);
+    assert_eq!(areas.write_port(1, left).number, 0);
+    assert_eq!(areas.write_port(2, right).number, 0);
+    assert_eq!(areas.run(1).count, 1);
+    areas.values()[0]
 }
 
 /// Makes the call on copies and sees that a refusal leaves them alone.

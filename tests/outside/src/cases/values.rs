@@ -1,15 +1,11 @@
 //! What expressions come to, and when assignments show (P4 among them).
 
-use super::Areas;
+use super::{computed, Areas};
 use crate::designs::{assigns_twice, lease, one_operation, seen_by_the_child, three_levels};
 
 /// left (kind) right.
 fn result(kind: u8, left: u32, right: u32) -> u32 {
-    let mut areas = Areas::reset(&one_operation(kind));
-    assert_eq!(areas.write_port(1, left).number, 0);
-    assert_eq!(areas.write_port(2, right).number, 0);
-    assert_eq!(areas.run(1).count, 1);
-    areas.values()[0]
+    computed(&one_operation(kind), left, right)
 }
 
 #[test]

@@ -1,10 +1,9 @@
 //! Registers with a width, request E2: what an assignment stores and a read gives.
 
-use super::Areas;
+use super::{computed, listed, Areas};
 use crate::designs::{
     copied, one_operation, seen_by_the_child, tests_one_more, two_groups, valve, with_width,
 };
-use crate::reference::listing;
 
 const ADD: u8 = 2;
 const SUBTRACT: u8 = 3;
@@ -12,11 +11,7 @@ const LESS: u8 = 8;
 
 /// left (kind) right, stored in a register of this width.
 fn stored(width: u8, kind: u8, left: u32, right: u32) -> u32 {
-    let mut areas = Areas::reset(&with_width(one_operation(kind), 0, width));
-    assert_eq!(areas.write_port(1, left).number, 0);
-    assert_eq!(areas.write_port(2, right).number, 0);
-    assert_eq!(areas.run(1).count, 1);
-    areas.values()[0]
+    computed(&with_width(one_operation(kind), 0, width), left, right)
 }
 
 #[test]
@@ -112,15 +107,13 @@ fn conditions() {
 
 #[test]
 fn the_valve() {
-    let mut input = vec![5, 0];
-    input.extend(valve().image());
     let expected = "cycle;walk;registers\n\
                     1;0 1;1023 0 1023 0 0\n\
                     2;0 1;0 0 1023 0 0\n\
                     3;0 2 3;1023 1 1023 0 4294967295\n\
                     4;0 2;1022 0 1023 0 4294967295\n\
                     5;0 1;1023 0 1023 0 4294967295\n";
-    assert_eq!(String::from_utf8(listing(&input)).unwrap(), expected);
+    assert_eq!(listed(&valve(), 5), expected);
 }
 
 /// Where no value comes near the bound a width changes nothing.

@@ -2,6 +2,7 @@
 //! of the areas.
 
 use super::difference::Difference;
+use super::kinds::note_kind;
 use super::reasons::note_register;
 use super::tally::Tally;
 use crate::answer::Answer;
@@ -85,6 +86,7 @@ impl Judges<'_> {
             }
             tally.add(expected, image.len());
             note_register(tally, &image, expected);
+            note_kind(tally, &image, expected);
         }
         Ok(())
     }
@@ -109,7 +111,9 @@ pub fn fixed_images(tallies: &mut Tallies) -> Result<(), Difference> {
             judges.compare(image[..length].to_vec())?;
         }
         for place in 0..image.len() {
-            for byte in [0, 1, 2, 3, 4, 5, 6, 8, 9, 10, 16, 31, 32, 33, 64, 128, 255] {
+            for byte in [
+                0, 1, 2, 3, 4, 5, 6, 8, 9, 10, 11, 12, 13, 16, 31, 32, 33, 64, 128, 255,
+            ] {
                 let mut changed = image.clone();
                 changed[place] = byte;
                 judges.compare(changed)?;

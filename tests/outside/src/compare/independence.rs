@@ -110,6 +110,7 @@ fn small_design(random: &mut Random) -> Table {
         0 => designs::lease(),
         1 => designs::two_groups(),
         2 => designs::valve(),
+        3 => designs::level(),
         _ => {
             let size = Size {
                 labels: *random.pick(&[2, 2, 3, 4, 5, 15]),

@@ -40,6 +40,7 @@ fn any_input(random: &mut Random) -> Vec<u8> {
         2 => designs::smallest(),
         3 => designs::valve(),
         4 => designs::powers_of_ten(),
+        5 => designs::level(),
         _ => design(random, size),
     };
     let count = match random.below(8) {

@@ -8,10 +8,11 @@ use super::engine::{Call, LIBRARY, REFERENCE};
 use super::reasons::{note_call, Lent};
 use super::tally::Tally;
 use crate::designs;
-use crate::generate::random::Random;
+use crate::generate::random::{Random, EDGES};
 use crate::generate::{design, faults, Size};
-use crate::reference::image::{Image, PORT};
+use crate::reference::image::{Image, LAST_OPERATION, PORT};
 use crate::reference::refusal;
+use crate::table::Table;
 
 const CALLS: usize = 40;
 
@@ -62,7 +63,18 @@ struct Pair<'a> {
     tallies: &'a mut Tallies,
 }
 
-impl Pair<'_> {
+impl<'a> Pair<'a> {
+    /// Both with the same areas, of any contents.
+    fn new(image: &'a [u8], table: &Table, random: &mut Random, tallies: &'a mut Tallies) -> Self {
+        let areas = Areas::new(table, random);
+        Pair {
+            image,
+            library: areas.clone(),
+            reference: areas,
+            tallies,
+        }
+    }
+
     fn make(&mut self, call: Call, registers: usize, targets: usize) -> Result<(), Difference> {
         let image = self.image.to_vec().into_boxed_slice();
         let ports = self.port_values();
@@ -133,13 +145,7 @@ pub fn lists_of_seed(seed: u64, tallies: &mut Tallies) -> Result<(), Difference>
             number => faults::spoiled(&table, &[number], &mut random).image(),
         };
     }
-    let areas = Areas::new(&table, &mut random);
-    let mut pair = Pair {
-        image: &image,
-        library: areas.clone(),
-        reference: areas,
-        tallies,
-    };
+    let mut pair = Pair::new(&image, &table, &mut random, tallies);
     // Before the first reset registers and targets are any bytes.
     if random.percent(80) {
         pair.make(Call::Reset, 4 * size.registers, size.states)?;
@@ -153,17 +159,30 @@ pub fn lists_of_seed(seed: u64, tallies: &mut Tallies) -> Result<(), Difference>
     Ok(())
 }
 
+/// Every operation on every two edges, with its value stored whole: in a random body it may be lost.
+pub fn operations(tallies: &mut Tallies) -> Result<(), Difference> {
+    let edges = || EDGES.into_iter().chain([0]).map(i32::cast_unsigned);
+    for kind in 2..=LAST_OPERATION {
+        let table = designs::one_operation(kind);
+        let image = table.image();
+        let mut pair = Pair::new(&image, &table, &mut Random::new(0), tallies);
+        let mut make = |call| pair.make(call, 4 * table.registers.len(), table.states.len());
+        make(Call::Reset)?;
+        for (left, right) in edges().flat_map(|left| edges().map(move |right| (left, right))) {
+            for (register, value) in [(1, left), (2, right)] {
+                make(Call::WritePort { register, value })?;
+            }
+            make(Call::Run { cycles: 1 })?;
+        }
+    }
+    Ok(())
+}
+
 /// The longest run on the worked designs.
 pub fn longest_runs(tallies: &mut Tallies) -> Result<(), Difference> {
     for table in designs::worked() {
-        let areas = Areas::new(&table, &mut Random::new(0));
         let image = table.image();
-        let mut pair = Pair {
-            image: &image,
-            library: areas.clone(),
-            reference: areas,
-            tallies,
-        };
+        let mut pair = Pair::new(&image, &table, &mut Random::new(0), tallies);
         let (registers, targets) = (4 * table.registers.len(), table.states.len());
         pair.make(Call::Reset, registers, targets)?;
         for cycles in [0, 1, 999_999, 1_000_000, 1_000_001, u32::MAX] {

@@ -2,7 +2,9 @@
 
 pub mod arguments;
 pub mod difference;
+pub mod kinds;
 pub mod listings;
+pub mod operands;
 pub mod tally;
 
 #[cfg(feature = "library")]

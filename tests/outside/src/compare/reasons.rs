@@ -2,6 +2,7 @@
 //! which one counts, and values on either side of a width. Each reason has to be met.
 
 use super::engine::Call;
+use super::operands::note_operands;
 use super::tally::Tally;
 use crate::answer::Answer;
 use crate::reference::image::{Image, Register, PORT};
@@ -76,6 +77,9 @@ fn note_run(tally: &mut Tally, image: &Image, lent: &Lent, cycles: u32, answer: 
     );
     let by_target = answer.number == 14 && contents.fitting && !by_contents;
     tally.note("14 by an unsound target", by_target);
+    if answer.number == 0 && cycles > 0 {
+        note_operands(tally, image, lent.registers, lent.targets);
+    }
 }
 
 fn note_write(

@@ -56,7 +56,7 @@ impl Stage<'_> {
         let mut walk = Vec::new();
         let mut targets = areas.targets.whole().to_vec();
         self.machine
-            .cycle(&mut areas.values(), &mut targets, |state| walk.push(state));
+            .cycle(&mut areas.values(), &mut targets, &mut walk);
         walk.retain(|&state| {
             let label = self.table.states[usize::from(state)].label;
             self.table.flows(label, level)

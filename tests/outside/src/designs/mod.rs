@@ -1,15 +1,17 @@
-//! The worked designs: document 01's lease design, the one with two groups, and a valve for request
-//! E2; and small ones, each for one sentence.
+//! The worked designs: document 01's lease design, the one with two groups, a valve for request E2 and
+//! a level below zero for E3; and small ones, each for one sentence.
 
 mod largest;
+mod level;
 mod small;
 mod valve;
 
 pub use largest::largest;
+pub use level::level;
 pub use small::{
-    assigns_twice, copied, low_child, nested_commands, nested_sums, one_operation, powers_of_ten,
-    seen_by_the_child, tests_one_more, three_levels, three_states, timer_counted_by_a_high_state,
-    timer_is_a_port, with_width,
+    assigns_twice, copied, low_child, nested, nested_commands, nested_sums, one_operation,
+    powers_of_ten, seen_by_the_child, tests_one_more, three_levels, three_states,
+    timer_counted_by_a_high_state, timer_is_a_port, with_width,
 };
 pub use valve::valve;
 
@@ -95,8 +97,8 @@ pub fn two_groups() -> Table {
 }
 
 /// The designs that every comparison takes besides the random ones.
-pub fn worked() -> [Table; 4] {
-    [lease(), two_groups(), valve(), smallest()]
+pub fn worked() -> [Table; 5] {
+    [lease(), two_groups(), valve(), level(), smallest()]
 }
 
 /// The smallest design that can be accepted: 46 bytes.
@@ -114,6 +116,13 @@ fn count_down(table: &mut Table, register: u8) -> u16 {
     let right = table.constant(1);
     let difference = table.subtract(left, right);
     table.assign(register, difference)
+}
+
+fn count_up(table: &mut Table, register: u8) -> u16 {
+    let left = table.read(register);
+    let right = table.constant(1);
+    let sum = table.add(left, right);
+    table.assign(register, sum)
 }
 
 fn is_zero(table: &mut Table, register: u8) -> u16 {

@@ -35,11 +35,16 @@ pub fn powers_of_ten() -> Table {
 
 /// So many sums, each adding one constant.
 pub fn nested_sums(count: usize) -> Table {
+    nested(2, count)
+}
+
+/// So many operations of this kind, each with one constant.
+pub fn nested(kind: u8, count: usize) -> Table {
     three_states(|table| {
         let mut value = table.constant(0);
         for _ in 0..count {
             let one = table.constant(1);
-            value = table.add(value, one);
+            value = table.operation(kind, value, one);
         }
         let assign = table.assign(0, value);
         let go = table.goto(1);

@@ -1,6 +1,6 @@
 //! A valve: a position of 10 bits and flags of 1, as request E2 has them.
 
-use super::count_down;
+use super::{count_down, count_up};
 use crate::table::Table;
 
 /// r0 is the position, r1 a flag, r2 and r3 are ports of the same widths, and r4 is a high count of 32
@@ -44,11 +44,4 @@ pub fn valve() -> Table {
     let body = table.sequence(lower, choice);
     table.state(2, 1, body);
     table
-}
-
-fn count_up(table: &mut Table, register: u8) -> u16 {
-    let left = table.read(register);
-    let right = table.constant(1);
-    let sum = table.add(left, right);
-    table.assign(register, sum)
 }

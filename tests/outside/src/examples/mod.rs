@@ -1,18 +1,21 @@
 //! Images with the verdict that a sentence of document 01 or 02, a decided point or a worked design
-//! gives them. They are asserted of the reference, and stored for the proved program.
+//! gives them, and operations with their values. They are asserted of the reference, and stored for the
+//! proved program.
 
 mod flow;
 mod lattices;
 mod nodes;
+mod operations;
 mod ports;
 mod records;
 mod shape;
+pub mod values;
 mod widths;
 
 use crate::table::Table;
 
 pub struct Example {
-    pub sentence: &'static str,
+    pub sentence: String,
     pub image: Vec<u8>,
     /// Number and place of check's answer.
     pub verdict: (u32, usize),
@@ -23,23 +26,24 @@ pub fn all() -> Vec<Example> {
     examples.extend(widths::examples());
     examples.extend(lattices::examples());
     examples.extend(nodes::examples());
+    examples.extend(operations::examples());
     examples.extend(shape::examples());
     examples.extend(ports::examples());
     examples.extend(flow::examples());
     examples
 }
 
-fn accepted(sentence: &'static str, table: &Table) -> Example {
+fn accepted(sentence: &str, table: &Table) -> Example {
     refused(sentence, table, 0, 0)
 }
 
-fn refused(sentence: &'static str, table: &Table, number: u32, place: usize) -> Example {
+fn refused(sentence: &str, table: &Table, number: u32, place: usize) -> Example {
     bytes(sentence, table.image(), number, place)
 }
 
-fn bytes(sentence: &'static str, image: Vec<u8>, number: u32, place: usize) -> Example {
+fn bytes(sentence: &str, image: Vec<u8>, number: u32, place: usize) -> Example {
     Example {
-        sentence,
+        sentence: sentence.to_string(),
         image,
         verdict: (number, place),
     }

@@ -26,12 +26,6 @@ pub fn examples() -> Vec<Example> {
             1_024,
         ),
         refused(
-            "5: expression kind 9",
-            &changed(lease(), |table| table.expressions[5].kind = 9),
-            5,
-            1_029,
-        ),
-        refused(
             "6: states 0 and 1 both with command 0",
             &changed(smallest(), |table| table.states[1].command = 0),
             6,

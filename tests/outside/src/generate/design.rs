@@ -4,7 +4,7 @@ use super::body::Author;
 use super::lattice::{largest_lattice, lattice};
 use super::random::Random;
 use super::size::Size;
-use crate::reference::image::{INNER, PORT};
+use crate::reference::image::{CONSTANT, INNER, LAST_OPERATION, PORT, SIGNED_LESS};
 use crate::reference::limits::{MOST_LABELS, WIDEST};
 use crate::table::{Node, State, Table};
 
@@ -25,6 +25,7 @@ pub fn design(random: &mut Random, size: Size) -> Table {
     write_bodies(random, &mut table, size);
     table.renumber(random);
     narrow(random, &mut table);
+    sharpen(random, &mut table);
     table
 }
 
@@ -34,6 +35,22 @@ fn narrow(random: &mut Random, table: &mut Table) {
     for register in &mut table.registers {
         register.width = random.width();
         register.reset = random.fitting(register.width);
+    }
+}
+
+/// Constants that are parts of the signed operations are often at an edge: of two chosen for
+/// themselves hardly ever both would be. These come last as well.
+fn sharpen(random: &mut Random, table: &mut Table) {
+    for owner in 0..table.expressions.len() {
+        let Node { kind, a, b, .. } = table.expressions[owner];
+        if !(SIGNED_LESS..=LAST_OPERATION).contains(&kind) {
+            continue;
+        }
+        for part in [a, b].map(usize::from) {
+            if table.expressions[part].kind == CONSTANT && random.percent(50) {
+                table.expressions[part] = Node::constant(random.edge());
+            }
+        }
     }
 }
 

@@ -3,6 +3,12 @@
 use crate::reference::limits::WIDEST;
 use crate::table::most;
 
+const LOWEST: i32 = i32::MIN;
+const HIGHEST: i32 = i32::MAX;
+
+/// Where signed operations turn, apart from 0: signs, counts of a shift, both ends.
+pub const EDGES: [i32; 13] = [1, 2, 3, 31, 32, 33, -1, -1, -2, -7, HIGHEST, LOWEST, LOWEST];
+
 #[derive(Clone)]
 pub struct Random {
     state: u64,
@@ -54,12 +60,16 @@ impl Random {
         }
     }
 
+    /// A small or an extreme value.
+    pub fn edge(&mut self) -> u32 {
+        self.pick(&EDGES).cast_unsigned()
+    }
+
     /// A 32-bit value, often 0, a small or an extreme one.
     pub fn value(&mut self) -> u32 {
         match self.below(6) {
             0 | 1 => 0,
-            2 => self.below(4) as u32,
-            3 => u32::MAX - self.below(3) as u32,
+            2 | 3 => self.edge(),
             4 => 1 << self.below(32),
             _ => self.bits() as u32,
         }

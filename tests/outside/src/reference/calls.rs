@@ -54,7 +54,7 @@ pub fn walk(image: &[u8], registers: &[u8], targets: &[u8]) -> Result<Vec<u8>, R
     let machine = Machine::new(&image);
     let mut now = judge_areas(&image, &machine, registers, targets)?;
     let mut walk = Vec::new();
-    machine.cycle(&mut now, &mut targets.to_vec(), |state| walk.push(state));
+    machine.cycle(&mut now, &mut targets.to_vec(), &mut walk);
     Ok(walk)
 }
 
@@ -109,7 +109,7 @@ fn try_run(
         return Err(Refusal::new(15, 0));
     }
     for _ in 0..cycles {
-        machine.cycle(&mut now, targets, |_| {});
+        machine.cycle(&mut now, targets, &mut ());
     }
     for (place, value) in registers.chunks_exact_mut(4).zip(now) {
         place.copy_from_slice(&value.to_le_bytes());

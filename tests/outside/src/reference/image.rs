@@ -8,7 +8,11 @@ pub const PORT: u8 = 1;
 
 pub const CONSTANT: u8 = 0;
 pub const READ: u8 = 1;
-pub const LAST_OPERATION: u8 = 8;
+// The operations between have no names: they are the kinds 2 to 8.
+pub const SIGNED_LESS: u8 = 9;
+pub const SHIFT: u8 = 10;
+pub const DIVIDE: u8 = 11;
+pub const LAST_OPERATION: u8 = DIVIDE;
 
 pub const SKIP: u8 = 0;
 pub const ASSIGN: u8 = 1;

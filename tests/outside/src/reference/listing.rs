@@ -22,7 +22,7 @@ fn lines(input: &[u8]) -> Result<String, Refusal> {
     let mut text = String::from("cycle;walk;registers\n");
     for cycle in 1..=u16::from_le_bytes([count[0], count[1]]) {
         let mut walk = Vec::new();
-        machine.cycle(&mut registers, &mut targets, |state| walk.push(state));
+        machine.cycle(&mut registers, &mut targets, &mut walk);
         text += &format!("{cycle};{};{}\n", spaced(&walk), spaced(&registers));
     }
     Ok(text)

@@ -1,6 +1,7 @@
 //! A cycle by the step rules, on an accepted image, values within their widths and sound targets.
 
 use super::image::*;
+use super::operations;
 
 #[derive(Clone, Copy)]
 enum Command {
@@ -29,6 +30,25 @@ enum Expression {
     Constant(u32),
     Read(u8),
     Operation { kind: u8, left: u16, right: u16 },
+}
+
+/// What a cycle shows of itself to whoever looks on.
+pub trait Watch {
+    /// The next state of the walk.
+    fn state(&mut self, _state: u8) {}
+
+    /// An operation, with the values of its parts.
+    fn operation(&mut self, _kind: u8, _left: u32, _right: u32) {}
+}
+
+/// Nobody looks on.
+impl Watch for () {}
+
+/// A walk, written down.
+impl Watch for Vec<u8> {
+    fn state(&mut self, state: u8) {
+        self.push(state);
+    }
 }
 
 /// How a body ends.
@@ -100,12 +120,11 @@ impl Machine {
         })
     }
 
-    /// Runs one cycle and shows each state of its walk.
-    pub fn cycle(&self, registers: &mut [u32], targets: &mut [u8], mut visit: impl FnMut(u8)) {
+    pub fn cycle(&self, registers: &mut [u32], targets: &mut [u8], watch: &mut impl Watch) {
         let mut state = 0;
         loop {
-            visit(state);
-            match self.execute(self.bodies[usize::from(state)], registers) {
+            watch.state(state);
+            match self.execute(self.bodies[usize::from(state)], registers, watch) {
                 Outcome::Transferred(Ending::Goto(to)) => return self.go(to, targets),
                 Outcome::Transferred(Ending::Fall) => state = targets[usize::from(state)],
                 Outcome::Done => unreachable!("every state's command transfers"),
@@ -123,17 +142,17 @@ impl Machine {
         targets[usize::from(self.parents[usize::from(to)])] = to;
     }
 
-    fn execute(&self, command: u16, registers: &mut [u32]) -> Outcome {
+    fn execute(&self, command: u16, registers: &mut [u32], watch: &mut impl Watch) -> Outcome {
         match self.commands[usize::from(command)] {
             Command::Skip => Outcome::Done,
             Command::Assign { register, value } => {
-                let value = self.evaluate(value, registers);
+                let value = self.evaluate(value, registers, watch);
                 // Modulo 2 to the power of the width: the bits above it are cut off.
                 registers[usize::from(register)] = value & self.most[usize::from(register)];
                 Outcome::Done
             }
-            Command::Sequence { first, second } => match self.execute(first, registers) {
-                Outcome::Done => self.execute(second, registers),
+            Command::Sequence { first, second } => match self.execute(first, registers, watch) {
+                Outcome::Done => self.execute(second, registers, watch),
                 transferred => transferred,
             },
             Command::Fall => Outcome::Transferred(Ending::Fall),
@@ -143,32 +162,25 @@ impl Machine {
                 then,
                 otherwise,
             } => {
-                let taken = if self.evaluate(condition, registers) != 0 {
+                let taken = if self.evaluate(condition, registers, watch) != 0 {
                     then
                 } else {
                     otherwise
                 };
-                self.execute(taken, registers)
+                self.execute(taken, registers, watch)
             }
         }
     }
 
-    fn evaluate(&self, expression: u16, registers: &[u32]) -> u32 {
+    fn evaluate(&self, expression: u16, registers: &[u32], watch: &mut impl Watch) -> u32 {
         match self.expressions[usize::from(expression)] {
             Expression::Constant(value) => value,
             Expression::Read(register) => registers[usize::from(register)],
             Expression::Operation { kind, left, right } => {
-                let left = self.evaluate(left, registers);
-                let right = self.evaluate(right, registers);
-                match kind {
-                    2 => left.wrapping_add(right),
-                    3 => left.wrapping_sub(right),
-                    4 => left & right,
-                    5 => left | right,
-                    6 => left ^ right,
-                    7 => u32::from(left == right),
-                    _ => u32::from(left < right),
-                }
+                let left = self.evaluate(left, registers, watch);
+                let right = self.evaluate(right, registers, watch);
+                watch.operation(kind, left, right);
+                operations::value(kind, left, right)
             }
         }
     }

@@ -1,6 +1,6 @@
-//! Document 01 with requests E1 and E2 of document 02, implemented for clarity: tables and passes
-//! over node numbers, no recursion in the checker, so that it shares as little as possible with the
-//! proved library.
+//! Document 01 with requests E1 to E3 of document 02, implemented for clarity: tables and passes over
+//! node numbers, no recursion in the checker, so that it shares as little as possible with the proved
+//! library.
 
 pub mod calls;
 pub mod image;
@@ -9,6 +9,7 @@ pub mod limits;
 mod listing;
 pub mod machine;
 mod nodes;
+mod operations;
 mod records;
 pub mod refusal;
 mod rules;

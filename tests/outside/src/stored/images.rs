@@ -5,6 +5,6 @@ use crate::examples;
 
 pub fn add(script: &mut Script) {
     for example in examples::all() {
-        script.note(example.sentence).image(&example.image);
+        script.note(&example.sentence).image(&example.image);
     }
 }

@@ -8,6 +8,7 @@ mod ports;
 mod record;
 mod runs;
 mod script;
+mod signed;
 mod text;
 mod values;
 mod widths;
@@ -30,6 +31,7 @@ fn records() -> Vec<Record> {
     images::add(&mut script);
     lease::add(&mut script);
     values::add(&mut script);
+    signed::add(&mut script);
     runs::add(&mut script);
     ports::add(&mut script);
     widths::add(&mut script);

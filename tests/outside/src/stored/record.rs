@@ -1,7 +1,7 @@
 //! A record: a kind, two numbers and what follows them. `crates/cases/src/main.rt` has the format.
 
 pub enum Record {
-    Note(&'static str),
+    Note(String),
     Image(Vec<u8>),
     Areas(Vec<u8>, Vec<u8>),
     Reset,

@@ -9,9 +9,9 @@ pub struct Script {
 }
 
 impl Script {
-    pub fn note(&mut self, sentence: &'static str) -> &mut Script {
+    pub fn note(&mut self, sentence: &str) -> &mut Script {
         assert!(sentence.len() <= 200);
-        self.add(Record::Note(sentence))
+        self.add(Record::Note(sentence.to_string()))
     }
 
     pub fn image(&mut self, image: &[u8]) -> &mut Script {
@@ -48,6 +48,14 @@ impl Script {
 
     pub fn run(&mut self, cycles: u32) -> &mut Script {
         self.add(Record::Run(cycles))
+    }
+
+    /// The design, and one cycle for each pair of values in the ports r1 and r2.
+    pub fn pairs(&mut self, table: &Table, pairs: &[(u32, u32)]) {
+        self.design(table).reset();
+        for &(left, right) in pairs {
+            self.write(1, left).write(2, right).run(1);
+        }
     }
 
     /// The last record is of no kind.

@@ -22,11 +22,8 @@ fn operations(script: &mut Script) {
 }
 
 /// r0 := r1 (kind) r2 for each pair.
-fn operation(script: &mut Script, sentence: &'static str, kind: u8, pairs: &[(u32, u32)]) {
-    script.note(sentence).design(&one_operation(kind)).reset();
-    for &(left, right) in pairs {
-        script.write(1, left).write(2, right).run(1);
-    }
+fn operation(script: &mut Script, sentence: &str, kind: u8, pairs: &[(u32, u32)]) {
+    script.note(sentence).pairs(&one_operation(kind), pairs);
 }
 
 /// State 3 of the lease design: if r1 then goto 4 else goto 3.

@@ -36,12 +36,9 @@ fn cuts(script: &mut Script) {
 }
 
 /// r0 := r1 (kind) r2 for each pair, in an r0 of this width.
-fn cut(script: &mut Script, sentence: &'static str, width: u8, kind: u8, pairs: &[(u32, u32)]) {
+fn cut(script: &mut Script, sentence: &str, width: u8, kind: u8, pairs: &[(u32, u32)]) {
     let table = with_width(one_operation(kind), 0, width);
-    script.note(sentence).design(&table).reset();
-    for &(left, right) in pairs {
-        script.write(1, left).write(2, right).run(1);
-    }
+    script.note(sentence).pairs(&table, pairs);
 }
 
 fn reads(script: &mut Script) {

@@ -85,7 +85,8 @@ impl Table {
     }
 
     pub fn constant(&mut self, value: u32) -> u16 {
-        self.expression(0, 0, 0, value as u16, (value >> 16) as u16)
+        let Node { b, c, .. } = Node::constant(value);
+        self.expression(0, 0, 0, b, c)
     }
 
     pub fn read(&mut self, register: u8) -> u16 {
@@ -106,5 +107,17 @@ impl Table {
 
     pub fn equal(&mut self, left: u16, right: u16) -> u16 {
         self.operation(7, left, right)
+    }
+
+    pub fn signed_less(&mut self, left: u16, right: u16) -> u16 {
+        self.operation(9, left, right)
+    }
+
+    pub fn shift(&mut self, value: u16, count: u16) -> u16 {
+        self.operation(10, value, count)
+    }
+
+    pub fn divide(&mut self, left: u16, right: u16) -> u16 {
+        self.operation(11, left, right)
     }
 }

@@ -62,6 +62,14 @@ pub enum Family {
 }
 
 impl Node {
+    pub fn constant(value: u32) -> Node {
+        Node {
+            b: value as u16,
+            c: (value >> 16) as u16,
+            ..Node::default()
+        }
+    }
+
     pub fn bytes(&self) -> [u8; 8] {
         let [a0, a1] = self.a.to_le_bytes();
         let [b0, b1] = self.b.to_le_bytes();

@@ -35,7 +35,7 @@ pub fn spoil_field(table: &mut Table, random: &mut Random) {
                 Family::Command => IF,
                 Family::Expression => LAST_OPERATION,
             };
-            let any = random.below(10) as u8;
+            let any = random.below(16) as u8;
             node.kind = *random.pick(&[last + 1, last + 2, 255, any]);
         }
         2 => {
