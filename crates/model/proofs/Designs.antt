@@ -249,7 +249,7 @@ noCommands = assemble (1 ∷ []) [] (stateRecord 0 0 0 ∷ []) [] []
 abbrev pub kindSix : List ℕ
 kindSix = oneState (1 ∷ []) [] 1 (node 6 0 0 0 0 ∷ []) []
 
--- 5: expression 1 of kind 9
+-- 5: expression 1 of kind 12
 abbrev pub expressionKindTwelve : List ℕ
 expressionKindTwelve = oneState (1 ∷ []) [] 3 (goesTo 1 ∷ goesTo 1 ∷ branches 1 1 2 ∷ []) (constant 1 ∷ node 12 0 0 0 0 ∷ [])
 
