@@ -8,6 +8,7 @@ pub mod Grouping
 pub mod Writing
 pub mod Ports
 pub mod Widths
+pub mod Signed
 pub mod Promises
 pub mod Designs
 pub mod Opened

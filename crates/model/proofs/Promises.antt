@@ -3,7 +3,7 @@
 use mathlib.Core.Path.{_≡_}
 use mathlib.Core.Logic.{_↔_}
 use mathlib.Core.List.{List}
-use Prim.Native.Nat.{ℕ, _+_, _*_, _≤_}
+use Prim.Native.Nat.{ℕ, _+_, _-_, _*_, _^_, _≤_, _<_}
 use lib.ListN.{length}
 use Rattle.model.specs.declared.Refusal.{Refusal}
 use Rattle.model.specs.declared.Answer.the-variants.{Accepted}
@@ -14,6 +14,7 @@ use Rattle.model.specs.Rules.{Keeps}
 use Rattle.model.specs.Ports.{PortsKept}
 use Rattle.model.specs.Calls.{Lent, check, registersLength, targetsLength, writePort, run}
 use Rattle.model.specs.Refusals.{AllKept, FirstBroken, imageTable, callTable, callCount, AnswersBy, WithinWidths}
+use Rattle.model.specs.Signed.{signedValue, shiftCount, shiftedRight, dividedSigned}
 use Rattle.model.specs.Verdict.{verdict}
 use Rattle.model.specs.Parties.{Call, perform, atEnd, Use, start, Independent}
 use Rattle.model.proofs.Exact.{check-exact}
@@ -24,6 +25,7 @@ use Rattle.model.proofs.Grouping.{Grouped, grouped, none-left}
 use Rattle.model.proofs.Writing.{ChangesOnly, changes-only}
 use Rattle.model.proofs.Ports.{run-keeps-ports}
 use Rattle.model.proofs.Widths.{accepted-within, list-within}
+use Rattle.model.proofs.Signed.{RoundedDown, RoundedTowardZero, shift-rounds-down, division-rounds-toward-zero, lowest-divided, zero-divisor}
 
 -- Demand 2, for check: an image is accepted, with number 0, place 0 and count 0, exactly when it keeps the rules.
 pub accepted-exactly : (image : List ℕ) → (numbersOf (check image) ≡ record { number = 0; place = 0; count = 0 }) ↔ Keeps image
@@ -88,3 +90,20 @@ within-widths = accepted-within
 pub lists-within-widths : (image : List ℕ) → verdict image ≡ Accepted 0 → (level : ℕ) (u : Use (designOf image)) (calls : List Call)
     → WithinWidths (designOf image) (atEnd image (start image level u) calls .registers)
 lists-within-widths = list-within
+
+-- 02, E3, "arithmetic right shift": the integer of the result is the part's, divided by 2 to the power of the count and rounded down.
+pub shifts-round-down : (x y : ℕ) → x < 2 ^ 32 → RoundedDown (signedValue x) (2 ^ shiftCount y) (signedValue (shiftedRight x y))
+shifts-round-down = shift-rounds-down
+
+-- 02, E3, "Division rounds toward zero", for all but the two pairs that 02 names: the lowest value by minus one, and a zero divisor.
+pub divisions-round-toward-zero : (x y : ℕ) → x < 2 ^ 32 → y < 2 ^ 32 → (x ≡ 2 ^ 31 → y ≡ 2 ^ 32 - 1 → ⊥) → (y ≡ 0 → ⊥)
+    → RoundedTowardZero (signedValue x) (signedValue y) (signedValue (dividedSigned x y))
+divisions-round-toward-zero = division-rounds-toward-zero
+
+-- "the lowest value divided by minus one gives the lowest value again"
+pub lowest-by-minus-one : dividedSigned (2 ^ 31) (2 ^ 32 - 1) ≡ 2 ^ 31
+lowest-by-minus-one = lowest-divided
+
+-- "a zero divisor gives 0"
+pub none-by-zero : (x : ℕ) → dividedSigned x 0 ≡ 0
+none-by-zero = zero-divisor

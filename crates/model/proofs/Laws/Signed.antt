@@ -39,7 +39,7 @@ word-negated zero l = refl
 word-negated (suc n) l = word-negsuc n (omega arith) ∙ omega arith
 
 -- a number of either half
-halves : (x : ℕ) → (x < 2 ^ 31) ⊎ (2 ^ 31 ≤ x)
+pub halves : (x : ℕ) → (x < 2 ^ 31) ⊎ (2 ^ 31 ≤ x)
 halves x = elim (decide (ltb x (2 ^ 31))) [ inl h ↦ inl (ltb-true x (2 ^ 31) h) | inr h ↦ inr (ltb-false x (2 ^ 31) h) ]
 
 -- A number's integer has its 32 bits, and an integer from -2^31 to 2^31 - 1 is that of its 32 bits.
@@ -128,7 +128,7 @@ module _ (x y : ℕ) (other : y ≡ 0 → ⊥) (u : x < 2 ^ 32) (v : y < 2 ^ 32)
       let most = magnitude-most x u in
       omega arith
 
-  divided : dividedSigned x y ≡ wordOf (quotZ (signedValue x) (signedValue y))
+  pub divided : dividedSigned x y ≡ wordOf (quotZ (signedValue x) (signedValue y))
   unfolding dividedSigned
   divided = rw (ne-eqb y 0 other)
 
