@@ -107,9 +107,9 @@ shows-operation = unfold checks in refl
 -- 02, E3: "Each takes two parts", of the kinds 9 to 11
 shows-signed-operation
     : map
-    (λ (x : List ℕ). judged (ofOperation x))
-    (node 9 1 0 1 0 ∷ node 9 0 2 1 0 ∷ node 10 0 0 2 0 ∷ node 10 0 0 1 1 ∷ node 11 255 0 1 0 ∷ node 11 0 2 1 0 ∷ node 11 0 0 2 0 ∷ node 11 0 0 1 256 ∷ [])
-    ≡ replicate 8 (refused 5 1026)
+    (λ (kind : ℕ). map (λ (x : List ℕ). judged (ofOperation x)) (node kind 1 0 1 0 ∷ node kind 0 2 1 0 ∷ node kind 0 0 2 0 ∷ node kind 0 0 1 1 ∷ []))
+    (9 ∷ 10 ∷ 11 ∷ [])
+    ≡ replicate 3 (replicate 4 (refused 5 1026))
 shows-signed-operation = unfold checks in refl
 
 -- "Kinds 2 to 8", and since E3 9 to 11, with the higher part first; "refusal 5 starts at kind 12"
@@ -141,9 +141,9 @@ shows-kinds = unfold checks in refl
 shows-lowest-node
     : map
     judged
-    (oneState (1 ∷ []) [] 3 (goesTo 1 ∷ node 6 0 0 0 0 ∷ branches 0 1 2 ∷ []) (node 9 0 0 0 0 ∷ [])
+    (oneState (1 ∷ []) [] 3 (goesTo 1 ∷ node 6 0 0 0 0 ∷ branches 0 1 2 ∷ []) (node 12 0 0 0 0 ∷ [])
     ∷ oneState (1 ∷ []) [] 1 (node 6 0 0 0 0 ∷ node 6 0 0 0 0 ∷ []) []
-    ∷ oneState (1 ∷ []) one 3 (assigns 0 2 ∷ goesTo 1 ∷ sequences 1 2 ∷ []) (node 9 0 0 0 0 ∷ node 9 0 0 0 0 ∷ adds 0 1 ∷ [])
+    ∷ oneState (1 ∷ []) one 3 (assigns 0 2 ∷ goesTo 1 ∷ sequences 1 2 ∷ []) (node 12 0 0 0 0 ∷ node 12 0 0 0 0 ∷ adds 0 1 ∷ [])
     ∷ [])
     ≡ refused 5 2 ∷ refused 5 1 ∷ refused 5 1024 ∷ []
 shows-lowest-node = unfold checks in refl
