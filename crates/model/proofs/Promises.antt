@@ -14,6 +14,7 @@ use Rattle.model.specs.Rules.{Keeps}
 use Rattle.model.specs.Ports.{PortsKept}
 use Rattle.model.specs.Calls.{Lent, check, registersLength, targetsLength, writePort, run}
 use Rattle.model.specs.Refusals.{AllKept, FirstBroken, imageTable, callTable, callCount, AnswersBy, WithinWidths}
+use Rattle.model.specs.Rounding.{RoundedDown, RoundedTowardZero}
 use Rattle.model.specs.Signed.{signedValue, shiftCount, shiftedRight, dividedSigned}
 use Rattle.model.specs.Verdict.{verdict}
 use Rattle.model.specs.Parties.{Call, perform, atEnd, Use, start, Independent}
@@ -25,7 +26,7 @@ use Rattle.model.proofs.Grouping.{Grouped, grouped, none-left}
 use Rattle.model.proofs.Writing.{ChangesOnly, changes-only}
 use Rattle.model.proofs.Ports.{run-keeps-ports}
 use Rattle.model.proofs.Widths.{accepted-within, list-within}
-use Rattle.model.proofs.Signed.{RoundedDown, RoundedTowardZero, shift-rounds-down, division-rounds-toward-zero, lowest-divided, zero-divisor}
+use Rattle.model.proofs.Signed.{shift-rounds-down, division-rounds-toward-zero, lowest-divided, zero-divisor}
 
 -- Demand 2, for check: an image is accepted, with number 0, place 0 and count 0, exactly when it keeps the rules.
 pub accepted-exactly : (image : List ℕ) → (numbersOf (check image) ≡ record { number = 0; place = 0; count = 0 }) ↔ Keeps image

@@ -11,20 +11,10 @@ use lib.Dec.{ltb, eqb, le→leb, lt→ltb}
 use lib.Pow.{pow-pos}
 use lib.IntN.{ℤ, pos, negsuc, negℤ, natAbs, _+ℤ_, _*ℤ_}
 use lib.Signed.{mag, nonNeg, quotZ, shrZ, mag-shr, _≤ℤ_, _<ℤ_, leZ-yes, ltZ-yes}
+use Rattle.model.specs.Rounding.{RoundedDown, RoundedTowardZero}
 use Rattle.model.specs.Signed.{signedValue, wordOf, shiftCount, shiftedRight, dividedSigned}
 use Rattle.model.proofs.Laws.Booleans.{decide, true-or-false}
 use Rattle.model.proofs.Laws.Signed.{halves, signed-low, signed-high, signed-of-word, magnitude-some, divided-by-zero, divided}
-
--- q is z divided by m and rounded down: q times m is the last multiple that is not above z
-pub record RoundedDown (z : ℤ) (m : ℕ) (q : ℤ) : Type 0 where
-  pub not-above : (q *ℤ pos m) ≤ℤ z
-  pub next-above : z <ℤ (q *ℤ pos m +ℤ pos m)
-
--- q is z divided by d and rounded toward zero: rounded down by the magnitudes, and where it is not 0, not negative exactly if the two signs are the same
-pub record RoundedTowardZero (z d q : ℤ) : Type 0 where
-  pub not-above : natAbs q * natAbs d ≤ natAbs z
-  pub next-above : natAbs z < natAbs q * natAbs d + natAbs d
-  pub sign : (q ≡ pos 0 → ⊥) → (nonNeg q ≡ true) ↔ (nonNeg z ≡ nonNeg d)
 
 -- ---- shift
 module _ (a m : ℕ) (some : 0 < m) where

@@ -1,5 +1,5 @@
 -- All that a reader has to believe, in the order of document 01, as document 02 changes it. Every definition here computes, but for
--- the propositions of `Rules`, `Standing` and `Refusals`, and what is promised of ports (`Ports`) and of
+-- the propositions of `Rules`, `Standing` and `Refusals`, and what is promised of ports (`Ports`), of rounding (`Rounding`) and of
 -- parties (`Parties`, demand 3).
 -- 'The image'
 pub mod Limits
@@ -16,6 +16,7 @@ pub mod Ports
 pub mod Flow
 -- 'A cycle'
 pub mod Signed
+pub mod Rounding
 pub mod Values
 pub mod Machine
 -- 'What a party sees'
