@@ -6,7 +6,7 @@ use mathlib.Core.Bool.{Bool, true, false, not, _&&_, _||_}
 use mathlib.Core.List.{List}
 use native.Mathlib.Omega.{arith}
 use lib.Dec.{eqb, leb, ltb}
-use lib.ListN.{length, getD, set, replicate, length-replicate}
+use lib.ListN.{length, getD, set}
 use borrow.Author.Tests.{eq-eqb, ne-eqb, eqb-true, ltb-true, lt-ltb, le-ltb}
 use mir.Syntax.{w8, w64}
 use mir.Val.{Fits}
@@ -36,11 +36,10 @@ use Rattle.design.specs.Records.{registerIn, registerEnd}
 use Rattle.design.specs.Describes.{Describes}
 use Rattle.design.specs.Kept.{StatesKept, RecordsKept}
 use Rattle.design.specs.Words.{putWord}
-use Rattle.design.specs.Resets.{Defaults, withDefaults, lends}
+use Rattle.design.specs.Resets.{Defaults, lends}
 use Rattle.design.proofs.Laws.{registers-count, states-count, register-inside, register-in}
 use Rattle.design.proofs.WordRules.{words-at, words-put, length-put}
 use Rattle.design.proofs.WidthRules.{width-is}
-use Rattle.design.proofs.ResetRules.{states-few, defaults-of}
 use Rattle.machine.specs.Cycles.{Running, areasIn}
 use Rattle.checker.proofs.Accepted.{accepted-known}
 use Rattle.calls.specs.Stages.{leftAs, leftRegistersAs, resetOn, writePortOn, runOn}
@@ -218,9 +217,6 @@ module _ {image : List ℕ} {x : Design} (known : RecordsKept image x) (r : ℕ)
 
 -- ---- run
 -- a fresh table that default targets were written to
-pub fresh-defaults : {image table : List ℕ} {x : Design} → Describes image x → table ≡ withDefaults (designOf image) (replicate {A = ℕ} 64 0) → Defaults (designOf image) table
-fresh-defaults d e = let few = states-few d in let long = length-replicate {A = ℕ} 64 0 in defaults-of (replicate {A = ℕ} 64 0) d (omega arith) e
-
 pub run-refuses : (d : Table) (registers targets : List ℕ) (n : ℕ) → lengthAnswer d (lends registers targets) ≡ Refused Area 0 → leftAs (Refused Area 0) registers targets ≡ runOn d (lends registers targets) n
 unfolding runOn _before_
 run-refuses d registers targets n h = rw h

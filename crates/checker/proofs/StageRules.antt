@@ -31,8 +31,10 @@ use Rattle.checker_nodes.specs.Tables.{commandOf, countUses, CommandsPassed, Ex
 use Rattle.checker_nodes.proofs.CountRules.{count-append}
 use Rattle.checker_nodes.proofs.UseRules.{command-uses-told, expression-uses-told}
 use Rattle.checker_nodes.proofs.DepthRules.{command-depths-told, expression-depths-told}
-use Rattle.checker_bodies.specs.Shapes.{ShapeKnown}
-use Rattle.checker.specs.Stages.{fromChildren, fromPorts, fromShape, fromDepths, fromUses, fromNodes, fromStates, fromRegisters, fromLabels}
+use Rattle.design.specs.Resets.{withDefaults}
+use Rattle.design.proofs.ResetRules.{fresh-defaults}
+use Rattle.checker_bodies.specs.Shapes.{ShapeKnown, ShapesPassed}
+use Rattle.checker.specs.Stages.{ChildrenTold, fromChildren, fromPorts, fromShape, fromDepths, fromUses, fromNodes, fromStates, fromRegisters, fromLabels}
 
 -- ---- a pass, and all that follow
 pub stage-refuses : (r : Refusal) (g : Found) (rest : Answer) {f : Found} {p : ℕ} → f ≡ g → f ≡ At p → Refused r p ≡ (refusedAt r g before rest)
@@ -136,6 +138,10 @@ nodes-told {image} h passed describes =
 -- what the pass of refusal 8 asks, of what is known
 pub shape-known : {image : List ℕ} {x : Design} → RecordsKept image x → ShapeKnown image x
 shape-known known = record { describes = known .describes; states = known .states; commands = known .commands }
+
+-- what is told for refusal 9
+pub children-told : {image defaults falls : List ℕ} {x : Design} {f : Found} → f ≡ Nowhere → ShapesPassed (designOf image) f falls → RecordsKept image x → defaults ≡ withDefaults (designOf image) (replicate {A = ℕ} 64 0) → ChildrenTold (designOf image) defaults falls
+children-told h passed known e = record { targets = fresh-defaults (known .describes) e; held = passed .falls }
 
 -- ---- the whole
 pub directory-refuses : (image : List ℕ) {b : Bool} → b ≡ directoryKept image → not b ≡ true → Refused Directory 0 ≡ verdict image

@@ -1,17 +1,27 @@
 -- The verdict from each pass on, in the order of the table: each is the pass's refusal, if it has one, before all that follow.
+use Prim.Native.Nat.{ℕ}
+use mathlib.Core.List.{List}
 use lib.ListN.{length}
 use Rattle.model.specs.declared.Refusal.the-variants.{LabelRow, RegisterRecord, StateRecord, NodeRecord, NodeUse, Depth, Shape, ChildLabel, PortAssigned}
 use Rattle.model.specs.declared.Answer.{Answer}
 use Rattle.model.specs.Indices.{lowestFailing}
 use Rattle.model.specs.Image.{Design}
 use Rattle.model.specs.Lattice.{labelKept}
-use Rattle.model.specs.States.{registerKept, stateKept, childLabelKept}
+use Rattle.model.specs.States.{registerKept, stateKept}
 use Rattle.model.specs.Kinds.{commandKept, expressionKept}
 use Rattle.model.specs.Nodes.{commandUsedOnce, expressionUsedOnce, commandDepthKept, expressionDepthKept}
 use Rattle.model.specs.Shape.{shapeFault}
 use Rattle.model.specs.Ports.{namesNoPort}
+use Rattle.model.specs.Falls.{childLabelKept}
 use Rattle.model.specs.Flow.{flowAnswer}
 use Rattle.model.specs.Verdict.{_before_, refusedAt, lowestNode}
+use Rattle.design.specs.Resets.{Defaults}
+use Rattle.design.specs.Falls.{FallsTold}
+
+-- the tables that refusal 9 reads: the default target of each state, and which states hold a fall
+pub record ChildrenTold (d : Design) (defaults falls : List ℕ) : Type 0 where
+  pub targets : Defaults d defaults
+  pub held : FallsTold d falls
 
 unfoldable pub fromChildren : Design → Answer
 fromChildren d = refusedAt ChildLabel (lowestFailing (childLabelKept d) (length (d .states))) before flowAnswer d

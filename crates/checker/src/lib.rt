@@ -15,7 +15,7 @@ ghost use Rattle.model.specs.Verdict.{commandsFirst, lowestNode, verdict as ver
 ghost use Rattle.design.specs.Describes.{Describes};
 ghost use Rattle.design.specs.Kept.{RegistersKept, StatesKept, RecordsKept};
 ghost use Rattle.checker_nodes.specs.Tables.{NodesPassed, OnceWhere, ShallowWhere, NodesTold};
-ghost use Rattle.checker.specs.Stages.{fromChildren, fromPorts, fromShape, fromDepths, fromUses, fromNodes, fromStates, fromRegisters, fromLabels};
+ghost use Rattle.checker.specs.Stages.{ChildrenTold, fromChildren, fromPorts, fromShape, fromDepths, fromUses, fromNodes, fromStates, fromRegisters, fromLabels};
 
 // A command's number, else an expression's place.
 fn commands_first(command: Found, expression: Found) -> Found
@@ -91,11 +91,11 @@ fn node_depths(image: &[u8], design: Design, commands: &[u8], expressions: &[u8]
 }
 
 // Refusal 9, and on.
-fn from_children(image: &[u8], design: Design) -> Answer
-    requires { ⌜ RecordsKept (now image) design ⌝ }
+fn from_children(image: &[u8], design: Design, defaults: &[u8], falls: &[u8]) -> Answer
+    requires { ⌜ RecordsKept (now image) design × ChildrenTold (designOf (now image)) (now defaults) (now falls) ⌝ }
     ensures { λ a. ⌜ a ≡ fromChildren (designOf (now (image .entry))) ⌝ }
 {
-    let found = checker_records::states::child_labels(image, design);
+    let found = checker_records::states::child_labels(image, design, defaults, falls);
     match found {
         Found::At(place) => Answer::Refused(Refusal::ChildLabel, place),
         Found::Nowhere => checker_bodies::flow::faults(image, design),
@@ -103,26 +103,29 @@ fn from_children(image: &[u8], design: Design) -> Answer
 }
 
 // Refusal 16, and on.
-fn from_ports(image: &[u8], design: Design) -> Answer
-    requires { ⌜ RecordsKept (now image) design ⌝ }
+fn from_ports(image: &[u8], design: Design, defaults: &[u8], falls: &[u8]) -> Answer
+    requires { ⌜ RecordsKept (now image) design × ChildrenTold (designOf (now image)) (now defaults) (now falls) ⌝ }
     ensures { λ a. ⌜ a ≡ fromPorts (designOf (now (image .entry))) ⌝ }
 {
     let found = checker_nodes::ports::ports_named(image, design);
     match found {
         Found::At(place) => Answer::Refused(Refusal::PortAssigned, place),
-        Found::Nowhere => from_children(image, design),
+        Found::Nowhere => from_children(image, design, defaults, falls),
     }
 }
 
-// Refusal 8, and on.
+// Refusal 8, and on. Which states hold a fall, and their default children, are kept for refusal 9.
 fn from_shape(image: &[u8], design: Design) -> Answer
     requires { ⌜ RecordsKept (now image) design ⌝ }
     ensures { λ a. ⌜ a ≡ fromShape (designOf (now (image .entry))) ⌝ }
 {
-    let found = checker_bodies::shape::shapes(image, design);
+    let mut defaults = [0u8; Design::STATES];
+    design::reset::default_targets(image, design, &mut defaults);
+    let mut falls = [0u8; Design::STATES];
+    let found = checker_bodies::shape::shapes(image, design, &defaults, &mut falls);
     match found {
         Found::At(place) => Answer::Refused(Refusal::Shape, place),
-        Found::Nowhere => from_ports(image, design),
+        Found::Nowhere => from_ports(image, design, &defaults, &falls),
     }
 }
 

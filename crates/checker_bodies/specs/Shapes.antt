@@ -1,68 +1,84 @@
 -- What the pass for refusal 8 knows and finds at a command.
 use Prim.Native.Nat.{ℕ, min, _+_, _*_, _/_, _%_, _<_}
 use mathlib.Core.Path.{_≡_}
-use mathlib.Core.Bool.{Bool, true, cond, _&&_, not, Bool·beq}
+use mathlib.Core.Bool.{Bool, true, _&&_, _||_, not, Bool·beq}
 use mathlib.Core.List.{List}
 use lib.Dec.{eqb}
+use lib.ListN.{length}
 use Rattle.model.specs.declared.Found.{Found}
 use Rattle.model.specs.Indices.{lower, lowestOf}
 use Rattle.model.specs.Limits.{commandsMax}
 use Rattle.model.specs.Image.{designOf, Design as Table}
 use Rattle.model.specs.States.{hasChild}
-use Rattle.model.specs.Trees.{Cmd}
-use Rattle.model.specs.Shape.{transfers, chargedUnless, shapeFaults}
+use Rattle.model.specs.Trees.{Cmd, bodyOf}
+use Rattle.model.specs.Values.{oneOrZero}
+use Rattle.model.specs.Shape.{transfers, chargedUnless, shapeFaults, stateShapeFaults, shapeFault}
+use Rattle.model.specs.Falls.{holdsFall}
 use Rattle.design.specs.declared.Design.{Design}
 use Rattle.design.specs.Describes.{Describes}
+use Rattle.design.specs.Falls.{FallsTold}
 use Rattle.design.specs.Kept.{StatesKept, CommandsKept}
 use Rattle.design.specs.RecordsAt.{StateAt, CommandAt}
 use Rattle.checker_bodies.specs.Places.{placeUnless, foundAmong}
 
--- what a command's shape comes to: whether it transfers, and the lowest node that breaks a rule
+-- what a command's shape comes to: whether it transfers, whether it holds a fall, and the lowest node that breaks a rule
 pub record Judged : Type 0 where
   pub transfers : Bool
+  pub falls : Bool
   pub lowest : Found
 
 unfoldable pub judgedOf : Table → ℕ → Cmd → Judged
-judgedOf d s c = record { transfers = transfers c; lowest = lowestOf (shapeFaults d s c) }
+judgedOf d s c = record { transfers = transfers c; falls = holdsFall c; lowest = lowestOf (shapeFaults d s c) }
 
 -- what a sequence comes to, and an if, from their parts
 unfoldable pub sequencedOf : ℕ → Judged → Judged → Judged
-sequencedOf n p q = record { transfers = q .transfers; lowest = lower (lowestOf (chargedUnless (not (p .transfers)) n)) (lower (p .lowest) (q .lowest)) }
+sequencedOf n p q =
+    record {
+      transfers = q .transfers;
+      falls = p .falls || q .falls;
+      lowest = lower (lowestOf (chargedUnless (not (p .transfers)) n)) (lower (p .lowest) (q .lowest));
+    }
 
 unfoldable pub branchedOf : ℕ → Judged → Judged → Judged
 branchedOf n p q =
     record {
       transfers = p .transfers && q .transfers;
+      falls = p .falls || q .falls;
       lowest = lower (lowestOf (chargedUnless (Bool·beq (p .transfers) (q .transfers)) n)) (lower (p .lowest) (q .lowest));
     }
 
--- the same as one number, as the code carries it: twice the lowest place, and one more where the command transfers
-abbrev pub judgementOf : Bool → ℕ → ℕ
-judgementOf transfers place = cond transfers (2 * place + 1) (2 * place)
+-- the same as one number, as the code carries it: four times the lowest place, two more where the command holds a fall, and one more where it transfers
+abbrev pub judgementOf : Bool → Bool → ℕ → ℕ
+judgementOf transfers falls place = 4 * place + 2 * oneOrZero falls + oneOrZero transfers
+
+-- what a number says of falls
+abbrev pub fallsIn : ℕ → Bool
+fallsIn r = eqb (r / 2 % 2) 1
 
 -- what a number says, among so many commands
 unfoldable pub judgedAmong : ℕ → ℕ → Judged
-judgedAmong commands r = record { transfers = eqb (r % 2) 1; lowest = foundAmong commands (r / 2) }
+judgedAmong commands r = record { transfers = eqb (r % 2) 1; falls = fallsIn r; lowest = foundAmong commands (r / 4) }
 
--- the greatest such number: no place, and one more
+-- the greatest such number: no place, and three more
 abbrev pub judgementMost : ℕ
-judgementMost = judgementOf true commandsMax
+judgementMost = judgementOf true true commandsMax
 
 -- the numbers of a sequence and of an if, from those of their parts
 abbrev pub sequencedAs : ℕ → ℕ → ℕ → ℕ
-sequencedAs n p q = judgementOf (eqb (q % 2) 1) (min (placeUnless (not (eqb (p % 2) 1)) n) (min (p / 2) (q / 2)))
+sequencedAs n p q = judgementOf (eqb (q % 2) 1) (fallsIn p || fallsIn q) (min (placeUnless (not (eqb (p % 2) 1)) n) (min (p / 4) (q / 4)))
 
 abbrev pub branchedAs : ℕ → ℕ → ℕ → ℕ
-branchedAs n p q = judgementOf (eqb (p % 2) 1 && eqb (q % 2) 1) (min (placeUnless (Bool·beq (eqb (p % 2) 1) (eqb (q % 2) 1)) n) (min (p / 2) (q / 2)))
+branchedAs n p q =
+    judgementOf (eqb (p % 2) 1 && eqb (q % 2) 1) (fallsIn p || fallsIn q) (min (placeUnless (Bool·beq (eqb (p % 2) 1) (eqb (q % 2) 1)) n) (min (p / 4) (q / 4)))
 
 -- what is known where command n of state s is judged; the recursion has the places of a design instead of the design
-pub record Judging (image : List ℕ) (statesAt commandsAt s n : ℕ) (falls : Bool) : Type 0 where
+pub record Judging (image : List ℕ) (statesAt commandsAt s n : ℕ) (child : Bool) : Type 0 where
   pub design : Design
   pub describes : Describes image design
   pub commands : CommandsKept (designOf image)
   pub state : s < design .states
   pub command : CommandAt image design commandsAt n
-  pub children : falls ≡ hasChild (designOf image) s
+  pub children : child ≡ hasChild (designOf image) s
   pub states-begin : statesAt ≡ design .«states_at»
 
 -- and where a command of state s goes to state t
@@ -76,3 +92,13 @@ pub record ShapeKnown (image : List ℕ) (x : Design) : Type 0 where
   pub describes : Describes image x
   pub states : StatesKept (designOf image)
   pub commands : CommandsKept (designOf image)
+
+-- what the number of a state's body says
+pub record StateShaped (d : Table) (s r : ℕ) : Type 0 where
+  pub lowest : foundAmong (length (d .commands)) (r / 4) ≡ lowestOf (stateShapeFaults d s)
+  pub falls : fallsIn r ≡ holdsFall (bodyOf d s)
+
+-- what the pass found, and the table that it filled
+pub record ShapesPassed (d : Table) (found : Found) (table : List ℕ) : Type 0 where
+  pub is : found ≡ shapeFault d
+  pub falls : FallsTold d table

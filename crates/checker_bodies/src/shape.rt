@@ -1,36 +1,41 @@
 // Refusal 8: the shape of commands, by recursion over their parts. What a command's shape comes to
-// is one number, which the recursion hands back in a register of the processor: twice the lowest
-// place that breaks a rule, and one more where the command transfers.
+// is one number, which the recursion hands back in a register of the processor: four times the lowest
+// place that breaks a rule, two more where the command holds a fall, and one more where it transfers.
+// Which states hold a fall is told for refusal 9.
 use crate::places::NOWHERE;
 use crate::places::charged_unless;
 use crate::places::found;
 use crate::places::lower;
 use design::Design;
-use design::states::is_child;
 use model::Found;
 ghost use Prim.Native.Nat.{_/_, _%_, _≤_, _<_};
 ghost use mathlib.Core.Path.{_≡_};
+ghost use mathlib.Core.Bool.{not};
 ghost use lib.Dec.{eqb};
-ghost use lib.ListN.{length};
-ghost use Rattle.model.specs.Indices.{lowestOf};
+ghost use lib.ListN.{length, getD};
 ghost use Rattle.model.specs.Limits.{commandsMax};
 ghost use Rattle.model.specs.Image.{designOf};
 ghost use Rattle.model.specs.Trees.{cmdOf};
-ghost use Rattle.model.specs.States.{isChild, hasChild, siblingOrSelf};
-ghost use Rattle.model.specs.Shape.{stateShapeFaults, shapeFault};
-ghost use Rattle.design.specs.Describes.{Describes};
-ghost use Rattle.checker_bodies.specs.Places.{foundAmong};
-ghost use Rattle.checker_bodies.specs.Shapes.{judgementOf, judgementMost, judgedAmong, sequencedAs, branchedAs, judgedOf, Going, Judging, ShapeKnown};
+ghost use Rattle.model.specs.States.{siblingOrSelf};
+ghost use Rattle.model.specs.Values.{oneOrZero};
+ghost use Rattle.design.specs.Resets.{Defaults};
+ghost use Rattle.checker_bodies.specs.Shapes.{judgementOf, judgementMost, judgedAmong, sequencedAs, branchedAs, judgedOf, Going, Judging, ShapeKnown, StateShaped, ShapesPassed};
+
+// 1 where something holds, and 0 where it does not.
+fn mark(holds: bool) -> u8
+    ensures { λ r. ⌜ r ≡ oneOrZero holds ⌝ }
+{
+    if holds { 1 } else { 0 }
+}
 
 // What a shape comes to, as a number.
-fn judgement(transfers: bool, lowest: usize) -> usize
+fn judgement(transfers: bool, falls: bool, lowest: usize) -> usize
     requires { ⌜ lowest ≤ commandsMax ⌝ }
-    ensures { λ r. ⌜ r ≡ judgementOf transfers lowest ⌝ }
+    ensures { λ r. ⌜ r ≡ judgementOf transfers falls lowest ⌝ }
 {
-    if transfers {
-        return 2 * lowest + 1;
-    }
-    2 * lowest
+    let first = mark(transfers) as usize;
+    let second = mark(falls) as usize;
+    4 * lowest + 2 * second + first
 }
 
 // Whether the command transfers.
@@ -40,11 +45,18 @@ fn transfers(judged: usize) -> bool
     judged % 2 == 1
 }
 
+// Whether the command holds a fall.
+fn holds_fall(judged: usize) -> bool
+    ensures { λ r. ⌜ r ≡ eqb (judged / 2 % 2) 1 ⌝ }
+{
+    judged / 2 % 2 == 1
+}
+
 // The lowest place that breaks a rule.
 fn lowest(judged: usize) -> usize
-    ensures { λ r. ⌜ r ≡ judged / 2 ⌝ }
+    ensures { λ r. ⌜ r ≡ judged / 4 ⌝ }
 {
-    judged / 2
+    judged / 4
 }
 
 // State t is s or a sibling of s; the states begin at a place.
@@ -62,7 +74,8 @@ fn sequenced(n: usize, p: usize, q: usize) -> usize
 {
     let parts = lower(lowest(p), lowest(q));
     let own = charged_unless(!transfers(p), n);
-    judgement(transfers(q), lower(own, parts))
+    let falls = holds_fall(p) | holds_fall(q);
+    judgement(transfers(q), falls, lower(own, parts))
 }
 
 // What an if comes to, from its branches.
@@ -74,20 +87,21 @@ fn branched(n: usize, p: usize, q: usize) -> usize
     let first = transfers(p);
     let second = transfers(q);
     let own = charged_unless(first == second, n);
-    judgement(first & second, lower(own, parts))
+    let falls = holds_fall(p) | holds_fall(q);
+    judgement(first & second, falls, lower(own, parts))
 }
 
-// What command n of state s comes to; falls tells whether s has a child. The places are where the
+// What command n of state s comes to; child tells whether s has one. The places are where the
 // states and the commands begin: the whole design would be copied at every call.
 fn judge(
     image: &[u8],
     states_at: usize,
     commands_at: usize,
     s: usize,
-    falls: bool,
+    child: bool,
     n: usize,
 ) -> usize
-    requires { ⌜ Judging (now image) «states_at» «commands_at» s n falls ⌝ }
+    requires { ⌜ Judging (now image) «states_at» «commands_at» s n child ⌝ }
     ensures { λ r. ⌜ (judgedAmong (length (designOf (now (image .entry)) .commands)) r ≡ judgedOf (designOf (now (image .entry))) s (cmdOf (designOf (now (image .entry))) n)) × (r ≤ judgementMost) ⌝ }
 {
     let kind = Design::kind(image, commands_at, n);
@@ -95,66 +109,61 @@ fn judge(
         2 => {
             let a = Design::part_a(image, commands_at, n);
             let b = Design::part_b(image, commands_at, n);
-            let p = judge(&*image, states_at, commands_at, s, falls, a);
-            let q = judge(&*image, states_at, commands_at, s, falls, b);
+            let p = judge(&*image, states_at, commands_at, s, child, a);
+            let q = judge(&*image, states_at, commands_at, s, child, b);
             sequenced(n, p, q)
         }
-        3 => judgement(true, charged_unless(falls, n)),
+        3 => judgement(true, true, charged_unless(child, n)),
         4 => {
             let t = Design::item(image, commands_at, n);
             let kept = sibling_or_self(image, states_at, s, t);
-            judgement(true, charged_unless(kept, n))
+            judgement(true, false, charged_unless(kept, n))
         }
         5 => {
             let b = Design::part_b(image, commands_at, n);
             let c = Design::part_c(image, commands_at, n);
-            let p = judge(&*image, states_at, commands_at, s, falls, b);
-            let q = judge(&*image, states_at, commands_at, s, falls, c);
+            let p = judge(&*image, states_at, commands_at, s, child, b);
+            let q = judge(&*image, states_at, commands_at, s, child, c);
             branched(n, p, q)
         }
-        _ => judgement(false, NOWHERE),
+        _ => judgement(false, false, NOWHERE),
     }
 }
 
-pub fn has_child(image: &[u8], design: Design, s: usize) -> bool
-    requires { ⌜ Describes (now image) design ⌝ }
-    ensures { λ r. ⌜ r ≡ hasChild (designOf (now (image .entry))) s ⌝ }
+// State s has a child: its default target is another state.
+fn has_child(defaults: &[u8], s: usize) -> bool
+    requires { ⌜ (s < length (now defaults)) × (s < 256) ⌝ }
+    ensures { λ r. ⌜ r ≡ not (eqb (getD (now (defaults .entry)) s 0) s) ⌝ }
 {
-    let mut q = 0;
-    while q < design.states {
-        if is_child(image, design, s, q) {
-            return true;
-        }
-        q += 1;
-    }
-    false
+    defaults[s] != s as u8
 }
 
-// The lowest place in state s that breaks a shape rule; a state that does not transfer is charged to
-// its command.
-fn state_shape(image: &[u8], design: Design, s: usize) -> usize
-    requires { ⌜ ShapeKnown (now image) design × (s < design .states) ⌝ }
-    ensures { λ r. ⌜ foundAmong (length (designOf (now (image .entry)) .commands)) r ≡ lowestOf (stateShapeFaults (designOf (now (image .entry))) s) ⌝ }
+// What the body of state s comes to; a state that does not transfer is charged to its command.
+fn state_shape(image: &[u8], design: Design, defaults: &[u8], s: usize) -> usize
+    requires { ⌜ ShapeKnown (now image) design × Defaults (designOf (now image)) (now defaults) × (s < design .states) ⌝ }
+    ensures { λ r. ⌜ StateShaped (designOf (now (image .entry))) s r ⌝ }
 {
     let at = design.states_at;
     let n = Design::state_command(image, at, s);
-    let falls = has_child(image, design, s);
-    let body = judge(image, at, design.commands_at, s, falls, n);
+    let child = has_child(defaults, s);
+    let body = judge(image, at, design.commands_at, s, child, n);
     let own = charged_unless(transfers(body), n);
-    lower(own, lowest(body))
+    let place = lower(own, lowest(body));
+    judgement(true, holds_fall(body), place)
 }
 
-// Refusal 8, at the lowest node.
-pub fn shapes(image: &[u8], design: Design) -> Found
-    requires { ⌜ ShapeKnown (now image) design ⌝ }
-    ensures { λ r. ⌜ r ≡ shapeFault (designOf (now (image .entry))) ⌝ }
+// Refusal 8, at the lowest node; and which states hold a fall.
+pub fn shapes(image: &[u8], design: Design, defaults: &[u8], falls: &mut [u8]) -> Found
+    requires { ⌜ ShapeKnown (now image) design × Defaults (designOf (now image)) (now defaults) × (design .states ≤ length (now falls)) ⌝ }
+    ensures { λ r. ⌜ ShapesPassed (designOf (now (image .entry))) r (now (falls .exit)) ⌝ }
 {
-    let mut lowest = NOWHERE;
+    let mut place = NOWHERE;
     let mut s = 0;
     while s < design.states {
-        let here = state_shape(image, design, s);
-        lowest = lower(lowest, here);
+        let here = state_shape(image, design, defaults, s);
+        falls[s] = mark(holds_fall(here));
+        place = lower(place, lowest(here));
         s += 1;
     }
-    found(lowest, design.commands)
+    found(place, design.commands)
 }

@@ -6,23 +6,27 @@ use mathlib.Core.List.{List}
 use native.Mathlib.Omega.{arith}
 use lib.Dec.{ltb, leb, eqb}
 use borrow.Author.Tests.{le-leb}
-use lib.ListN.{length}
+use lib.ListN.{length, getD}
 use Rattle.model.specs.Limits.{widthMax}
-use Rattle.model.specs.declared.Found.{Found}
-use Rattle.model.specs.declared.Found.the-variants.{Nowhere}
-use Rattle.model.specs.Indices.{lowestFailing}
 use Rattle.model.specs.Image as Image
 use Rattle.model.specs.Image.{Register, State, designOf, registerAt}
 use Rattle.model.specs.Lattice.{flowsTo, stateLabel}
-use Rattle.model.specs.States.{widthKept, registerKept, parent, parentKept, stateKept, childLabelKept}
-use Rattle.model.specs.Rules.{StateKeeps}
-use Rattle.model.proofs.Laws.Indices.{failing-none}
-use Rattle.model.proofs.Laws.Booleans.{false-unless-true}
+use Rattle.model.specs.States.{widthKept, registerKept, parent, parentKept, stateKept, defaultTarget}
+use Rattle.model.specs.Trees.{bodyOf}
+use Rattle.model.specs.Values.{oneOrZero}
+use Rattle.model.specs.Falls.{holdsFall, isFallenInto, childLabelKept}
+use Rattle.model.proofs.Laws.Booleans.{false-unless-true, true-or-false}
+use Rattle.model.proofs.Laws.States.{child-of, is-child}
+use Rattle.model.proofs.Exact.Falls.{holds-iff, fallen-iff}
 use Rattle.model.proofs.Exact.Records.{register-iff, state-iff}
 use Rattle.design.specs.declared.Design.{Design}
 use Rattle.design.specs.Records.{registerIn, stateIn, stateEnd}
 use Rattle.design.specs.Describes.{Describes}
+use Rattle.design.specs.Kept.{StatesKept}
+use Rattle.design.specs.Resets.{Defaults}
+use Rattle.design.specs.Falls.{FallsTold}
 use Rattle.design.proofs.Laws.{labels-count, states-count, commands-count, register-in, state-in, state-inside}
+use Rattle.design.proofs.ResetRules.{state-fits, parent-is, parent-inside}
 use Rattle.checker_records.proofs.LatticeRules.{label-small}
 
 -- ---- rules of a state that ask whether it is the root
@@ -36,20 +40,34 @@ unfolding parentKept
 child-is y zero n p = absurd (n refl)
 child-is y (suc s) n p = rw p
 
-pub root-child : (y : Image.Design) (s : ℕ) → s ≡ 0 → true ≡ childLabelKept y s
-unfolding childLabelKept
-root-child y zero z = refl
-root-child y (suc s) z = absurd (omega arith)
+-- the rule for a default child looks at none but those: the root is nobody's child, and the others are not fallen into
+module _ (y : Image.Design) (s : ℕ) where
+  passed-over : (isFallenInto y s ≡ true → ⊥) → true ≡ childLabelKept y s
+  unfolding childLabelKept
+  passed-over h = rw (false-unless-true (isFallenInto y s) h)
 
-child-label-is : (y : Image.Design) (s : ℕ) {b : Bool} → (s ≡ 0 → ⊥) → b ≡ flowsTo (y .rows) (stateLabel y (parent y s)) (stateLabel y s) → b ≡ childLabelKept y s
-unfolding childLabelKept
-child-label-is y zero n e = absurd (n refl)
-child-label-is y (suc s) n e = e
+  pub root-child : s ≡ 0 → true ≡ childLabelKept y s
+  root-child z = passed-over (λ e. child-of y (parent y s) s (fallen-iff y s .0 e .0) .no-root z)
 
--- what `child_labels` requires, from a pass over the states that found nothing
-pub states-kept : (image : List ℕ) {f : Found} → f ≡ lowestFailing (stateKept (designOf image)) (length (designOf image .states)) → f ≡ Nowhere
-    → (k : ℕ) → k < length (designOf image .states) → stateKept (designOf image) k ≡ true
-states-kept image e h = failing-none (stateKept (designOf image)) (length (designOf image .states)) (sym e ∙ h)
+  no-fall-above : holdsFall (bodyOf y (parent y s)) ≡ false → true ≡ childLabelKept y s
+  no-fall-above h = passed-over (λ e. true-or-false (holdsFall (bodyOf y (parent y s))) (holds-iff .1 (fallen-iff y s .0 e .2)) h)
+
+  other-default : (defaultTarget y (parent y s) ≡ s → ⊥) → true ≡ childLabelKept y s
+  other-default h = passed-over (λ e. h (fallen-iff y s .0 e .1))
+
+  child-label-is : {b : Bool} → (s ≡ 0 → ⊥) → s < length (y .states) → holdsFall (bodyOf y (parent y s)) ≡ true → defaultTarget y (parent y s) ≡ s → b ≡ flowsTo (y .rows) (stateLabel y (parent y s)) (stateLabel y s) → b ≡ childLabelKept y s
+  unfolding childLabelKept
+  child-label-is n l h e b =
+      rw (fallen-iff y s .1 (is-child y (parent y s) s (record { no-root = n; state = l; parent-is = refl }), e, holds-iff .0 h)) b
+
+-- what a mark says
+not-held : {b : Bool} → oneOrZero b ≡ 0 → b ≡ false
+not-held {b = true} z = absurd (omega arith)
+not-held {b = false} z = refl
+
+held-some : {b : Bool} → (oneOrZero b ≡ 0 → ⊥) → b ≡ true
+held-some {b = true} n = refl
+held-some {b = false} n = absurd (n refl)
 
 module _ {image : List ℕ} {x : Design} (d : Describes image x) where
   -- ---- registers: a width below its range, one above it, and one within
@@ -98,45 +116,63 @@ module _ {image : List ℕ} {x : Design} (d : Describes image x) where
       rw (b, p ∙ ap (λ (y : State). y .label) same, q ∙ ap (λ (y : State). y .command) same, labels-count d, commands-count d)
 
   -- ---- children, where every state is kept
-  module _ (kept : (k : ℕ) → k < length (designOf image .states) → stateKept (designOf image) k ≡ true) where
-    state-keeps : {s : ℕ} → s < x .states → StateKeeps (designOf image) s
-    state-keeps {s} h = state-iff (designOf image) s .0 (kept s (omega (arith, states-count d)))
-
-    -- the parent is a state
-    parent-state : {s p : ℕ} → s < x .states → (s ≡ 0 → ⊥) → p ≡ stateIn image (x .«states_at») s .parent → p < x .states
-    parent-state {s} h n p =
-        let low = state-keeps h .parent-below n in
-        let same = p ∙ ap (λ (y : State). y .parent) (state-in d h) in
-        omega arith
-
-    pub parent-inside : {s p : ℕ} → s < x .states → (s ≡ 0 → ⊥) → p ≡ stateIn image (x .«states_at») s .parent
-        → stateEnd (x .«states_at») p ≤ length image
-    parent-inside h n p = state-inside d (parent-state h n p)
-
+  module _ (kept : StatesKept (designOf image)) where
     -- the label of a state is a label
     state-labelled : {s l : ℕ} → s < x .states → l ≡ stateIn image (x .«states_at») s .label → l < x .labels
     state-labelled {s} h p =
-        let label = state-keeps h .label in
+        let label = state-iff (designOf image) s .0 (kept .kept s (omega (arith, states-count d))) .label in
         let same = p ∙ ap (λ (y : State). y .label) (state-in d h) in
         omega (arith, labels-count d)
 
-    pub parent-labelled : {s p l : ℕ} → s < x .states → (s ≡ 0 → ⊥) → p ≡ stateIn image (x .«states_at») s .parent
-        → l ≡ stateIn image (x .«states_at») p .label → l < x .labels
-    parent-labelled h n p q = state-labelled (parent-state h n p) q
+    pub parent-record : {s p : ℕ} → s < x .states → p ≡ stateIn image (x .«states_at») s .parent → stateEnd (x .«states_at») p ≤ length image
+    parent-record h p = state-inside d (parent-inside d kept h p)
+
+    pub parent-labelled : {s p l : ℕ} → s < x .states → p ≡ stateIn image (x .«states_at») s .parent → l ≡ stateIn image (x .«states_at») p .label → l < x .labels
+    parent-labelled h p q = state-labelled (parent-inside d kept h p) q
 
     pub state-label-small : {s l : ℕ} → s < x .states → l ≡ stateIn image (x .«states_at») s .label → l < 64
     state-label-small h p = label-small d (state-labelled h p)
 
-    pub child-label-rule : {s p f t : ℕ} {b : Bool} → s < x .states → (s ≡ 0 → ⊥) → p ≡ stateIn image (x .«states_at») s .parent
-        → f ≡ stateIn image (x .«states_at») p .label → t ≡ stateIn image (x .«states_at») s .label → b ≡ flowsTo (designOf image .rows) f t
-        → b ≡ childLabelKept (designOf image) s
-    child-label-rule {s} h n p f t e =
-        let same = state-in d h in
-        let above = f ∙ ap (λ (y : State). y .label) (state-in d (parent-state h n p)) in
-        child-label-is (designOf image) s n (rw (← (t ∙ ap (λ (y : State). y .label) same), ← (p ∙ ap (λ (y : State). y .parent) same), ← above) e)
+    module _ {defaults falls : List ℕ} (told : Defaults (designOf image) defaults) (fell : FallsTold (designOf image) falls) {s p : ℕ} (h : s < x .states) (e : p ≡ stateIn image (x .«states_at») s .parent) where
+      parent-state : p < length (designOf image .states)
+      parent-state = let count = states-count d in let inside = parent-inside d kept h e in omega arith
+
+      pub fall-entry : p < length falls
+      fall-entry = let long = fell .long in let state = parent-state in omega arith
+
+      pub default-entry : p < length defaults
+      default-entry = let long = told .long in let state = parent-state in omega arith
+
+      -- the entries of the parent
+      held : getD falls p 0 ≡ oneOrZero (holdsFall (bodyOf (designOf image) (parent (designOf image) s)))
+      held = fell .entry p parent-state ∙ ap (λ (q : ℕ). oneOrZero (holdsFall (bodyOf (designOf image) q))) (parent-is d h e)
+
+      default : getD defaults p 0 ≡ defaultTarget (designOf image) (parent (designOf image) s)
+      default = told .entry p parent-state ∙ ap (defaultTarget (designOf image)) (parent-is d h e)
+
+      pub passes-no-fall : getD falls p 0 ≡ 0 → true ≡ childLabelKept (designOf image) s
+      passes-no-fall z = no-fall-above (designOf image) s (not-held (sym held ∙ z))
+
+      pub passes-other : (getD defaults p 0 ≡ s → ⊥) → true ≡ childLabelKept (designOf image) s
+      passes-other n = other-default (designOf image) s (λ z. n (default ∙ z))
+
+      pub child-label-rule :
+          {f t : ℕ} {b : Bool}
+          → (s ≡ 0 → ⊥)
+          → (getD falls p 0 ≡ 0 → ⊥)
+          → getD defaults p 0 ≡ s
+          → f ≡ stateIn image (x .«states_at») p .label
+          → t ≡ stateIn image (x .«states_at») s .label
+          → b ≡ flowsTo (designOf image .rows) f t
+          → b ≡ childLabelKept (designOf image) s
+      child-label-rule {f} {t} n z o from to b =
+          let count = states-count d in
+          let above : f ≡ stateLabel (designOf image) (parent (designOf image) s) = from ∙ ap (λ (y : State). y .label) (state-in d (parent-inside d kept h e)) ∙ ap (stateLabel (designOf image)) (parent-is d h e) in
+          let own : t ≡ stateLabel (designOf image) s = to ∙ ap (λ (y : State). y .label) (state-in d h) in
+          child-label-is (designOf image) s n (omega arith) (held-some (λ y. z (held ∙ y))) (sym default ∙ o) (rw (← above, ← own) b)
 
 -- the laws of a state's label and its parent's, for `search`
-pub ruleset child-laws = (root-child, parent-inside, parent-labelled, state-label-small, child-label-rule)
+pub ruleset child-laws = (root-child, parent-record, parent-labelled, state-label-small, fall-entry, default-entry, state-fits, passes-no-fall, passes-other, child-label-rule)
 
 -- the laws of a register's record, for `search`
 pub ruleset register-laws = (too-narrow, too-wide, register-rule)

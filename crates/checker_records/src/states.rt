@@ -1,15 +1,18 @@
-// Refusals 4 and 9: a state by its record, and a child's label.
+// Refusals 4 and 9: a state by its record, and the label of a default child.
 use crate::lattice::flows;
 use design::Design;
 use model::Found;
-ghost use Prim.Native.Nat.{ℕ, _<_};
+ghost use Prim.Native.Nat.{_<_};
 ghost use mathlib.Core.Path.{_≡_};
-ghost use mathlib.Core.Bool.{true};
 ghost use lib.ListN.{length};
 ghost use Rattle.model.specs.Indices.{lowestFailing};
 ghost use Rattle.model.specs.Image.{designOf};
-ghost use Rattle.model.specs.States.{parentKept, stateKept, childLabelKept};
+ghost use Rattle.model.specs.States.{parentKept, stateKept};
+ghost use Rattle.model.specs.Falls.{childLabelKept};
 ghost use Rattle.design.specs.Describes.{Describes};
+ghost use Rattle.design.specs.Kept.{StatesKept};
+ghost use Rattle.design.specs.Resets.{Defaults};
+ghost use Rattle.design.specs.Falls.{FallsTold};
 
 // State s is the root, with parent 0 and label 0, or its parent has a lower number.
 fn parent_kept(image: &[u8], design: Design, s: usize) -> bool
@@ -49,10 +52,11 @@ pub fn states(image: &[u8], design: Design) -> Found
     Found::Nowhere
 }
 
-// The label of state s is at or above its parent's, unless s is the root. The states are kept.
-fn child_label_kept(image: &[u8], design: Design, s: usize) -> bool
-    requires { ⌜ Describes (now image) design × (s < design .states) ⌝ }
-    requires { ⌜ ((k : ℕ) → k < length (designOf (now image) .states) → stateKept (designOf (now image)) k ≡ true) ⌝ }
+// The label of state s is at or above its parent's, where s is the default child of a state that holds
+// a fall. The states are kept.
+fn child_label_kept(image: &[u8], design: Design, defaults: &[u8], falls: &[u8], s: usize) -> bool
+    requires { ⌜ Describes (now image) design × StatesKept (designOf (now image)) × (s < design .states) ⌝ }
+    requires { ⌜ Defaults (designOf (now image)) (now defaults) × FallsTold (designOf (now image)) (now falls) ⌝ }
     ensures { λ x. ⌜ x ≡ childLabelKept (designOf (now (image .entry))) s ⌝ }
 {
     if s == 0 {
@@ -60,19 +64,25 @@ fn child_label_kept(image: &[u8], design: Design, s: usize) -> bool
     }
     let at = design.states_at;
     let parent = Design::parent(image, at, s);
+    if falls[parent] == 0 {
+        return true;
+    }
+    if defaults[parent] != s as u8 {
+        return true;
+    }
     let from = Design::state_label(image, at, parent);
     flows(image, design, from, Design::state_label(image, at, s))
 }
 
 // Refusal 9, at the lowest state. The states are kept: refusal 4 found none.
-pub fn child_labels(image: &[u8], design: Design) -> Found
-    requires { ⌜ Describes (now image) design ⌝ }
-    requires { ⌜ ((k : ℕ) → k < length (designOf (now image) .states) → stateKept (designOf (now image)) k ≡ true) ⌝ }
+pub fn child_labels(image: &[u8], design: Design, defaults: &[u8], falls: &[u8]) -> Found
+    requires { ⌜ Describes (now image) design × StatesKept (designOf (now image)) ⌝ }
+    requires { ⌜ Defaults (designOf (now image)) (now defaults) × FallsTold (designOf (now image)) (now falls) ⌝ }
     ensures { λ f. ⌜ f ≡ lowestFailing (childLabelKept (designOf (now (image .entry)))) (length (designOf (now (image .entry)) .states)) ⌝ }
 {
     let mut s = 0;
     while s < design.states {
-        if !child_label_kept(image, design, s) {
+        if !child_label_kept(image, design, defaults, falls, s) {
             return Found::At(s);
         }
         s += 1;

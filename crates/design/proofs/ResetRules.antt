@@ -1,14 +1,14 @@
 -- What reset writes: default targets by one pass downwards, in which the lowest child of a state comes last and stays, and a register area that a loop fills.
 use Prim.Native.Nat.{ℕ, zero, suc, _+_, _*_, _/_, _%_, _-_, _≤_, _<_}
 use mathlib.Core.Path.{_≡_, refl, sym, _∙_, ap}
-use mathlib.Core.Logic.{_⊎_, inl, inr}
+use mathlib.Core.Logic.{_⊎_, inl, inr, _≢_}
 use mathlib.Core.Bool.{Bool, true, false, cond}
 use mathlib.Core.List.{List, [], _∷_}
 use native.Mathlib.Omega.{arith}
 use native.Mathlib.Numerals.{add-one}
 use native.Mathlib.Decide.{ℕ-discrete, decLt}
 use lib.Dec.{ltb}
-use lib.ListN.{length, getD, set, length-set, length-map, List·getD-map}
+use lib.ListN.{length, getD, set, replicate, length-set, length-map, length-replicate, List·getD-map}
 use lib.Seq.{getD-set-same, getD-set-other, ext-getD}
 use borrow.Author.Tests.{lt-ltb, le-ltb}
 use Rattle.model.specs.declared.Found.the-variants.{At}
@@ -21,7 +21,7 @@ use Rattle.model.specs.Calls.{lentOf}
 use Rattle.model.proofs.Laws.Cycles.{reset-length}
 use Rattle.model.proofs.Laws.Booleans.{true-or-false, false-unless-true}
 use Rattle.model.proofs.Laws.Indices.{extend, nothing-below-zero, lowest-nowhere, lowest-at, lowest-found, length-tabulate, getD-tabulate}
-use Rattle.model.proofs.Laws.States.{child-of, is-child, default-cases}
+use Rattle.model.proofs.Laws.States.{child-of, is-child, has-child, default-cases}
 use Rattle.model.proofs.Exact.Records.{state-iff}
 use Rattle.design.specs.declared.Design.{Design}
 use Rattle.design.specs.Records.{registerIn, stateIn}
@@ -251,11 +251,43 @@ module _ {image : List ℕ} {x : Design} (d : Describes image x) where
       at k b (no h) = let count = states-count d in so .rest k (omega arith) ∙ first .rest k (omega arith) ∙ sym (behind-at (designOf image) old k (omega arith) b)
 
 -- ---- what callers take from it
+-- an entry of the table
+pub entry-inside : {image table : List ℕ} {x : Design} {s : ℕ} → Describes image x → Defaults (designOf image) table → s < x .states → s < length table
+entry-inside d t l = let count = states-count d in let long = t .long in omega arith
+
+module _ (d : Table) where
+  pub parent-lower : StatesKept d → (s : ℕ) → s < length (d .states) → s ≢ 0 → parent d s < s
+  parent-lower kept s l z = state-iff d s .0 (kept .kept s l) .parent-below z
+
+  -- a state that is its own default target has no child
+  pub alone : StatesKept d → (s : ℕ) → s < length (d .states) → defaultTarget d s ≡ s → hasChild d s ≡ false
+  alone kept s l e = go (default-cases d s)
+    where
+      go : (isChild d s (defaultTarget d s) ≡ true) ⊎ ((hasChild d s ≡ false) × (defaultTarget d s ≡ s)) → hasChild d s ≡ false
+      go (inl h) =
+          let child = child-of d s s (rw e at h) in
+          let same = child .parent-is in
+          let lower = parent-lower kept s l (child .no-root) in
+          absurd (omega arith)
+      go (inr h) = h .0
+
+  -- one that is not has a child
+  pub not-alone : (s : ℕ) → (defaultTarget d s ≡ s → ⊥) → hasChild d s ≡ true
+  not-alone s e = go (default-cases d s)
+    where
+      go : (isChild d s (defaultTarget d s) ≡ true) ⊎ ((hasChild d s ≡ false) × (defaultTarget d s ≡ s)) → hasChild d s ≡ true
+      go (inl h) = has-child d s (defaultTarget d s) (child-of d s (defaultTarget d s) h)
+      go (inr h) = absurd (e (h .1))
+
 pub defaults-of : {image table : List ℕ} {x : Design} (old : List ℕ) → Describes image x → x .states ≤ length old → table ≡ withDefaults (designOf image) old → Defaults (designOf image) table
 defaults-of {image} {table} old d l e =
     let count = states-count d in
     let same = ap length e ∙ length-defaults (designOf image) old in
     record { long = omega arith; entry = λ s h. ap (λ (t : List ℕ). getD t s 0) e ∙ default-at (designOf image) old s h (omega arith) }
+
+-- in a fresh table
+pub fresh-defaults : {image table : List ℕ} {x : Design} → Describes image x → table ≡ withDefaults (designOf image) (replicate {A = ℕ} 64 0) → Defaults (designOf image) table
+fresh-defaults d e = let few = states-few d in let long = length-replicate {A = ℕ} 64 0 in defaults-of (replicate {A = ℕ} 64 0) d (omega arith) e
 
 pub defaults-reset : {image table : List ℕ} {x : Design} (old : List ℕ) → Describes image x → length old ≡ x .states → table ≡ withDefaults (designOf image) old → table ≡ resetAreas (designOf image) .targets
 unfolding resetAreas

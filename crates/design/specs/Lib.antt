@@ -1,8 +1,9 @@
 -- What the contracts of this crate and of those above it cite: a record by the place of its section, when a `Design` describes an image, its records keep their rules, and one
--- stands at a place, a register area with one word written, and what reset writes.
+-- stands at a place, a register area with one word written, what reset writes, and which states hold a fall.
 pub mod Records
 pub mod Describes
 pub mod Kept
 pub mod RecordsAt
 pub mod Words
 pub mod Resets
+pub mod Falls

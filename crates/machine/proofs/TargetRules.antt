@@ -1,5 +1,5 @@
--- The targets of states: a state is its own default target exactly where it has no child; and a state with a higher number than t is within t exactly where
--- its parent is, which has a lower number, so one pass upwards marks all that is within t.
+-- The targets of states: a state with a higher number than t is within t exactly where its parent is, which has a lower number, so one pass upwards marks
+-- all that is within t.
 use Prim.Native.Nat.{ℕ, zero, suc, _+_, _≤_, _<_}
 use mathlib.Core.Path.{_≡_, refl, sym, _∙_, ap}
 use mathlib.Core.Logic.{_⊎_, inl, inr, _≢_}
@@ -26,7 +26,7 @@ use Rattle.design.specs.Describes.{Describes}
 use Rattle.design.specs.Kept.{StatesKept}
 use Rattle.design.specs.Resets.{Defaults}
 use Rattle.design.proofs.Laws.{states-count}
-use Rattle.design.proofs.ResetRules.{Filled, filled-more, filled-all, states-few, parent-is, parent-inside}
+use Rattle.design.proofs.ResetRules.{Filled, filled-more, filled-all, states-few, parent-is, parent-inside, parent-lower, alone, not-alone}
 
 -- ---- bounds
 pub state-few : {image : List ℕ} {x : Design} {s : ℕ} → Describes image x → s < x .states → s < 64
@@ -36,38 +36,10 @@ module _ {image : List ℕ} {x : Design} where
   pub parent-few : {s p : ℕ} → Describes image x → StatesKept (designOf image) → s < x .states → p ≡ stateIn image (x .«states_at») s .parent → p < 64
   parent-few d kept l e = state-few d (parent-inside d kept l e)
 
-  -- an entry of a table of default targets
-  pub entry-inside : {table : List ℕ} {s : ℕ} → Describes image x → Defaults (designOf image) table → s < x .states → s < length table
-  entry-inside d t l = let count = states-count d in let long = t .long in omega arith
-
 -- ---- the tree of states
 module _ (d : Table) where
   no-child : (s q : ℕ) → hasChild d s ≡ false → isChild d s q ≡ false
   no-child s q h = false-unless-true (isChild d s q) (λ e. true-or-false (hasChild d s) (has-child d s q (child-of d s q e)) h)
-
-  module _ (kept : StatesKept d) where
-    parent-lower : (s : ℕ) → s < length (d .states) → s ≢ 0 → parent d s < s
-    parent-lower s l z = state-iff d s .0 (kept .kept s l) .parent-below z
-
-    -- a state that is its own default target has no child
-    alone : (s : ℕ) → s < length (d .states) → defaultTarget d s ≡ s → hasChild d s ≡ false
-    alone s l e = go (default-cases d s)
-      where
-        go : (isChild d s (defaultTarget d s) ≡ true) ⊎ ((hasChild d s ≡ false) × (defaultTarget d s ≡ s)) → hasChild d s ≡ false
-        go (inl h) =
-            let child = child-of d s s (rw e at h) in
-            let same = child .parent-is in
-            let lower = parent-lower s l (child .no-root) in
-            absurd (omega arith)
-        go (inr h) = h .0
-
-  -- one that is not has a child
-  not-alone : (s : ℕ) → (defaultTarget d s ≡ s → ⊥) → hasChild d s ≡ true
-  not-alone s e = go (default-cases d s)
-    where
-      go : (isChild d s (defaultTarget d s) ≡ true) ⊎ ((hasChild d s ≡ false) × (defaultTarget d s ≡ s)) → hasChild d s ≡ true
-      go (inl h) = has-child d s (defaultTarget d s) (child-of d s (defaultTarget d s) h)
-      go (inr h) = absurd (e (h .1))
 
   -- a state with a higher number than t is within t exactly where its parent is
   within-parent : (t q : ℕ) → t < q → parent d q < q → within d t q ≡ within d t (parent d q)
@@ -86,7 +58,7 @@ module _ (d : Table) where
             absurd (true-or-false (hasChild d t) (has-child d t q (record { no-root = λ z. other (omega arith); state = k; parent-is = e })) h)
         go earlier (no above) (no e) =
             let higher : t < q = omega arith in
-            let lower = parent-lower kept q k (λ z. omega arith) in
+            let lower = parent-lower d kept q k (λ z. omega arith) in
             within-parent t q higher lower ∙ earlier (parent d q) (omega arith) (omega arith) e
 
 -- ---- sound targets

@@ -7,6 +7,7 @@ pub mod Nodes
 pub mod Depths
 pub mod Bodies
 pub mod Ports
+pub mod Falls
 pub mod Widths
 pub mod Flows
 pub mod Cycles

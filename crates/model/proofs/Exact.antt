@@ -15,12 +15,14 @@ use Rattle.model.proofs.Laws.Numbers.{told-accepted}
 use Rattle.model.proofs.Laws.Verdict.{before-iff}
 use Directories.{directory-iff}
 use Labels.{lattice-iff}
-use Records.{register-iff, state-iff, port-iff, child-label-iff, command-iff, expression-iff, command-used-iff, expression-used-iff, command-depth-iff, expression-depth-iff}
+use Falls.{child-label-iff}
+use Records.{register-iff, state-iff, port-iff, command-iff, expression-iff, command-used-iff, expression-used-iff, command-depth-iff, expression-depth-iff}
 use Shapes.{shape-iff}
 use Flows.{flow-iff}
 pub mod Directories
 pub mod Labels
 pub mod Records
+pub mod Falls
 pub mod Shapes
 pub mod Flows
 

@@ -28,7 +28,8 @@ use Rattle.model.proofs.Laws.Broken.{Finds, Decides, decides-one, decid
 use Rattle.model.proofs.Laws.Finds.{finds-each, finds-charged, finds-zero, finds-node}
 use Rattle.model.proofs.Exact.Directories.{directory-iff}
 use Rattle.model.proofs.Exact.Labels.{label-iff}
-use Rattle.model.proofs.Exact.Records.{register-iff, state-iff, port-iff, child-label-iff, command-iff, expression-iff, command-used-iff, expression-used-iff, command-depth-iff, expression-depth-iff}
+use Rattle.model.proofs.Exact.Falls.{child-label-iff}
+use Rattle.model.proofs.Exact.Records.{register-iff, state-iff, port-iff, command-iff, expression-iff, command-used-iff, expression-used-iff, command-depth-iff, expression-depth-iff}
 use Rattle.model.proofs.Exact.{verdict-exact}
 use Rattle.model.proofs.Refused.Standing.{child-iff, has-child-iff}
 use Rattle.model.proofs.Refused.Shapes.{shape-finds}

@@ -13,6 +13,7 @@ pub mod Nodes
 -- 'Shape and flow'
 pub mod Shape
 pub mod Ports
+pub mod Falls
 pub mod Flow
 -- 'A cycle'
 pub mod Signed

@@ -9,9 +9,9 @@ use Rattle.model.specs.Limits.{directoryLength, depthMax, widthMax}
 use Rattle.model.specs.Indices.{occurrences}
 use Rattle.model.specs.Image.{Section, Labels, Registers, States, Commands, Expressions, recordLength, fewest, most, offset, size, count, end, Design, Node, registerAt, stateAt, commandAt, expressionAt, designOf}
 use Rattle.model.specs.Lattice.{flowsTo, registerLabel, stateLabel}
-use Rattle.model.specs.States.{parent, hasChild, siblingOrSelf}
+use Rattle.model.specs.States.{parent, isChild, hasChild, siblingOrSelf}
 use Rattle.model.specs.Kinds.{CommandKind, skips, assigns, sequences, falls, goes, branches, unknownCommand, ExpressionKind, constants, reads, unknownExpression, operates, commandKind, expressionKind}
-use Rattle.model.specs.Trees.{Cmd, skip, assign, sequence, fall, goto, branch, exprOf, cmdOf, bodyOf, exprDepth, cmdDepth}
+use Rattle.model.specs.Trees.{Expr, Cmd, skip, assign, sequence, fall, goto, branch, exprOf, cmdOf, bodyOf, exprDepth, cmdDepth}
 use Rattle.model.specs.Nodes.{commandUses, expressionUses}
 use Rattle.model.specs.Shape.{transfers}
 use Rattle.model.specs.Flow.{labelsRead, assignFlows, gotoFlows, fallFlows}
@@ -61,6 +61,14 @@ pub record IsLattice (rows : List ℕ) : Type 0 where
   pub transitive : (i j k : ℕ) → i < length rows → j < length rows → k < length rows → FlowsTo rows i j → FlowsTo rows j k → FlowsTo rows i k
   pub least : (j : ℕ) → j < length rows → FlowsTo rows 0 j
   pub join : (i j : ℕ) → i < length rows → j < length rows → (k : ℕ) × LeastAbove rows i j k
+
+-- a fall stands somewhere in the command
+pub data HoldsFall : Cmd → Type 0 where
+  itself : {n : ℕ} → HoldsFall (fall n)
+  in-first : {n : ℕ} {p q : Cmd} → HoldsFall p → HoldsFall (sequence n p q)
+  in-second : {n : ℕ} {p q : Cmd} → HoldsFall q → HoldsFall (sequence n p q)
+  in-then : {n : ℕ} {e : Expr} {p q : Cmd} → HoldsFall p → HoldsFall (branch n e p q)
+  in-else : {n : ℕ} {e : Expr} {p q : Cmd} → HoldsFall q → HoldsFall (branch n e p q)
 
 module _ (d : Design) where
   pub record RegisterKeeps (r : ℕ) : Type 0 where
@@ -113,9 +121,14 @@ module _ (d : Design) where
   abbrev pub ExpressionDepthKeeps : ℕ → Type 0
   ExpressionDepthKeeps n = exprDepth (exprOf d n) ≤ depthMax
 
-  -- "Every child's label is at or above its parent's." The root is nobody's child.
+  -- "The default child is the lowest-numbered child": q is that of s
+  pub record DefaultChild (s q : ℕ) : Type 0 where
+    pub child : isChild d s q ≡ true
+    pub lowest : (r : ℕ) → isChild d s r ≡ true → q ≤ r
+
+  -- 02, E4: "refusal 9 now looks only at the default child of a state that holds a fall, charged to that child"
   abbrev pub ChildLabelKeeps : ℕ → Type 0
-  ChildLabelKeeps s = (s ≡ 0 → ⊥) → FlowsTo (d .rows) (stateLabel d (parent d s)) (stateLabel d s)
+  ChildLabelKeeps q = (s : ℕ) → HoldsFall (bodyOf d s) → DefaultChild s q → FlowsTo (d .rows) (stateLabel d s) (stateLabel d q)
 
   -- the shape rules of a command of state s
   abbrev pub Shaped : ℕ → Cmd → Type 0

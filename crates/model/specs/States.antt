@@ -1,13 +1,13 @@
--- 01, the last paragraph of 'The image': the tree of states. And refusals 3, 4 and 9, which judge a register or a state by its record.
+-- 01, the last paragraph of 'The image': the tree of states. And refusals 3 and 4, which judge a register or a state by its record.
 use Prim.Native.Nat.{ℕ, zero, suc, _^_}
-use mathlib.Core.Bool.{Bool, true, false, _&&_, _||_, not}
+use mathlib.Core.Bool.{Bool, false, _&&_, _||_, not}
 use lib.Dec.{leb, ltb, eqb}
 use lib.ListN.{length}
 use Rattle.model.specs.declared.Found.{Found}
 use Rattle.model.specs.declared.Found.the-variants.{At, Nowhere}
 use Rattle.model.specs.Indices.{lowest, someBelow, recursively}
 use Rattle.model.specs.Image.{Design, registerAt, stateAt}
-use Rattle.model.specs.Lattice.{flowsTo, stateLabel}
+use Rattle.model.specs.Lattice.{stateLabel}
 use Rattle.model.specs.Limits.{widthMax}
 
 -- what was found, else s
@@ -39,11 +39,6 @@ module _ (d : Design) where
   -- refusal 4: "state's parent, label or command number"
   unfoldable pub stateKept : ℕ → Bool
   stateKept s = parentKept s && ltb (stateLabel d s) (length (d .rows)) && ltb (stateAt d s .command) (length (d .commands))
-
-  -- refusal 9: "Every child's label is at or above its parent's." The root is nobody's child.
-  unfoldable pub childLabelKept : ℕ → Bool
-  childLabelKept zero = true
-  childLabelKept (suc s) = flowsTo (d .rows) (stateLabel d (parent (suc s))) (stateLabel d (suc s))
 
   -- state q is a child of s
   unfoldable pub isChild : ℕ → ℕ → Bool

@@ -13,11 +13,12 @@ use Rattle.model.specs.Limits.{expressionPlace}
 use Rattle.model.specs.Indices.{lowestFailing}
 use Rattle.model.specs.Image.{Design, designOf, directoryKept}
 use Rattle.model.specs.Lattice.{labelKept}
-use Rattle.model.specs.States.{registerKept, stateKept, childLabelKept}
+use Rattle.model.specs.States.{registerKept, stateKept}
 use Rattle.model.specs.Kinds.{commandKept, expressionKept}
 use Rattle.model.specs.Nodes.{commandUsedOnce, expressionUsedOnce, commandDepthKept, expressionDepthKept}
 use Rattle.model.specs.Shape.{shapeFault}
 use Rattle.model.specs.Ports.{namesNoPort}
+use Rattle.model.specs.Falls.{childLabelKept}
 use Rattle.model.specs.Flow.{flowAnswer}
 
 -- "The lowest number that applies comes first": the first answer where it refuses, else the second

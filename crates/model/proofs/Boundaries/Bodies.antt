@@ -138,12 +138,12 @@ labelled one two three =
     (falls ∷ falls ∷ goesTo 2 ∷ goesTo 3 ∷ [])
     []
 
--- "Every child's label is at or above its parent's.": the same label, one above, one below, and one that cannot be compared; at the lowest state
+-- "Every child's label is at or above its parent's.", since E4 of default children only: the same label, one above, one below, and one that cannot be compared; the spare child 3 may have any
 shows-child-label
     : map
     judged
     (labelled 1 1 3 ∷ labelled 0 1 2 ∷ labelled 1 0 0 ∷ labelled 1 1 0 ∷ labelled 1 2 1 ∷ labelled 2 1 2 ∷ labelled 3 2 1 ∷ [])
-    ≡ accepted 0 ∷ accepted 0 ∷ refused 9 2 ∷ refused 9 3 ∷ refused 9 2 ∷ refused 9 2 ∷ refused 9 2 ∷ []
+    ≡ accepted 0 ∷ accepted 0 ∷ refused 9 2 ∷ accepted 0 ∷ refused 9 2 ∷ refused 9 2 ∷ refused 9 2 ∷ []
 shows-child-label = unfold checks in refl
 
 -- 9 before 10: r0 := 1; fall, in state 1 with label 1; state 2 below it has label 0

@@ -6,11 +6,11 @@ use mathlib.Core.Bool.{true, false, false≢true}
 use native.Mathlib.Omega.{arith}
 use Rattle.model.specs.Image.{Design, Node, registerAt, commandAt, expressionAt}
 use Rattle.model.specs.Lattice.{stateLabel}
-use Rattle.model.specs.States.{parent, widthKept, registerKept, parentKept, stateKept, childLabelKept}
+use Rattle.model.specs.States.{parent, widthKept, registerKept, parentKept, stateKept}
 use Rattle.model.specs.Kinds.{CommandKind, skips, assigns, sequences, falls, goes, branches, unknownCommand, ExpressionKind, constants, reads, unknownExpression, operates, commandKind, expressionKind, commandHolds, expressionHolds, commandKept, expressionKept}
 use Rattle.model.specs.Ports.{sparesPorts, namesNoPort}
 use Rattle.model.specs.Nodes.{commandUsedOnce, expressionUsedOnce, commandDepthKept, expressionDepthKept}
-use Rattle.model.specs.Rules.{RegisterKeeps, StateKeeps, CommandHolds, ExpressionHolds, CommandKeeps, ExpressionKeeps, CommandUsedOnce, ExpressionUsedOnce, CommandDepthKeeps, ExpressionDepthKeeps, ChildLabelKeeps, NamesNoPort}
+use Rattle.model.specs.Rules.{RegisterKeeps, StateKeeps, CommandHolds, ExpressionHolds, CommandKeeps, ExpressionKeeps, CommandUsedOnce, ExpressionUsedOnce, CommandDepthKeeps, ExpressionDepthKeeps, NamesNoPort}
 use Rattle.model.proofs.Laws.Kinds.{commandNumber}
 use Rattle.model.proofs.Laws.Equivalences.{less-iff, at-most-iff, equal-iff, refutes-iff, and-iff, and-three-iff, and-four-iff}
 
@@ -55,11 +55,6 @@ module _ (d : Design) where
         λ h. record { root-parent = h .0 .0; root-label = h .0 .1; parent-below = h .0 .2; label = h .1; command = h .2 },
         λ k. ((k .root-parent, k .root-label, k .parent-below), k .label, k .command),
       )
-
-  pub child-label-iff : (s : ℕ) → (childLabelKept d s ≡ true) ↔ ChildLabelKeeps d s
-  unfolding childLabelKept
-  child-label-iff zero = (λ e not-root. absurd (not-root refl), λ k. refl)
-  child-label-iff (suc s) = (λ e not-root. e, λ k. k (λ z. omega arith))
 
   -- ---- nodes
   command-holds-iff : (n : ℕ) (kind : CommandKind) (x : Node) → (commandHolds d n kind x ≡ true) ↔ CommandHolds d n kind x

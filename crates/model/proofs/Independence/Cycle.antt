@@ -16,6 +16,7 @@ use Rattle.model.specs.Image.{Design, Register}
 use Rattle.model.specs.Lattice.{allFlowTo, stateLabel}
 use Rattle.model.specs.States.{parent, isChild, defaultTarget, within}
 use Rattle.model.specs.Trees.{bodyOf}
+use Rattle.model.specs.Falls.{holdsFall}
 use Rattle.model.specs.Rules.{DesignKeeps}
 use Rattle.model.specs.Machine.{Areas, Cycle, exec, goneTo, afterBody, runFrom}
 use Rattle.model.specs.Parties.{registerSeen, stateSeen, walkSeen}
@@ -24,7 +25,7 @@ use Rattle.model.proofs.Laws.States.{sibling-child}
 use Rattle.model.proofs.Laws.Gotos.{within-self}
 use Rattle.model.proofs.Independence.Relation.{Good}
 use Rattle.model.proofs.Independence.Labels.{state-label}
-use Rattle.model.proofs.Independence.Endings.{holdsFall, Ended}
+use Rattle.model.proofs.Independence.Endings.{Ended}
 use Rattle.model.proofs.Independence.Unnumbered.{unnumbered, exec-alike, holds-alike}
 use Rattle.model.proofs.Independence.Agreement.{Agree, agree-sym, agree-trans}
 use Rattle.model.proofs.Independence.Commands.{OutcomesAgree, SameSeen, exec-same}

@@ -12,20 +12,12 @@ use Rattle.model.specs.Lattice.{allFlowTo, stateLabel}
 use Rattle.model.specs.States.{siblingOrSelf}
 use Rattle.model.specs.Trees.{Expr, Cmd, skip, assign, sequence, fall, goto, branch}
 use Rattle.model.specs.Shape.{transfers}
+use Rattle.model.specs.Falls.{holdsFall}
 use Rattle.model.specs.Flow.{labelsRead}
 use Rattle.model.specs.Rules.{Shaped, Flows}
 use Rattle.model.specs.Machine.{eval, Executed, unlessTransferred, exec}
 use Rattle.model.proofs.Laws.Booleans.{and-both, and-false, or-first, or-second, true-or-false}
 use Rattle.model.proofs.Independence.Labels.{all-flow-first}
-
--- a fall stands somewhere in the command
-unfoldable pub holdsFall : Cmd → Bool
-holdsFall (skip n) = false
-holdsFall (assign n r e) = false
-holdsFall (sequence n p q) = holdsFall q
-holdsFall (fall n) = true
-holdsFall (goto n t) = false
-holdsFall (branch n e p q) = holdsFall p || holdsFall q
 
 module _ (d : Design) (s : ℕ) where
   -- what a command's outcome tells: whether it transfers; that a goto is to a sibling or to s itself, and the context flows there; that a fall is held,
@@ -42,7 +34,7 @@ module _ (d : Design) (s : ℕ) where
     where
       as-second : (o : Outcome) → Ended context q o → Ended context (sequence n p q) o
       as-second Continued k = k
-      as-second (Transferred Fall) k = k
+      as-second (Transferred Fall) k = (k .0, or-second (holdsFall p) (holdsFall q) (k .1), k .2)
       as-second (Transferred (Goto t)) k = k
   ends-sequence context n p q (Transferred Fall) first second no-transfer e k = absurd (true-or-false (transfers p) (e .0) no-transfer)
   ends-sequence context n p q (Transferred (Goto t)) first second no-transfer e k = absurd (true-or-false (transfers p) (e .0) no-transfer)

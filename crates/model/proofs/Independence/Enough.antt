@@ -14,7 +14,7 @@ use Rattle.model.specs.Trees.{bodyOf}
 use Rattle.model.specs.Rules.{DesignKeeps}
 use Rattle.model.specs.Machine.{Areas, Cycle, afterBody, runFrom}
 use Rattle.model.proofs.Independence.Relation.{Good}
-use Rattle.model.proofs.Independence.Endings.{holdsFall}
+use Rattle.model.specs.Falls.{holdsFall}
 use Rattle.model.proofs.Independence.Path.{ran, leftBy, target, left-good, ended, target-child, parent-lower}
 
 module _ (d : Design) (keeps : DesignKeeps d) where

@@ -17,13 +17,14 @@ use Rattle.model.specs.Image.{Design}
 use Rattle.model.specs.Lattice.{stateLabel}
 use Rattle.model.specs.States.{parent, isChild, hasChild}
 use Rattle.model.specs.Trees.{Cmd, skip, assign, sequence, fall, goto, branch, bodyOf}
+use Rattle.model.specs.Falls.{holdsFall}
 use Rattle.model.specs.Rules.{DesignKeeps, Shaped}
 use Rattle.model.specs.Machine.{Areas, Cycle, Executed, exec, targetSound, goneTo, afterBody, runFrom}
 use Rattle.model.proofs.Laws.Booleans.{and-second, or-cases, true-or-false}
 use Rattle.model.proofs.Laws.States.{ChildOf, child-of, sound-child, sibling-child, sibling-no-root}
 use Rattle.model.proofs.Laws.Gotos.{length-gone, gone-parent, gone-below, gone-sound}
 use Rattle.model.proofs.Independence.Relation.{Good}
-use Rattle.model.proofs.Independence.Endings.{holdsFall, Ended, exec-ends}
+use Rattle.model.proofs.Independence.Endings.{Ended, exec-ends}
 use Rattle.model.proofs.Laws.Commands.{exec-length}
 use Rattle.model.proofs.Independence.Widths.{exec-fitting}
 
@@ -32,7 +33,7 @@ pub fall-child : (d : Design) (s : ℕ) (c : Cmd) → Shaped d s c → holdsFall
 unfolding holdsFall
 fall-child d s (skip n) shaped h = absurd (true-or-false false h refl)
 fall-child d s (assign n r e) shaped h = absurd (true-or-false false h refl)
-fall-child d s (sequence n p q) shaped h = fall-child d s q (shaped .2) h
+fall-child d s (sequence n p q) shaped h = ⊎-elim (fall-child d s p (shaped .1)) (fall-child d s q (shaped .2)) (or-cases (holdsFall p) (holdsFall q) h)
 fall-child d s (fall n) shaped h = shaped
 fall-child d s (goto n t) shaped h = absurd (true-or-false false h refl)
 fall-child d s (branch n e p q) shaped h = ⊎-elim (fall-child d s p (shaped .1)) (fall-child d s q (shaped .2)) (or-cases (holdsFall p) (holdsFall q) h)

@@ -1,5 +1,5 @@
--- Why labels keep rising along the live path: a goto leads to a label at or above its own state's and leaves default children below, and a child's label is
--- at or above its parent's. So a run that has come to a state that is not seen shows nothing more and changes nothing that is seen.
+-- Why labels keep rising along the live path: a goto leads to a label at or above its own state's and leaves default children below, and the label of
+-- the default child of a state that holds a fall is at or above that state's (refusal 9; other children may have any label). So a run that has come to a state that is not seen shows nothing more and changes nothing that is seen.
 use Prim.Native.Nat.{ℕ, zero, suc, _<_}
 use mathlib.Core.Path.{_≡_, refl}
 use mathlib.Core.Bool.{true, false}
@@ -13,17 +13,19 @@ use Rattle.model.specs.Image.{Design}
 use Rattle.model.specs.Lattice.{flowsTo, allFlowTo, stateLabel}
 use Rattle.model.specs.States.{parent, defaultTarget, within}
 use Rattle.model.specs.Trees.{bodyOf}
+use Rattle.model.specs.Falls.{holdsFall}
 use Rattle.model.specs.Rules.{DesignKeeps, FlowsTo}
 use Rattle.model.specs.Machine.{Areas, Cycle, goneTo, afterBody, runFrom}
 use Rattle.model.specs.Parties.{stateSeen, walkSeen}
 use Rattle.model.proofs.Laws.Booleans.{and-first, and-false}
-use Rattle.model.proofs.Laws.States.{ChildOf, default-child, sibling-child}
+use Rattle.model.proofs.Laws.States.{ChildOf, is-child, default-child, default-least, sibling-child}
+use Rattle.model.proofs.Exact.Falls.{holds-iff}
 use Rattle.model.proofs.Laws.Gotos.{within-self, within-child, gone-within}
 use Rattle.model.proofs.Independence.Relation.{Good}
 use Rattle.model.proofs.Independence.Labels.{state-label, unseen-above}
 use Rattle.model.proofs.Independence.Agreement.{Agree, agree-self, agree-trans}
 use Rattle.model.proofs.Independence.Commands.{exec-confined}
-use Rattle.model.proofs.Independence.Endings.{holdsFall, Ended}
+use Rattle.model.proofs.Independence.Endings.{Ended}
 use Rattle.model.proofs.Independence.Path.{fall-child, entryOf, ran, leftBy, entry, targetsAfter, target, left-good, ended, target-state, parent-lower, fall-points}
 
 -- labels rise along the live path from s
@@ -57,8 +59,8 @@ module _ (d : Design) (keeps : DesignKeeps d) where
   default-rises P targets table zero q p l = tt
   default-rises P targets table (suc f) q p l = λ h.
       let child = default-of-fall q l h in
-      let kept : FlowsTo (d .rows) (stateLabel d (parent d (defaultTarget d q))) (stateLabel d (defaultTarget d q)) = keeps .child-labels (defaultTarget d q) (child .state) (child .no-root) in
-      let rises : FlowsTo (d .rows) (stateLabel d q) (stateLabel d (defaultTarget d q)) = rw (child .parent-is) at kept in
+      let rises : FlowsTo (d .rows) (stateLabel d q) (stateLabel d (defaultTarget d q)) =
+      keeps .child-labels (defaultTarget d q) (child .state) q (holds-iff .0 h) (record { child = is-child d q (defaultTarget d q) child; lowest = default-least d q }) in
       rw (table .default q p l) (rises, default-rises P targets table f (defaultTarget d q) (table .closed q (defaultTarget d q) p child) (child .state))
 
   -- after a goto the named state and its descendants are at their defaults

@@ -5,7 +5,7 @@ use mathlib.Core.List.{List}
 use Rattle.model.specs.Image.{Register}
 use Rattle.model.specs.Trees.{Cmd, skip, assign, sequence, fall, goto, branch}
 use Rattle.model.specs.Machine.{Executed, unlessTransferred, exec}
-use Rattle.model.proofs.Independence.Endings.{holdsFall}
+use Rattle.model.specs.Falls.{holdsFall}
 
 -- the command with 0 for every node number
 unfoldable pub unnumbered : Cmd → Cmd
@@ -33,7 +33,7 @@ holds-unnumbered : (c : Cmd) → holdsFall c ≡ holdsFall (unnumbered c)
 unfolding holdsFall unnumbered
 holds-unnumbered (skip n) = refl
 holds-unnumbered (assign n r e) = refl
-holds-unnumbered (sequence n p q) = holds-unnumbered q
+holds-unnumbered (sequence n p q) = rw (holds-unnumbered p, holds-unnumbered q) refl
 holds-unnumbered (fall n) = refl
 holds-unnumbered (goto n t) = refl
 holds-unnumbered (branch n e p q) = rw (holds-unnumbered p, holds-unnumbered q) refl

@@ -1,9 +1,10 @@
 -- Laws of the tree of states and of the target table (`specs/States.antt`, `specs/Machine.antt`): children, default children, sound targets.
-use Prim.Native.Nat.{ℕ, _<_}
+use Prim.Native.Nat.{ℕ, _≤_, _<_}
 use mathlib.Core.Path.{_≡_, refl}
 use mathlib.Core.Logic.{_⊎_, inl, inr, _≢_}
 use mathlib.Core.Bool.{true, false, _&&_, _||_, not}
 use mathlib.Core.List.{List}
+use native.Mathlib.Omega.{arith}
 use lib.Dec.{ltb, eqb}
 use lib.ListN.{length, getD}
 use borrow.Author.Tests.{ltb-true, lt-ltb, eqb-true, eq-eqb, eqb-false, ne-eqb}
@@ -80,6 +81,30 @@ module _ (d : Design) where
       go : (isChild d s (defaultTarget d s) ≡ true) ⊎ ((hasChild d s ≡ false) × (defaultTarget d s ≡ s)) → ChildOf d s (defaultTarget d s)
       go (inl k) = child-of s (defaultTarget d s) k
       go (inr k) = absurd (true-or-false (hasChild d s) h (k .0))
+
+  -- the lowest of the children is the default child, and no child is lower than the default child
+  pub default-is : (s q : ℕ) → isChild d s q ≡ true → ((r : ℕ) → isChild d s r ≡ true → q ≤ r) → defaultTarget d s ≡ q
+  unfolding defaultTarget
+  default-is s q child least = go (lowest (isChild d s) (length (d .states))) refl
+    where
+      go : (f : Found) → lowest (isChild d s) (length (d .states)) ≡ f → foundOr s f ≡ q
+      go (At j) e =
+          let found = lowest-at (isChild d s) (length (d .states)) j e in
+          let most = least j (found .passes) in
+          let least′ : (q < j → ⊥) = (λ l. true-or-false (isChild d s q) child (found .none-lower q l)) in
+          omega arith
+      go Nowhere e = absurd (true-or-false (isChild d s q) child (lowest-none (isChild d s) (length (d .states)) e q (child-of s q child .state)))
+
+  pub default-least : (s r : ℕ) → isChild d s r ≡ true → defaultTarget d s ≤ r
+  unfolding defaultTarget
+  default-least s r child = go (lowest (isChild d s) (length (d .states))) refl
+    where
+      go : (f : Found) → lowest (isChild d s) (length (d .states)) ≡ f → foundOr s f ≤ r
+      go (At j) e =
+          let found = lowest-at (isChild d s) (length (d .states)) j e in
+          let least : (r < j → ⊥) = (λ l. true-or-false (isChild d s r) child (found .none-lower r l)) in
+          omega arith
+      go Nowhere e = absurd (true-or-false (isChild d s r) child (lowest-none (isChild d s) (length (d .states)) e r (child-of s r child .state)))
 
   -- ---- sound targets
   pub sound-child : (targets : List ℕ) (s : ℕ) → targetSound d targets s ≡ true → hasChild d s ≡ true → ChildOf d s (getD targets s 0)

@@ -1,5 +1,5 @@
-use Rattle.design.proofs.ResetRules.{states-few}
-use Rattle.calls.proofs.CallRules.{registers-few, states-kept, area-long, fresh-defaults, wrong-registers, wrong-targets, right-lengths, image-known, contents-refuse, contents-fit, run-refuses, run-refuses-contents}
+use Rattle.design.proofs.ResetRules.{states-few, fresh-defaults}
+use Rattle.calls.proofs.CallRules.{registers-few, states-kept, area-long, wrong-registers, wrong-targets, right-lengths, image-known, contents-refuse, contents-fit, run-refuses, run-refuses-contents}
 use borrow.Author.Needs.{needs}
 use Rattle.calls.proofs.runs.run.Statement.{statement}
 use Rattle.calls.proofs.runs.run.Tie as tie

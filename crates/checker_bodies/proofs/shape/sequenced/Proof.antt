@@ -6,6 +6,7 @@ use Rattle.checker_bodies.proofs.shape.sequenced.Reads as reads
 use Rattle.checker_bodies.proofs.shape.sequenced.Lts as lts
 use Rattle.checker_bodies.proofs.places.charged_unless.Reads as charged-unless-reads
 use Rattle.checker_bodies.proofs.places.lower.Reads as lower-reads
+use Rattle.checker_bodies.proofs.shape.holds_fall.Reads as holds-fall-reads
 use Rattle.checker_bodies.proofs.shape.judgement.Reads as judgement-reads
 use Rattle.checker_bodies.proofs.shape.lowest.Reads as lowest-reads
 use Rattle.checker_bodies.proofs.shape.transfers.Reads as transfers-reads
@@ -34,6 +35,12 @@ lower-requires-2 c κs = search needs
 judgement-requires : tie.Need-judgement-requires
 judgement-requires c κs = search needs
 
+holds-fall-requires : tie.Need-holds-fall-requires
+holds-fall-requires c κs = search needs
+
+holds-fall-requires-2 : tie.Need-holds-fall-requires-2
+holds-fall-requires-2 c κs = search needs
+
 returns : tie.Need-returns
 returns c = search (sequenced-rule, needs)
 
@@ -46,6 +53,8 @@ sequenced-spec =
     lower-requires
     transfers-requires
     charged-unless-requires
+    holds-fall-requires
+    holds-fall-requires-2
     transfers-requires-2
     lower-requires-2
     judgement-requires

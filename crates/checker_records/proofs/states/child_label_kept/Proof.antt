@@ -10,6 +10,21 @@ returns c = search (child-laws, needs)
 parent-requires : tie.Need-parent-requires
 parent-requires c κs = search (state-inside, needs)
 
+shared-slice-read-if2 : tie.Need-shared-slice-read-if2
+shared-slice-read-if2 c = search (child-laws, needs)
+
+returns-2 : tie.Need-returns-2
+returns-2 c = search (child-laws, needs)
+
+shared-slice-read-if3 : tie.Need-shared-slice-read-if3
+shared-slice-read-if3 c = search (child-laws, needs)
+
+cast-if3 : tie.Need-cast-if3
+cast-if3 c = search (child-laws, needs)
+
+returns-3 : tie.Need-returns-3
+returns-3 c = search (child-laws, needs)
+
 state-label-requires : tie.Need-state-label-requires
 state-label-requires c κs = search (child-laws, needs)
 
@@ -19,8 +34,8 @@ state-label-requires-2 c κs = search (state-inside, needs)
 flows-requires : tie.Need-flows-requires
 flows-requires c κs = search (child-laws, needs)
 
-returns-2 : tie.Need-returns-2
-returns-2 c = search (child-laws, needs)
+returns-4 : tie.Need-returns-4
+returns-4 c = search (child-laws, needs)
 
 pub child-label-kept-spec : {M : Type 1} → statement M
 child-label-kept-spec =
@@ -28,7 +43,12 @@ child-label-kept-spec =
     (tie.spec
     returns
     parent-requires
+    shared-slice-read-if2
+    returns-2
+    shared-slice-read-if3
+    cast-if3
+    returns-3
     state-label-requires
     state-label-requires-2
     flows-requires
-    returns-2)
+    returns-4)

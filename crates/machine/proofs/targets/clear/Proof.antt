@@ -1,6 +1,7 @@
 use Prim.Native.Nat.{_-_}
 use Rattle.model.specs.Image.{designOf}
-use Rattle.machine.proofs.TargetRules.{state-few, parent-few, entry-inside, ClearedSo, clear-begins, clear-entry, clear-inside, clear-more, clear-long, clear-all}
+use Rattle.machine.proofs.TargetRules.{state-few, parent-few, ClearedSo, clear-begins, clear-entry, clear-inside, clear-more, clear-long, clear-all}
+use Rattle.design.proofs.ResetRules.{entry-inside}
 use borrow.Author.Needs.{needs}
 use Rattle.machine.proofs.targets.clear.Statement.{statement}
 use Rattle.machine.proofs.targets.clear.Tie as tie

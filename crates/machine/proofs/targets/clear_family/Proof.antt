@@ -1,5 +1,6 @@
 use Rattle.design.proofs.ResetRules.{state-fits}
-use Rattle.machine.proofs.TargetRules.{entry-inside, clear-alone}
+use Rattle.machine.proofs.TargetRules.{clear-alone}
+use Rattle.design.proofs.ResetRules.{entry-inside}
 use borrow.Author.Needs.{needs}
 use Rattle.machine.proofs.targets.clear_family.Statement.{statement}
 use Rattle.machine.proofs.targets.clear_family.Tie as tie

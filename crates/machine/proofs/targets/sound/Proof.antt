@@ -1,4 +1,5 @@
-use Rattle.machine.proofs.TargetRules.{entry-inside, sound-alone, sound-child}
+use Rattle.machine.proofs.TargetRules.{sound-alone, sound-child}
+use Rattle.design.proofs.ResetRules.{entry-inside}
 use borrow.Author.Needs.{needs}
 use Rattle.machine.proofs.targets.sound.Statement.{statement}
 use Rattle.machine.proofs.targets.sound.Tie as tie
