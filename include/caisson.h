@@ -26,8 +26,13 @@
  * The state of a design is two areas that the host owns and lends to each call: registers,
  * CAISSON_WORD bytes each, least significant byte first, and targets, one byte for each state. Their
  * lengths are those that caisson_registers_length and caisson_targets_length answer, neither more nor
- * less. An area of length 0 may be NULL. The host may read the registers between calls. To keep the
- * parties apart it changes them only by caisson_reset, caisson_write_port and caisson_run.
+ * less. An area of length 0 may be NULL. The host may read the registers between calls.
+ *
+ * The parties are kept apart from a reset on, while nothing but caisson_reset, caisson_write_port and
+ * caisson_run changes the areas. So a host never restores them, be it from a saved copy, a file or
+ * another box. A run refuses targets that are not sound and no others: targets that are sound, but that
+ * no run from reset comes to, can show a low party a high register. After a power failure, and whenever
+ * anything else may have written an area, the host resets. No call goes back to an earlier cycle.
  *
  * Each register has a width of 1 to CAISSON_WIDTH bits and holds values below 2 to the power of it. In
  * the area it takes CAISSON_WORD bytes all the same, with zeros above its width. An assignment stores
@@ -53,7 +58,7 @@ extern "C" {
 
 /* The version of the library and the number of the image's format. CHANGELOG.md says when each moves;
    docs/FORMAT.md has the format byte by byte. */
-#define CAISSON_VERSION "2.1.0"
+#define CAISSON_VERSION "2.2.0"
 #define CAISSON_FORMAT 2
 
 /* Limits of a design table. */
@@ -116,7 +121,9 @@ enum caisson_refusal {
        goto names a sibling or the state itself and does not stand in the root. Place: the node: of
        a state its command, of a sequence or an if the whole. */
     CAISSON_SHAPE = 8,
-    /* The label of a state is not at or above the label of its parent. Place: the child. */
+    /* The label of the default child of a state that holds a fall is not at or above that state's
+       label. A state holds a fall where one stands anywhere in its body. The default child is the
+       lowest-numbered child. All other children may have any label. Place: the child. */
     CAISSON_CHILD_LABEL = 9,
     /* The context of an assignment, or a register that it reads, does not flow to the label of the
        register written. The context is the state's label and the labels of all registers read in

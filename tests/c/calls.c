@@ -1,9 +1,6 @@
 /* The library called from C: 01's lease design checked, its areas' lengths told, and run; narrow registers
    and signed operations; null slices, and what is refused. */
-#include <stdio.h>
-#include <string.h>
-
-#include "caisson.h"
+#include "expect.h"
 
 /* The lease design, 210 bytes: labels, registers, states, commands, expressions. */
 static const uint8_t lease[] = {
@@ -99,27 +96,6 @@ static const uint8_t signed_operations[] = {
     1, 4, 0, 0, 0, 0, 0, 0, /* 7: r4 */
     11, 0, 6, 0, 7, 0, 0, 0, /* 8: signed quotient of e6 and e7 */
 };
-
-static int failures;
-static int answers;
-
-static void expect(const char *what, caisson_answer got, uint32_t number, size_t place, size_t count)
-{
-    answers++;
-    if (got.number == number && got.place == place && got.count == count)
-        return;
-    fprintf(stderr, "%s: number %u place %zu count %zu, expected number %u place %zu count %zu\n", what,
-            (unsigned)got.number, got.place, got.count, (unsigned)number, place, count);
-    failures++;
-}
-
-static void expect_bytes(const char *what, const uint8_t *got, const uint8_t *expected, size_t length)
-{
-    if (memcmp(got, expected, length) == 0)
-        return;
-    fprintf(stderr, "%s: other bytes than expected\n", what);
-    failures++;
-}
 
 static void checks(void)
 {
@@ -380,7 +356,5 @@ int main(void)
     signed_readings();
     refusals();
     narrow_refusals();
-    if (failures == 0)
-        printf("calls from C: %d answers as expected\n", answers);
-    return failures != 0;
+    return report("calls from C");
 }

@@ -6,7 +6,7 @@ use crate::table::node::{Command, Expression};
 use crate::table::Table;
 
 /// A register or state with its label.
-struct Labelled {
+pub(super) struct Labelled {
     name: String,
     label: u8,
 }
@@ -93,7 +93,7 @@ fn of_register(table: &Table, register: u8) -> Labelled {
     }
 }
 
-fn of_state(table: &Table, state: u8) -> Labelled {
+pub(super) fn of_state(table: &Table, state: u8) -> Labelled {
     Labelled {
         name: state_name(table, state),
         label: table.states[usize::from(state)].label,
@@ -101,7 +101,7 @@ fn of_state(table: &Table, state: u8) -> Labelled {
 }
 
 impl Labelled {
-    fn show(&self, table: &Table) -> String {
+    pub(super) fn show(&self, table: &Table) -> String {
         let label = label_name(table, usize::from(self.label));
         format!("{} : {label}", self.name)
     }

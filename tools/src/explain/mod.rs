@@ -1,5 +1,6 @@
 //! A verdict of the library in words: the rule, the place, and what stands there.
 
+mod children;
 mod flow;
 mod lattice;
 mod place;

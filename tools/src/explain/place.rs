@@ -1,6 +1,6 @@
 //! What stands at the place of a refusal, in source form.
 
-use super::{flow, lattice, ports, registers, shape, uses};
+use super::{children, flow, lattice, ports, registers, shape, uses};
 use crate::print::body::{self, Reader};
 use crate::print::{layout, records};
 use crate::table::limits::EXPRESSION_PLACE;
@@ -25,7 +25,8 @@ fn described(image: &[u8], number: u32, place: usize) -> String {
         1 => directory(image, "a count is out of its limits"),
         2 => label(&table, place),
         3 => register(&table, place),
-        4 | 9 => state(&table, place),
+        4 => state(&table, place),
+        9 => child(&table, place),
         _ => node(&table, number, place),
     }
 }
@@ -78,7 +79,7 @@ fn register(table: &Table, register: usize) -> String {
     format!("Register {register}:\n    {text}\n\nBecause:\n{why}")
 }
 
-/// With its parent, whose label and number the rules compare with its own.
+/// With its parent, whose number the rule compares with its own.
 fn state(table: &Table, state: usize) -> String {
     let text = whole_state(table, state);
     let parent = usize::from(table.states[state].parent);
@@ -87,6 +88,14 @@ fn state(table: &Table, state: usize) -> String {
     }
     let parent_text = indented(&records::state_head(table, parent));
     format!("State {state}:\n{text}\n\nIts parent:\n{parent_text}\n")
+}
+
+/// With its parent, whose body shows the fall.
+fn child(table: &Table, child: usize) -> String {
+    let text = whole_state(table, child);
+    let parent = whole_state(table, usize::from(table.states[child].parent));
+    let why = children::reasons(table, child);
+    format!("State {child}:\n{text}\n\nIts parent:\n{parent}\n\nBecause:\n{why}")
 }
 
 fn command(table: &Table, number: usize) -> String {

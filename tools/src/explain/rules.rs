@@ -44,9 +44,6 @@ mod tests {
             assert!(!words.starts_with("The tool has no words"), "{number}");
         }
         assert_eq!(rule(rows + 1), "The tool has no words for this number.");
-        assert_eq!(
-            rule(9),
-            "The label of a state is not at or above the label of its parent."
-        );
+        assert_eq!(rule(15), "A run asks for more than 1,000,000 cycles.");
     }
 }

@@ -79,7 +79,7 @@ fn transfers(table: &Table, number: u16) -> bool {
 }
 
 /// Whether a command is another, or holds it.
-fn holds(table: &Table, outer: u16, inner: u16) -> bool {
+pub(super) fn holds(table: &Table, outer: u16, inner: u16) -> bool {
     outer == inner
         || match command(table, outer) {
             Some(Command::Sequence { first, second }) => {

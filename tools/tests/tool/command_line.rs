@@ -164,7 +164,13 @@ fn explain_shows_the_place() {
         (
             "low_child",
             9,
-            "    state s2 in s1 : l0 { goto s2 }\n\nIts parent:\n    state s1 in s0 : l1\n",
+            "    state s2 in s1 : l0 { goto s2 }\n\nIts parent:\n    state s1 in s0 : l1 { fall }\n\nBecause:\n",
+        ),
+        (
+            "spare_default",
+            9,
+            "Because:\n    s2 : l1 holds a fall: command 6\n    s3 : l0 is its default child, the lowest-numbered\n    \
+             s2 : l1 does not flow to s3 : l0\n",
         ),
         (
             "leak",

@@ -246,6 +246,40 @@ fn shapes_are_explained() {
     }
 }
 
+/// Refusal 9 names the parent with each of its falls, and the lowest such child comes first, whatever
+/// its parent. `l1` and `l2` cannot be compared.
+#[test]
+fn default_children_are_explained() {
+    let labels = "label l0 -> l1, l2, l3 label l1 -> l3 label l2 -> l3 label l3 port r : l1 = 0";
+    for (states, place, reasons) in [
+        (
+            "state a in root : l1 { if r then { skip; fall } else if r == 2 then goto a else fall }\n\
+             state b in a : l2 { goto b }\n\
+             state c in a : l0 { goto c }",
+            2,
+            "    s1 : l1 holds a fall: command 2, command 5\n\
+             \x20   s2 : l2 is its default child, the lowest-numbered\n\
+             \x20   s1 : l1 does not flow to s2 : l2\n",
+        ),
+        (
+            "state a in root : l1 { fall }\n\
+             state b in root : l1 { fall }\n\
+             state c in b : l0 { goto c }\n\
+             state d in a : l0 { goto d }",
+            3,
+            "    s2 : l1 holds a fall: command 2\n\
+             \x20   s3 : l0 is its default child, the lowest-numbered\n\
+             \x20   s2 : l1 does not flow to s3 : l0\n",
+        ),
+    ] {
+        let image = assemble(&format!("{labels}\nstate root : l0 {{ fall }}\n{states}")).unwrap();
+        let answer = library::check(&image);
+        assert_eq!((answer.number, answer.place), (9, place), "{states}");
+        let text = explain::explain(&image, answer);
+        assert!(text.ends_with(&format!("\nBecause:\n{reasons}")), "{text}");
+    }
+}
+
 /// Refusal 2 says which rule of a lattice the rows break.
 #[test]
 fn lattices_are_explained() {

@@ -1,0 +1,29 @@
+//! Why a child is refused by 9: its parent holds a fall, it is the parent's default child, and the
+//! parent's label does not flow to its own. It serves where the table has kept all rules before.
+
+use super::flow::of_state;
+use super::shape::holds;
+use crate::table::node::Command;
+use crate::table::Table;
+
+pub fn reasons(table: &Table, child: usize) -> String {
+    let parent = table.states[child].parent;
+    let falls = falls(table, table.states[usize::from(parent)].command).join(", ");
+    let parent = of_state(table, parent).show(table);
+    let child = of_state(table, child as u8).show(table);
+    format!(
+        "    {parent} holds a fall: {falls}\n\
+         \x20   {child} is its default child, the lowest-numbered\n\
+         \x20   {parent} does not flow to {child}\n"
+    )
+}
+
+/// The falls in a body, in the order of their numbers.
+fn falls(table: &Table, body: u16) -> Vec<String> {
+    let commands = table.commands.iter().enumerate();
+    commands
+        .filter(|&(_, node)| Command::of(*node) == Some(Command::Fall))
+        .filter(|&(number, _)| holds(table, body, number as u16))
+        .map(|(number, _)| format!("command {number}"))
+        .collect()
+}
