@@ -43,11 +43,17 @@ fn main() -> ExitCode {
         "{} of {} pairs were seen to differ from the top",
         findings.from_top_seen, findings.from_top
     );
+    println!(
+        "  {} of the pairs see a spare child and not its parent; {} differ where it is entered at once",
+        findings.spare, findings.spare_entered
+    );
     let able = [
         findings.hidden_differences,
         findings.too_large,
         findings.altered_seen,
         findings.from_top_seen,
+        findings.spare,
+        findings.spare_entered,
     ];
     if able.contains(&0) {
         println!("FAILED: this test would not have found a difference");

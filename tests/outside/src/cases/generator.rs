@@ -1,6 +1,7 @@
 //! The generator keeps its word: accepted designs of every size, and every fault met.
 
 use super::Areas;
+use crate::compare::children::note_children;
 use crate::compare::kinds::note_kind;
 use crate::compare::operands::note_operands;
 use crate::compare::tally::Tally;
@@ -97,6 +98,22 @@ fn kinds_are_met() {
         let size = Size::random(&mut random);
         let image = faults::spoiled(&design(&mut random, size), &[5], &mut random).image();
         note_kind(&mut tally, &image, reference::check(&image));
+    }
+    assert_eq!(missing_reasons(&tally), NONE);
+}
+
+/// Accepted designs have low children of every sort, and refusal 9 is met for every reason.
+#[test]
+fn children_are_met() {
+    let mut random = Random::new(22);
+    let mut tally = Tally::default();
+    for _ in 0..700 {
+        let size = Size::random(&mut random);
+        let table = design(&mut random, size);
+        for faults in [&[][..], &[9], &[9, 9, 9]] {
+            let image = faults::spoiled(&table, faults, &mut random).image();
+            note_children(&mut tally, &image, reference::check(&image));
+        }
     }
     assert_eq!(missing_reasons(&tally), NONE);
 }

@@ -8,6 +8,7 @@ mod lease;
 mod lengths;
 mod ports;
 mod signed;
+mod spare;
 mod values;
 mod widths;
 

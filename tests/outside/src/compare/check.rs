@@ -1,6 +1,7 @@
 //! Random images, judged by both: by check, and a share of them by the calls that tell the lengths
 //! of the areas.
 
+use super::children::note_children;
 use super::difference::Difference;
 use super::kinds::note_kind;
 use super::reasons::note_register;
@@ -87,6 +88,7 @@ impl Judges<'_> {
             tally.add(expected, image.len());
             note_register(tally, &image, expected);
             note_kind(tally, &image, expected);
+            note_children(tally, &image, expected);
         }
         Ok(())
     }

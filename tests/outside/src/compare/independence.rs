@@ -1,6 +1,7 @@
 //! Demand 3 tried on the library: matching lists have equal views.
 
 use super::areas::Areas;
+use super::children::low_children;
 use super::difference::Difference;
 use super::engine::Call;
 use super::matching::{altered, common_list, dressed, is_too_large};
@@ -31,6 +32,10 @@ pub struct Findings {
     /// Matching lists looked at from the top, where all is seen, and how many differed there.
     pub from_top: u64,
     pub from_top_seen: u64,
+    /// Matching lists at a level that sees a spare child and not its parent, and how many of them
+    /// differed there from targets that no run from reset leaves.
+    pub spare: u64,
+    pub spare_entered: u64,
 }
 
 pub fn pairs_of_seed(seed: u64, findings: &mut Findings) -> Result<(), Difference> {
@@ -90,6 +95,36 @@ fn try_pair(stage: &Stage, random: &mut Random, findings: &mut Findings) -> Resu
     let other = stage.watch(top, &lists[1], &mut starts[1].clone())?;
     findings.from_top += 1;
     findings.from_top_seen += u64::from(one != other);
+    enter_spare(stage, level, &lists, starts, findings)
+}
+
+/// The matching lists again, where views may differ: from sound targets that no run from reset leaves,
+/// by which states out of sight fall to spare children in sight.
+fn enter_spare(
+    stage: &Stage,
+    level: u8,
+    lists: &[Vec<Call>; 2],
+    mut starts: [Areas; 2],
+    findings: &mut Findings,
+) -> Result<(), Difference> {
+    let table = stage.table;
+    let sees = |state: u8| table.flows(table.states[usize::from(state)].label, level);
+    let image = Image::open(stage.image).expect("an accepted image");
+    let mut spare = low_children(&image);
+    spare.retain(|low| low.is_spare() && sees(low.child) && !sees(low.parent));
+    if spare.is_empty() {
+        return Ok(());
+    }
+    for areas in &mut starts {
+        for low in &spare {
+            areas.targets.whole()[usize::from(low.parent)] = low.child;
+        }
+    }
+    let [one, other] = &mut starts;
+    let one = stage.watch(level, &lists[0], one)?;
+    let other = stage.watch(level, &lists[1], other)?;
+    findings.spare += 1;
+    findings.spare_entered += u64::from(one != other);
     Ok(())
 }
 
@@ -111,6 +146,7 @@ fn small_design(random: &mut Random) -> Table {
         1 => designs::two_groups(),
         2 => designs::valve(),
         3 => designs::level(),
+        4 => designs::spare_child(),
         _ => {
             let size = Size {
                 labels: *random.pick(&[2, 2, 3, 4, 5, 15]),

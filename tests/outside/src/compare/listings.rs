@@ -34,13 +34,14 @@ pub fn listings_of_seed(program: &str, seed: u64) -> Result<(), Difference> {
 
 fn any_input(random: &mut Random) -> Vec<u8> {
     let size = Size::random(random);
-    let table = match random.below(10) {
+    let table = match random.below(11) {
         0 => designs::lease(),
         1 => designs::two_groups(),
         2 => designs::smallest(),
         3 => designs::valve(),
         4 => designs::powers_of_ten(),
         5 => designs::level(),
+        6 => designs::spare_child(),
         _ => design(random, size),
     };
     let count = match random.below(8) {

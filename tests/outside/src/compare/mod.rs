@@ -1,6 +1,7 @@
 //! The comparison of the proved library, and of the lister, with the reference.
 
 pub mod arguments;
+pub mod children;
 pub mod difference;
 pub mod kinds;
 pub mod listings;

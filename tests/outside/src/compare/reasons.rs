@@ -1,6 +1,7 @@
 //! Why a call answered as it did, where the number alone does not tell: several faults at once, of
 //! which one counts, and values on either side of a width. Each reason has to be met.
 
+use super::children::note_walk;
 use super::engine::Call;
 use super::operands::note_operands;
 use super::tally::Tally;
@@ -79,6 +80,7 @@ fn note_run(tally: &mut Tally, image: &Image, lent: &Lent, cycles: u32, answer: 
     tally.note("14 by an unsound target", by_target);
     if answer.number == 0 && cycles > 0 {
         note_operands(tally, image, lent.registers, lent.targets);
+        note_walk(tally, lent.image, lent.registers, lent.targets);
     }
 }
 

@@ -1,9 +1,10 @@
-//! The worked designs: document 01's lease design, the one with two groups, a valve for request E2 and
-//! a level below zero for E3; and small ones, each for one sentence.
+//! The worked designs: document 01's lease design, the one with two groups, a valve for request E2, a
+//! level below zero for E3 and a spare child for E4; and small ones, each for one sentence.
 
 mod largest;
 mod level;
 mod small;
+mod spare;
 mod valve;
 
 pub use largest::largest;
@@ -13,6 +14,7 @@ pub use small::{
     powers_of_ten, seen_by_the_child, tests_one_more, three_levels, three_states,
     timer_counted_by_a_high_state, timer_is_a_port, with_width,
 };
+pub use spare::{add_children, add_group, group, spare_child};
 pub use valve::valve;
 
 use crate::table::Table;
@@ -97,8 +99,15 @@ pub fn two_groups() -> Table {
 }
 
 /// The designs that every comparison takes besides the random ones.
-pub fn worked() -> [Table; 5] {
-    [lease(), two_groups(), valve(), level(), smallest()]
+pub fn worked() -> [Table; 6] {
+    [
+        lease(),
+        two_groups(),
+        valve(),
+        level(),
+        spare_child(),
+        smallest(),
+    ]
 }
 
 /// The smallest design that can be accepted: 46 bytes.

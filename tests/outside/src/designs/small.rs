@@ -81,11 +81,11 @@ pub fn timer_counted_by_a_high_state() -> Table {
     table
 }
 
-/// The lease design with state 2 raised and its child 4 lowered.
+/// The lease design with state 2 raised and its default child 3 lowered.
 pub fn low_child() -> Table {
     let mut table = super::lease();
     table.states[2].label = 1;
-    table.states[4].label = 0;
+    table.states[3].label = 0;
     table
 }
 

@@ -2,6 +2,7 @@
 //! gives them, and operations with their values. They are asserted of the reference, and stored for the
 //! proved program.
 
+mod children;
 mod flow;
 mod lattices;
 mod nodes;
@@ -29,6 +30,7 @@ pub fn all() -> Vec<Example> {
     examples.extend(operations::examples());
     examples.extend(shape::examples());
     examples.extend(ports::examples());
+    examples.extend(children::examples());
     examples.extend(flow::examples());
     examples
 }

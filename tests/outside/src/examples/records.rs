@@ -1,7 +1,7 @@
-//! Refusals 1, 3, 4 and 9: the directory, registers and states.
+//! Refusals 1, 3 and 4: the directory, registers and states.
 
 use super::{accepted, bytes, changed, refused, Example};
-use crate::designs::{lease, low_child, smallest, two_groups};
+use crate::designs::{lease, smallest, two_groups};
 
 pub fn examples() -> Vec<Example> {
     let image = lease().image();
@@ -63,6 +63,5 @@ pub fn examples() -> Vec<Example> {
             4,
             0,
         ),
-        refused("9: label 0 under label 1", &low_child(), 9, 4),
     ]
 }

@@ -24,7 +24,7 @@ pub struct Author<'a> {
 #[derive(Default)]
 struct Scope {
     label: u8,
-    has_child: bool,
+    may_fall: bool,
     gotos: Vec<u8>,
     cut: Cut,
 }
@@ -56,7 +56,7 @@ impl<'a> Author<'a> {
         let own = self.table.states[state];
         self.scope = Scope {
             label: own.label,
-            has_child: !self.table.children(state).is_empty(),
+            may_fall: self.may_fall(state),
             gotos: if state == 0 {
                 Vec::new()
             } else {
@@ -65,6 +65,14 @@ impl<'a> Author<'a> {
             cut: self.choose_cut(),
         };
         self.table.states[state].command = self.transfer(size, DEEPEST, &[own.label]);
+    }
+
+    /// There is a default child, and it is at or above the state.
+    fn may_fall(&self, state: usize) -> bool {
+        let label = |state: usize| self.table.states[state].label;
+        let children = self.table.children(state);
+        let default = children.first().copied().map(usize::from);
+        default.is_some_and(|child| self.table.flows(label(state), label(child)))
     }
 
     pub fn finish(self) -> Vec<Slot> {
@@ -141,7 +149,7 @@ impl<'a> Author<'a> {
     }
 
     fn leave(&mut self, context: &[u8]) -> u16 {
-        let falls = self.scope.has_child && self.flows(context, self.scope.label);
+        let falls = self.scope.may_fall && self.flows(context, self.scope.label);
         let table = &self.table;
         let gotos: Vec<u8> = self
             .scope

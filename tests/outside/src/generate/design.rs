@@ -54,24 +54,36 @@ fn sharpen(random: &mut Random, table: &mut Table) {
     }
 }
 
-/// A tree of some shape; labels rise from parent to child.
+/// A tree of some shape; labels rise from parent to child, but for spare children, which have any.
 fn states(random: &mut Random, table: &Table, count: usize) -> Vec<State> {
-    let shape = random.below(4);
+    let shape = random.below(5);
+    let groups = count.div_ceil(4);
     let stay = random.below(100);
+    let spare = *random.pick(&[0, 30, 60]);
     let mut states = vec![State::default()];
     for number in 1..count {
         let parent = match shape {
             0 => number - 1,
             1 => 0,
             2 => random.between(number.saturating_sub(4), number - 1),
+            // Groups below the root, and children below these.
+            3 if number <= groups => 0,
+            3 => random.between(1, groups),
             _ => random.below(number),
         };
+        // The body of a state whose default child is a spare one holds no fall: rather few.
+        let is_default = !states[1..]
+            .iter()
+            .any(|state| usize::from(state.parent) == parent);
+        let spare = if is_default { spare / 4 } else { spare };
         let below = states[parent].label;
         let above: Vec<u8> = (0..table.rows.len() as u8)
             .filter(|&label| table.flows(below, label))
             .collect();
         // Many equal labels, so that there are siblings to go to.
-        let label = if random.percent(stay) {
+        let label = if random.percent(spare) {
+            random.below(table.rows.len()) as u8
+        } else if random.percent(stay) {
             below
         } else {
             *random.pick(&above)

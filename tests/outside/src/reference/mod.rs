@@ -1,4 +1,4 @@
-//! Document 01 with requests E1 to E3 of document 02, implemented for clarity: tables and passes over
+//! Document 01 with requests E1 to E4 of document 02, implemented for clarity: tables and passes over
 //! node numbers, no recursion in the checker, so that it shares as little as possible with the proved
 //! library.
 

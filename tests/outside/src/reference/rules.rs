@@ -17,7 +17,8 @@ struct States {
     count: usize,
     parent: [u8; MOST_STATES],
     label: [u8; MOST_STATES],
-    has_child: [bool; MOST_STATES],
+    /// The lowest-numbered child.
+    default_child: [Option<u8>; MOST_STATES],
 }
 
 pub fn judge(image: &Image, labels: &Labels) -> Result<(), Refusal> {
@@ -25,7 +26,7 @@ pub fn judge(image: &Image, labels: &Labels) -> Result<(), Refusal> {
     let around = Surroundings::of(image);
     judge_shape(image, &states, &around)?;
     judge_ports(image)?;
-    judge_children(&states, labels)?;
+    judge_children(image, &states, &around, labels)?;
     judge_flow(image, &states, &around, labels)
 }
 
@@ -35,13 +36,13 @@ impl States {
             count: image.states().len(),
             parent: [0; MOST_STATES],
             label: [0; MOST_STATES],
-            has_child: [false; MOST_STATES],
+            default_child: [None; MOST_STATES],
         };
         for (number, state) in image.states().enumerate() {
             states.parent[number] = state.parent;
             states.label[number] = state.label;
             if number != 0 {
-                states.has_child[usize::from(state.parent)] = true;
+                states.default_child[usize::from(state.parent)].get_or_insert(number as u8);
             }
         }
         states
@@ -124,7 +125,7 @@ fn judge_shape(image: &Image, states: &States, around: &Surroundings) -> Result<
         let (transfer, holds) = match node.kind {
             SEQUENCE => (part(node.b), !part(node.a)),
             IF => (part(node.b) && part(node.c), part(node.b) == part(node.c)),
-            FALL => (true, states.has_child[usize::from(state)]),
+            FALL => (true, states.default_child[usize::from(state)].is_some()),
             GOTO => (true, states.may_go(state, node.which)),
             _ => (false, true),
         };
@@ -150,11 +151,24 @@ fn judge_ports(image: &Image) -> Result<(), Refusal> {
     Ok(())
 }
 
-/// Refusal 9: every child's label is at or above its parent's.
-fn judge_children(states: &States, labels: &Labels) -> Result<(), Refusal> {
+/// Refusal 9, request E4: the default child of a state that holds a fall, anywhere in its body, is at
+/// or above that state. Every other child may have any label.
+fn judge_children(
+    image: &Image,
+    states: &States,
+    around: &Surroundings,
+    labels: &Labels,
+) -> Result<(), Refusal> {
+    let mut holds_fall = [false; MOST_STATES];
+    for (number, node) in image.commands().enumerate() {
+        if node.kind == FALL {
+            holds_fall[usize::from(around.state[number])] = true;
+        }
+    }
     for child in 1..states.count {
         let parent = usize::from(states.parent[child]);
-        if !labels.flow(only(states.label[parent]), states.label[child]) {
+        let entered = holds_fall[parent] && states.default_child[parent] == Some(child as u8);
+        if entered && !labels.flow(only(states.label[parent]), states.label[child]) {
             return Err(Refusal::new(9, child));
         }
     }

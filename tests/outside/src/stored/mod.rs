@@ -9,6 +9,7 @@ mod record;
 mod runs;
 mod script;
 mod signed;
+mod spare;
 mod text;
 mod values;
 mod widths;
@@ -33,6 +34,7 @@ fn records() -> Vec<Record> {
     values::add(&mut script);
     signed::add(&mut script);
     runs::add(&mut script);
+    spare::add(&mut script);
     ports::add(&mut script);
     widths::add(&mut script);
     areas::add(&mut script);

@@ -1,6 +1,7 @@
 //! Faults of every kind. Each function puts one fault into a design that keeps the rules;
 //! the reference says afterwards which refusal it comes to.
 
+mod children;
 mod directory;
 mod flow;
 mod nodes;
@@ -41,7 +42,7 @@ pub fn spoil(table: &mut Table, number: u32, random: &mut Random) {
         7 => nodes::spoil_depth(table, random),
         8 => shape::spoil_shape(table, random),
         16 => shape::spoil_port(table, random),
-        9 => shape::spoil_child(table, random),
+        9 => children::spoil_child(table, random),
         10 => flow::spoil_assign(table, random),
         11 => flow::spoil_goto(table, random),
         12 => flow::spoil_fall(table, random),

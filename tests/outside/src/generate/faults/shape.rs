@@ -1,4 +1,4 @@
-//! Faults in shape, in what assignments name and in the labels of children (refusals 8, 16 and 9).
+//! Faults in shape and in what assignments name (refusals 8 and 16).
 
 use super::flow::Tree;
 use crate::generate::random::Random;
@@ -84,28 +84,7 @@ pub fn spoil_port(table: &mut Table, random: &mut Random) {
     }
 }
 
-/// A label that is not at or above the parent's, in a parent or in a child.
-pub fn spoil_child(table: &mut Table, random: &mut Random) {
-    let labels = table.rows.len();
-    for _ in 0..20 {
-        let child = random.between(1, table.states.len() - 1);
-        let parent = usize::from(table.states[child].parent);
-        // The root keeps its label.
-        let changed = if parent != 0 && random.percent(30) {
-            parent
-        } else {
-            child
-        };
-        let old = table.states[changed].label;
-        table.states[changed].label = random.below(labels) as u8;
-        if !table.flows(table.states[parent].label, table.states[child].label) {
-            return;
-        }
-        table.states[changed].label = old;
-    }
-}
-
-fn leaf(kind: u8, which: u8) -> Node {
+pub fn leaf(kind: u8, which: u8) -> Node {
     Node {
         kind,
         which,
@@ -113,7 +92,7 @@ fn leaf(kind: u8, which: u8) -> Node {
     }
 }
 
-fn numbers(table: &Table, wanted: impl Fn(&Node) -> bool) -> Vec<usize> {
+pub fn numbers(table: &Table, wanted: impl Fn(&Node) -> bool) -> Vec<usize> {
     (0..table.commands.len())
         .filter(|&number| wanted(&table.commands[number]))
         .collect()
