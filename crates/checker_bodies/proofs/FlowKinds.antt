@@ -1,5 +1,5 @@
 -- What the flow pass finds at a command of each kind, from what it finds at the parts.
-use Prim.Native.Nat.{ℕ, zero, suc, min, _+_, _≤_, _<_}
+use Prim.Native.Nat.{ℕ, zero, suc, _+_, _≤_, _<_}
 use mathlib.Core.Path.{_≡_, refl, sym, _∙_, ap}
 use mathlib.Core.Bool.{Bool}
 use mathlib.Core.List.{List, [], _∷_, _++_}
@@ -9,14 +9,17 @@ use lib.Bits.{bitAnd, and-le-l}
 use lib.ListN.{length}
 use Rattle.model.specs.declared.Refusal.{Refusal}
 use Rattle.model.specs.declared.Answer.{Answer}
+use Rattle.model.specs.declared.Answer.the-variants.{Accepted}
 use Rattle.model.specs.Limits.{commandsMax}
 use Rattle.model.specs.Image.{Design as Table, Node, designOf, commandAt}
 use Rattle.model.specs.Lattice.{allFlowTo, stateLabel}
 use Rattle.model.specs.Kinds.{skips, sequences, falls, goes, branches, commandKind}
 use Rattle.model.specs.Trees.{exprOf, cmdOf, bodyOf}
-use Rattle.model.specs.Flow.{refusedUnless, labelsRead, flowFaults, stateFlowFaults, nearest, flowAnswer, flowRefusal}
+use Rattle.model.specs.Flow.{refusedUnless, labelsRead, flowFaults, stateFlowFaults, firstOf, flowAnswer, flowRefusal}
+use Rattle.model.specs.Verdict.{_before_}
 use Rattle.model.specs.Rules.{CommandHolds}
-use Rattle.model.proofs.Laws.Faults.{nearest-append}
+use Rattle.model.proofs.Laws.Firsts.{AreRefusals, first-append, first-stays, refusals-join}
+use Rattle.model.proofs.Exact.Flows.{flow-faults, state-flow-faults}
 use Rattle.model.proofs.Laws.Trees.{cmd-skip, cmd-sequence, cmd-fall, cmd-goto, cmd-branch}
 use Rattle.model.specs.Indices.{joinBelow}
 use native.Mathlib.Numerals.{add-one}
@@ -26,10 +29,10 @@ use Rattle.design.proofs.Laws.{labels-count, states-count, expressions-count, r
 use Rattle.design.proofs.FieldRules.{body-is, body-below, command-at, command-place-inside, command-below, command-kind-is, command-kind-of, item-is, a-is, b-is, c-is, command-holds, named-state, condition, sequence-a-below, sequence-b-below, branch-b-below, branch-c-below, lower-command, expression-at}
 use Rattle.design.specs.Kept.{RecordsKept}
 use Rattle.checker_bodies.specs.Places.{placeUnless}
-use Rattle.checker_bodies.specs.Flows.{MaskOf, Naming, Gathering, Assigning, Flowing, answerAmong}
+use Rattle.checker_bodies.specs.Flows.{MaskOf, Naming, Gathering, Assigning, Flowing, answerAmong, FirstAt}
 use Rattle.checker_bodies.proofs.PlaceRules.{commands-few}
 use Rattle.checker_bodies.proofs.Masks.{mask-both, mask-row}
-use Rattle.checker_bodies.proofs.FlowRules.{answer-none, answer-lower, answer-charged, state-label-is, state-label-below}
+use Rattle.checker_bodies.proofs.FlowRules.{answer-at, answer-none, first-charged, first-found, first-passed, state-label-is, state-label-below}
 
 -- a kind that is no assignment, sequence, fall, goto or if is a skip
 skip-kind : (d : Table) (n k : ℕ) (x : Node) → (k ≡ 1 → ⊥) → (k ≡ 2 → ⊥) → (k ≡ 3 → ⊥) → (k ≡ 4 → ⊥) → (k ≡ 5 → ⊥) → CommandHolds d n (commandKind k) x → commandKind k ≡ skips
@@ -104,53 +107,79 @@ module _ {image : List ℕ} {registersAt statesAt place expressionsAt s n : ℕ}
       record { design = flowing .design; known = flowing .known; state = record { describes = flowing .known .describes; state = flowing .state; begins = flowing .states-begin } }
 
   -- ---- what the pass finds
-  charged : {r : Refusal} (b : Bool) → flowRefusal (commandKind (commandAt (designOf image) n .kind)) ≡ r → answerAmong (designOf image) (placeUnless b n) ≡ nearest (refusedUnless b r n)
-  charged b e = answer-charged (designOf image) b (command-below (flowing .command)) (commands-few (flowing .known .describes)) e
+  few : length (designOf image .commands) ≤ commandsMax
+  few = commands-few (flowing .known .describes)
 
-  pub flow-sequence :
-      {k a b r context : ℕ} {labels : List ℕ} (p q : ℕ)
-      → k ≡ 2
-      → k ≡ nodeIn image place n .kind
-      → a ≡ nodeIn image place n .a
-      → b ≡ nodeIn image place n .b
-      → ((labels : List ℕ) → MaskOf (designOf image .rows) labels context → answerAmong (designOf image) p ≡ nearest (flowFaults (designOf image) s labels (cmdOf (designOf image) a)))
-      → ((labels : List ℕ) → MaskOf (designOf image .rows) labels context → answerAmong (designOf image) q ≡ nearest (flowFaults (designOf image) s labels (cmdOf (designOf image) b)))
-      → r ≡ min p q
-      → MaskOf (designOf image .rows) labels context
-      → answerAmong (designOf image) r ≡ nearest (flowFaults (designOf image) s labels (cmdOf (designOf image) n))
-  unfolding commandKind flowFaults
-  flow-sequence {a = a} {b = b} {labels = labels} p q f e fa fb fp fq fr mask =
-      let d = designOf image in
-      let here = flowing .command in
-      let tree = cmd-sequence d n (command-kind-of here sequences f e refl) (command-holds here f e .1) (command-holds here f e .2) in
-      let first = a-is here fa in
-      let second = b-is here fb in
-      rw fr (answer-lower d p q ∙ rw (fp labels mask, fq labels mask, first, second, tree) (sym (nearest-append (flowFaults d s labels (cmdOf d (commandAt d n .a))) (flowFaults d s labels (cmdOf d (commandAt d n .b))))))
+  charged : {r : Refusal} (b : Bool) → flowRefusal (commandKind (commandAt (designOf image) n .kind)) ≡ r → FirstAt (designOf image) (placeUnless b n) (refusedUnless b r n)
+  charged b e = first-charged (designOf image) b (command-below (flowing .command)) few e
 
-  pub flow-branch :
-      {k e b c m r context : ℕ} {labels : List ℕ} (p q : ℕ)
-      → k ≡ 5
-      → k ≡ nodeIn image place n .kind
-      → e ≡ nodeIn image place n .a
-      → b ≡ nodeIn image place n .b
-      → c ≡ nodeIn image place n .c
-      → MaskOf (designOf image .rows) (labelsRead (designOf image) (exprOf (designOf image) e)) m
-      → ((labels : List ℕ) → MaskOf (designOf image .rows) labels (bitAnd context m) → answerAmong (designOf image) p ≡ nearest (flowFaults (designOf image) s labels (cmdOf (designOf image) b)))
-      → ((labels : List ℕ) → MaskOf (designOf image .rows) labels (bitAnd context m) → answerAmong (designOf image) q ≡ nearest (flowFaults (designOf image) s labels (cmdOf (designOf image) c)))
-      → r ≡ min p q
-      → MaskOf (designOf image .rows) labels context
-      → answerAmong (designOf image) r ≡ nearest (flowFaults (designOf image) s labels (cmdOf (designOf image) n))
-  unfolding commandKind flowFaults
-  flow-branch {e = e} {b = b} {c = c} {labels = labels} p q f g fe fb fc read fp fq fr mask =
-      let d = designOf image in
-      let here = flowing .command in
-      let tree = cmd-branch d n (command-kind-of here branches f g refl) (command-holds here f g .2) (command-holds here f g .3) in
-      let test = a-is here fe in
-      let first = b-is here fb in
-      let second = c-is here fc in
-      let inner = labels ++ labelsRead d (exprOf d (commandAt d n .a)) in
-      let both : MaskOf (d .rows) inner _ = mask-both mask (rw test at read) in
-      rw fr (answer-lower d p q ∙ rw (fp inner both, fq inner both, first, second, tree) (sym (nearest-append (flowFaults d s inner (cmdOf d (commandAt d n .b))) (flowFaults d s inner (cmdOf d (commandAt d n .c))))))
+  -- a sequence: the first part's, unless it has none
+  module _ {k a b : ℕ} (kind : k ≡ 2) (byte : k ≡ nodeIn image place n .kind) (first : a ≡ nodeIn image place n .a) (second : b ≡ nodeIn image place n .b) where
+    sequence-faults : (labels : List ℕ) → flowFaults (designOf image) s labels (cmdOf (designOf image) n) ≡ flowFaults (designOf image) s labels (cmdOf (designOf image) a) ++ flowFaults (designOf image) s labels (cmdOf (designOf image) b)
+    unfolding commandKind flowFaults
+    sequence-faults labels =
+        let here = flowing .command in
+        let tree = cmd-sequence (designOf image) n (command-kind-of here sequences kind byte refl) (command-holds here kind byte .1) (command-holds here kind byte .2) in
+        rw (tree, a-is here first, b-is here second)
+
+    pub sequence-stops :
+        {context : ℕ} {labels : List ℕ} (p : ℕ)
+        → p < commandsMax
+        → ((labels : List ℕ) → MaskOf (designOf image .rows) labels context → FirstAt (designOf image) p (flowFaults (designOf image) s labels (cmdOf (designOf image) a)))
+        → MaskOf (designOf image .rows) labels context
+        → FirstAt (designOf image) p (flowFaults (designOf image) s labels (cmdOf (designOf image) n))
+    sequence-stops {labels = labels} p l found mask =
+        rw (sequence-faults labels) (first-found (designOf image) p _ (flow-faults (designOf image) s labels (cmdOf (designOf image) a) .refusals) (found labels mask) l)
+
+    pub sequence-goes-on :
+        {context : ℕ} {labels : List ℕ} (p q : ℕ)
+        → commandsMax ≤ p
+        → ((labels : List ℕ) → MaskOf (designOf image .rows) labels context → FirstAt (designOf image) p (flowFaults (designOf image) s labels (cmdOf (designOf image) a)))
+        → ((labels : List ℕ) → MaskOf (designOf image .rows) labels context → FirstAt (designOf image) q (flowFaults (designOf image) s labels (cmdOf (designOf image) b)))
+        → MaskOf (designOf image .rows) labels context
+        → FirstAt (designOf image) q (flowFaults (designOf image) s labels (cmdOf (designOf image) n))
+    sequence-goes-on {labels = labels} p q l found further mask =
+        rw (sequence-faults labels) (first-passed (designOf image) p _ (flow-faults (designOf image) s labels (cmdOf (designOf image) a) .refusals) (found labels mask) l few (further labels mask))
+
+  -- an if: the first branch's, unless it has none
+  module _
+      {k e b c m : ℕ}
+      (kind : k ≡ 5)
+      (byte : k ≡ nodeIn image place n .kind)
+      (test : e ≡ nodeIn image place n .a)
+      (first : b ≡ nodeIn image place n .b)
+      (second : c ≡ nodeIn image place n .c)
+      (read : MaskOf (designOf image .rows) (labelsRead (designOf image) (exprOf (designOf image) e)) m)
+    where
+      abbrev inside : List ℕ → List ℕ
+      inside labels = labels ++ labelsRead (designOf image) (exprOf (designOf image) e)
+
+      branch-faults : (labels : List ℕ) → flowFaults (designOf image) s labels (cmdOf (designOf image) n) ≡ flowFaults (designOf image) s (inside labels) (cmdOf (designOf image) b) ++ flowFaults (designOf image) s (inside labels) (cmdOf (designOf image) c)
+      unfolding commandKind flowFaults
+      branch-faults labels =
+          let here = flowing .command in
+          let tree = cmd-branch (designOf image) n (command-kind-of here branches kind byte refl) (command-holds here kind byte .2) (command-holds here kind byte .3) in
+          rw (tree, a-is here test, b-is here first, c-is here second)
+
+      pub branch-stops :
+          {context : ℕ} {labels : List ℕ} (p : ℕ)
+          → p < commandsMax
+          → ((labels : List ℕ) → MaskOf (designOf image .rows) labels (bitAnd context m) → FirstAt (designOf image) p (flowFaults (designOf image) s labels (cmdOf (designOf image) b)))
+          → MaskOf (designOf image .rows) labels context
+          → FirstAt (designOf image) p (flowFaults (designOf image) s labels (cmdOf (designOf image) n))
+      branch-stops {labels = labels} p l found mask =
+          rw (branch-faults labels) (first-found (designOf image) p _ (flow-faults (designOf image) s (inside labels) (cmdOf (designOf image) b) .refusals) (found (inside labels) (mask-both mask read)) l)
+
+      pub branch-goes-on :
+          {context : ℕ} {labels : List ℕ} (p q : ℕ)
+          → commandsMax ≤ p
+          → ((labels : List ℕ) → MaskOf (designOf image .rows) labels (bitAnd context m) → FirstAt (designOf image) p (flowFaults (designOf image) s labels (cmdOf (designOf image) b)))
+          → ((labels : List ℕ) → MaskOf (designOf image .rows) labels (bitAnd context m) → FirstAt (designOf image) q (flowFaults (designOf image) s labels (cmdOf (designOf image) c)))
+          → MaskOf (designOf image .rows) labels context
+          → FirstAt (designOf image) q (flowFaults (designOf image) s labels (cmdOf (designOf image) n))
+      branch-goes-on {labels = labels} p q l found further mask =
+          let both = mask-both mask read in
+          rw (branch-faults labels) (first-passed (designOf image) p _ (flow-faults (designOf image) s (inside labels) (cmdOf (designOf image) b) .refusals) (found (inside labels) both) l few (further (inside labels) both))
 
   pub flow-fall :
       {k r context : ℕ} {b : Bool} {labels : List ℕ}
@@ -159,11 +188,11 @@ module _ {image : List ℕ} {registersAt statesAt place expressionsAt s n : ℕ}
       → ((labels : List ℕ) → MaskOf (designOf image .rows) labels context → b ≡ allFlowTo (designOf image .rows) labels (stateLabel (designOf image) s))
       → r ≡ placeUnless b n
       → MaskOf (designOf image .rows) labels context
-      → answerAmong (designOf image) r ≡ nearest (flowFaults (designOf image) s labels (cmdOf (designOf image) n))
+      → FirstAt (designOf image) r (flowFaults (designOf image) s labels (cmdOf (designOf image) n))
   unfolding commandKind flowFaults flowRefusal
   flow-fall {b = b} {labels = labels} f e fb fr mask =
       let kind = command-kind-of (flowing .command) falls f e refl in
-      rw fr (charged b (ap flowRefusal kind) ∙ rw (fb labels mask, cmd-fall (designOf image) n kind) refl)
+      rw (fr, cmd-fall (designOf image) n kind, ← (fb labels mask)) (charged b (ap flowRefusal kind))
 
   pub flow-goto :
       {k t r context : ℕ} {b : Bool} {labels : List ℕ}
@@ -173,12 +202,12 @@ module _ {image : List ℕ} {registersAt statesAt place expressionsAt s n : ℕ}
       → ((labels : List ℕ) → MaskOf (designOf image .rows) labels context → b ≡ allFlowTo (designOf image .rows) labels (stateLabel (designOf image) t))
       → r ≡ placeUnless b n
       → MaskOf (designOf image .rows) labels context
-      → answerAmong (designOf image) r ≡ nearest (flowFaults (designOf image) s labels (cmdOf (designOf image) n))
+      → FirstAt (designOf image) r (flowFaults (designOf image) s labels (cmdOf (designOf image) n))
   unfolding commandKind flowFaults flowRefusal
   flow-goto {t = t} {b = b} {labels = labels} f e ft fb fr mask =
       let named = item-is (flowing .command) ft in
       let kind = command-kind-of (flowing .command) goes f e refl in
-      rw fr (charged b (ap flowRefusal kind) ∙ rw (fb labels mask, named, cmd-goto (designOf image) n kind) refl)
+      rw (fr, cmd-goto (designOf image) n kind, ← named, ← (fb labels mask)) (charged b (ap flowRefusal kind))
 
   pub flow-skip :
       {k context : ℕ} {labels : List ℕ}
@@ -189,13 +218,13 @@ module _ {image : List ℕ} {registersAt statesAt place expressionsAt s n : ℕ}
       → (k ≡ 4 → ⊥)
       → (k ≡ 5 → ⊥)
       → MaskOf (designOf image .rows) labels context
-      → answerAmong (designOf image) commandsMax ≡ nearest (flowFaults (designOf image) s labels (cmdOf (designOf image) n))
-  unfolding flowFaults nearest
+      → FirstAt (designOf image) commandsMax (flowFaults (designOf image) s labels (cmdOf (designOf image) n))
+  unfolding flowFaults firstOf
   flow-skip {k} e a b c f g mask =
       let d = designOf image in
-      rw (cmd-skip d n (command-kind-of (flowing .command) skips refl e (skip-kind d n k (commandAt d n) a b c f g (command-holds (flowing .command) refl e)))) (answer-none d (commands-few (flowing .known .describes)))
+      rw (cmd-skip d n (command-kind-of (flowing .command) skips refl e (skip-kind d n k (commandAt d n) a b c f g (command-holds (flowing .command) refl e)))) (record { says = answer-none d few; command = λ h. absurd (omega arith) })
 
-pub ruleset flow-laws = (command-place-inside, assigning, mask-small, condition-gathering, goto-naming, fall-naming, flow-sequence, flow-branch, flow-fall, flow-goto, flow-skip)
+pub ruleset flow-laws = (command-place-inside, assigning, mask-small, condition-gathering, goto-naming, fall-naming, sequence-stops, sequence-goes-on, branch-stops, branch-goes-on, flow-fall, flow-goto, flow-skip)
 
 -- ---- states
 module _ {image : List ℕ} {x : Design} (known : RecordsKept image x) where
@@ -231,28 +260,54 @@ module _ {image : List ℕ} {x : Design} (known : RecordsKept image x) where
       → n ≡ stateIn image (x .«states_at») s .command
       → m ≡ rowIn image l
       → m < 65536
-      → ((labels : List ℕ) → MaskOf (designOf image .rows) labels m → answerAmong (designOf image) a ≡ nearest (flowFaults (designOf image) s labels (cmdOf (designOf image) n)))
-      → answerAmong (designOf image) a ≡ nearest (stateFlowFaults (designOf image) s)
+      → ((labels : List ℕ) → MaskOf (designOf image .rows) labels m → FirstAt (designOf image) a (flowFaults (designOf image) s labels (cmdOf (designOf image) n)))
+      → FirstAt (designOf image) a (stateFlowFaults (designOf image) s)
   unfolding stateFlowFaults bodyOf
   state-flow-rule {s} a h fl fn fm small fa = rw (body-is (known .describes) h fn) at (fa (stateLabel (designOf image) s ∷ []) (state-mask h fl fm small))
 
--- the lowest fault of the states before s
-pub record NearestSo (d : Table) (s lowest : ℕ) : Type 0 where
-  pub is : answerAmong d lowest ≡ nearest (joinBelow (stateFlowFaults d) s)
+-- the states before s have no fault
+pub record NoneSo (d : Table) (s : ℕ) : Type 0 where
+  pub is : firstOf (joinBelow (stateFlowFaults d) s) ≡ Accepted 0
 
-module _ {d : Table} where
-  pub nearest-one-more : {s so r : ℕ} (here : ℕ) → NearestSo d s so → answerAmong d here ≡ nearest (stateFlowFaults d s) → r ≡ min so here → NearestSo d (s + 1) r
-  unfolding joinBelow
-  nearest-one-more {s} {so} here before own r =
-      record { is = rw r (answer-lower d so here ∙ rw (before .is, own, add-one s) (sym (nearest-append (joinBelow (stateFlowFaults d) s) (stateFlowFaults d s)))) }
+module _ (d : Table) where
+  refusals : (s : ℕ) → AreRefusals (stateFlowFaults d s)
+  refusals s = state-flow-faults d s .refusals
 
-pub nearest-none-yet : {image : List ℕ} {x : Design} → RecordsKept image x → NearestSo (designOf image) 0 commandsMax
-unfolding joinBelow nearest
-nearest-none-yet {image} known = record { is = answer-none (designOf image) (commands-few (known .describes)) }
+  -- what the states before s and s itself have, where those before have none
+  one-further : (s : ℕ) → NoneSo d s → firstOf (joinBelow (stateFlowFaults d) (suc s)) ≡ firstOf (stateFlowFaults d s)
+  unfolding joinBelow _before_
+  one-further s so = first-append (stateFlowFaults d s) (refusals-join (stateFlowFaults d) s refusals) ∙ rw (so .is)
 
-pub nearest-of-all : {image : List ℕ} {x : Design} {s r : ℕ} {a : Answer} → RecordsKept image x → NearestSo (designOf image) s r → s ≤ x .states → x .states ≤ s → a ≡ answerAmong (designOf image) r → a ≡ flowAnswer (designOf image)
+pub none-yet : (d : Table) → NoneSo d 0
+unfolding joinBelow firstOf
+none-yet d = record { is = refl }
+
+pub none-more : {image : List ℕ} {x : Design} {s : ℕ} (place : ℕ) → RecordsKept image x → NoneSo (designOf image) s → FirstAt (designOf image) place (stateFlowFaults (designOf image) s) → commandsMax ≤ place → NoneSo (designOf image) (s + 1)
+none-more {image} {s = s} place known so here l =
+    let few = commands-few (known .describes) in
+    record { is = rw (add-one s) (one-further (designOf image) s so ∙ (sym (here .says) ∙ answer-none (designOf image) (omega arith))) }
+
+pub some-here :
+    {image : List ℕ} {x : Design} {s place : ℕ} {a : Answer}
+    → RecordsKept image x
+    → NoneSo (designOf image) s
+    → FirstAt (designOf image) place (stateFlowFaults (designOf image) s)
+    → s < x .states
+    → place < commandsMax
+    → a ≡ answerAmong (designOf image) place
+    → a ≡ flowAnswer (designOf image)
 unfolding flowAnswer
-nearest-of-all {image} {x} {s} known so l m e =
+some-here {image} {x} {s} {place} known so here l m e =
+    let d = designOf image in
+    let count = states-count (known .describes) in
+    let refused = answer-at d (here .command m) in
+    e ∙ (refused ∙ sym (first-stays (stateFlowFaults d) (refusals d) (one-further d s so ∙ (sym (here .says) ∙ refused)) (length (d .states)) (omega arith)))
+
+pub none-of-all : {image : List ℕ} {x : Design} {s : ℕ} → RecordsKept image x → NoneSo (designOf image) s → s ≤ x .states → x .states ≤ s → Accepted 0 ≡ flowAnswer (designOf image)
+unfolding flowAnswer
+none-of-all {image} {x} {s} known so l m =
     let count = states-count (known .describes) in
     let end : s ≡ length (designOf image .states) = omega arith in
-    e ∙ so .is ∙ ap (λ (n : ℕ). nearest (joinBelow (stateFlowFaults (designOf image)) n)) end
+    sym (so .is) ∙ ap (λ (n : ℕ). firstOf (joinBelow (stateFlowFaults (designOf image)) n)) end
+
+pub ruleset faults-laws = (none-yet, none-more, some-here, none-of-all)

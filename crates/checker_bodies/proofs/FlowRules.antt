@@ -1,4 +1,4 @@
--- What the flow pass finds at an expression and at an assignment: what the lower of two places says, the labels that are read, and the labels of states.
+-- What the flow pass finds at an expression and at an assignment: what a place says, the first of two lists of faults, the labels that are read, and the labels of states.
 use Prim.Native.Nat.{ℕ, zero, suc, min, _/_, _%_, _^_, _≤_, _<_}
 use mathlib.Core.Path.{_≡_, refl, sym, _∙_, ap}
 use mathlib.Core.Logic.{⊎-elim}
@@ -11,15 +11,18 @@ use lib.ListN.{length}
 use borrow.Author.Tests.{lt-ltb, le-ltb, ltb-true, ltb-false}
 use Rattle.model.specs.declared.Refusal.{Refusal}
 use Rattle.model.specs.declared.Refusal.the-variants.{AssignFlow, GotoFlow, FallFlow}
+use Rattle.model.specs.declared.Answer.{Answer}
 use Rattle.model.specs.declared.Answer.the-variants.{Accepted, Refused}
 use Rattle.model.specs.Image.{Design as Table, Node, State, designOf, commandAt, expressionAt}
 use Rattle.model.specs.Limits.{commandsMax}
 use Rattle.model.specs.Lattice.{allFlowTo, registerLabel, stateLabel}
 use Rattle.model.specs.Kinds.{Operation, less, constants, commandKind, expressionKind}
 use Rattle.model.specs.Trees.{Expr, constant, register, binary, exprOf, cmdOf, registersRead}
-use Rattle.model.specs.Flow.{refusedUnless, labelsRead, flowFaults, nearer, nearest, flowRefusal}
+use Rattle.model.specs.Flow.{refusedUnless, labelsRead, assignFlows, flowFaults, firstOf, flowRefusal}
+use Rattle.model.specs.Verdict.{_before_}
 use Rattle.model.specs.Rules.{ExpressionHolds}
 use Rattle.model.proofs.Laws.Kinds.{expressionKinds, kind-constants, no-expression-kind}
+use Rattle.model.proofs.Laws.Firsts.{AreRefusals, first-append}
 use Rattle.model.proofs.Laws.Trees.{expr-constant, expr-register, expr-binary, cmd-assign}
 use Rattle.model.proofs.Exact.Records.{state-iff}
 use Rattle.design.specs.declared.Design.{Design}
@@ -29,8 +32,8 @@ use Rattle.design.proofs.Laws.{labels-count, labels-most, registers-count, stat
 use Rattle.design.proofs.FieldRules.{label-is as state-label, command-below, same-command, item-is, a-is, assigned-register, assigned-expression, expression-at, expression-place-inside, expression-kind-is, read-is, first-is, second-is, expression-holds, read-register, operation, operand-a-below, operand-b-below, lower-expression}
 use Rattle.design.specs.Kept.{RecordsKept}
 use Rattle.checker_bodies.specs.Places.{placeUnless}
-use Rattle.checker_bodies.specs.Flows.{MaskOf, Labelled, Naming, Gathering, Assigning, answerAmong}
-use Rattle.checker_bodies.proofs.PlaceRules.{below-or-not, commands-few}
+use Rattle.checker_bodies.specs.Flows.{MaskOf, Labelled, Naming, Gathering, Assigning, answerAmong, FirstAt}
+use Rattle.checker_bodies.proofs.PlaceRules.{commands-few}
 use Rattle.checker_bodies.proofs.Masks.{mask-both, mask-none, label-is, register-label}
 
 -- ---- what a place says
@@ -43,46 +46,26 @@ module _ (d : Table) where
   unfolding answerAmong
   answer-none {place} l = rw (le-ltb place (length (d .commands)) l)
 
-  two-answers : {p q : ℕ} → p < length (d .commands) → q < length (d .commands) → (b : Bool) → ltb q p ≡ b → answerAmong d (min p q) ≡ nearer (answerAmong d p) (answerAmong d q)
-  unfolding nearer
-  two-answers {p} {q} l m true e =
-      let less = ltb-true q p e in
-      let second : min p q ≡ q = omega arith in
-      rw (second, answer-at l, answer-at m, e) refl
-  two-answers {p} {q} l m false e =
-      let more = ltb-false q p e in
-      let first : min p q ≡ p = omega arith in
-      rw (first, answer-at l, answer-at m, e) refl
-
-  pub answer-lower : (p q : ℕ) → answerAmong d (min p q) ≡ nearer (answerAmong d p) (answerAmong d q)
-  unfolding nearer
-  answer-lower p q =
-      let n = length (d .commands) in
-      ⊎-elim
-      (λ (a : p < n).
-      ⊎-elim
-      (λ (b : q < n). two-answers a b (ltb q p) refl)
-      (λ (b : n ≤ q).
-      let first : min p q ≡ p = omega arith in
-      rw (first, answer-at a, answer-none b) refl)
-      (below-or-not q n))
-      (λ (a : n ≤ p).
-      ⊎-elim
-      (λ (b : q < n).
-      let second : min p q ≡ q = omega arith in
-      rw (second, answer-none a) refl)
-      (λ (b : n ≤ q).
-      let past : n ≤ min p q = omega arith in
-      rw (answer-none a, answer-none b) (answer-none past))
-      (below-or-not q n))
-      (below-or-not p n)
-
   -- a command is refused by the rule of its kind
-  pub answer-charged : {n : ℕ} {r : Refusal} (b : Bool) → n < length (d .commands) → length (d .commands) ≤ commandsMax → flowRefusal (commandKind (commandAt d n .kind)) ≡ r
-      → answerAmong d (placeUnless b n) ≡ nearest (refusedUnless b r n)
-  unfolding nearest nearer
-  answer-charged true l m e = answer-none m
-  answer-charged {n} false l m e = answer-at l ∙ ap (λ (r : Refusal). Refused r n) e
+  pub first-charged : {n : ℕ} {r : Refusal} (b : Bool) → n < length (d .commands) → length (d .commands) ≤ commandsMax → flowRefusal (commandKind (commandAt d n .kind)) ≡ r
+      → FirstAt d (placeUnless b n) (refusedUnless b r n)
+  unfolding firstOf
+  first-charged true l m e = record { says = answer-none m; command = λ h. absurd (omega arith) }
+  first-charged {n} false l m e = record { says = answer-at l ∙ ap (λ (r : Refusal). Refused r n) e; command = λ h. l }
+
+  -- the first of two lists of faults: that of the first list, unless there is none
+  module _ {xs : List Answer} (p : ℕ) (ys : List Answer) (refusals : AreRefusals xs) (first : FirstAt d p xs) where
+    pub first-found : p < commandsMax → FirstAt d p (xs ++ ys)
+    unfolding _before_
+    first-found l =
+        let refused = sym (first .says) ∙ answer-at (first .command l) in
+        record { says = answer-at (first .command l) ∙ sym (first-append ys refusals ∙ rw refused); command = first .command }
+
+    pub first-passed : {q : ℕ} → commandsMax ≤ p → length (d .commands) ≤ commandsMax → FirstAt d q ys → FirstAt d q (xs ++ ys)
+    unfolding _before_
+    first-passed l m second =
+        let none = sym (first .says) ∙ answer-none (omega arith) in
+        record { says = second .says ∙ sym (first-append ys refusals ∙ rw none); command = second .command }
 
 -- the refusal of a kind, by its number
 fall-otherwise : (k : ℕ) → (k ≡ 1 → ⊥) → (k ≡ 4 → ⊥) → FallFlow ≡ flowRefusal (commandKind k)
@@ -266,13 +249,14 @@ module _ {image : List ℕ} {registersAt place expressionsAt n : ℕ} (a : Assig
       → b ≡ eqb (bitAnd context m / 2 ^ l % 2) 1
       → answer ≡ placeUnless b n
       → MaskOf (designOf image .rows) labels context
-      → answerAmong (designOf image) answer ≡ nearest (flowFaults (designOf image) s labels (cmdOf (designOf image) n))
+      → FirstAt (designOf image) answer (flowFaults (designOf image) s labels (cmdOf (designOf image) n))
   unfolding commandKind flowFaults flowRefusal
-  assign-rule {e = e} {b = b} s fr fe read-mask fl fb fa mask =
+  assign-rule {e = e} {b = b} {labels = context} s fr fe read-mask fl fb fa mask =
       let d = designOf image in
       let tree = cmd-assign d n (ap commandKind (a .kind)) in
       let both = mask-both mask (rw (a-is (a .command) fe) at read-mask) in
       let labels = labels-count (a .known .describes) in
       let below = assigned-below in
-      let charged = answer-charged d b (command-below (a .command)) (commands-few (a .known .describes)) (ap (λ (k : ℕ). flowRefusal (commandKind k)) (a .kind)) in
-      rw fa (charged ∙ rw (tree, fb, assigned-label fr fl, both .bits (registerLabel d (commandAt d n .item)) (omega arith)) refl)
+      let charged = first-charged d b (command-below (a .command)) (commands-few (a .known .describes)) (ap (λ (k : ℕ). flowRefusal (commandKind k)) (a .kind)) in
+      let same : b ≡ assignFlows d context (commandAt d n .item) (exprOf d (commandAt d n .a)) = fb ∙ rw (assigned-label fr fl) (both .bits (registerLabel d (commandAt d n .item)) (omega arith)) in
+      rw (fa, tree, ← same) charged

@@ -7,10 +7,11 @@ use lib.Dec.{ltb, eqb}
 use lib.ListN.{length}
 use Rattle.model.specs.declared.Answer.{Answer}
 use Rattle.model.specs.declared.Answer.the-variants.{Accepted, Refused}
+use Rattle.model.specs.Limits.{commandsMax}
 use Rattle.model.specs.Image.{Design as Table, designOf, commandAt}
 use Rattle.model.specs.Lattice.{allFlowTo}
 use Rattle.model.specs.Kinds.{commandKind}
-use Rattle.model.specs.Flow.{flowRefusal}
+use Rattle.model.specs.Flow.{flowRefusal, firstOf}
 use Rattle.design.specs.declared.Design.{Design}
 use Rattle.design.specs.Kept.{RecordsKept}
 use Rattle.design.specs.RecordsAt.{StateAt, CommandAt, ExpressionAt}
@@ -23,6 +24,11 @@ pub record MaskOf (rows context : List ℕ) (mask : ℕ) : Type 0 where
 -- what the place of a flow fault says
 unfoldable pub answerAmong : Table → ℕ → Answer
 answerAmong d place = cond (ltb place (length (d .commands))) (Refused (flowRefusal (commandKind (commandAt d place .kind))) place) (Accepted 0)
+
+-- a place that says the first of the faults; it is a command's number or past all that there may be
+pub record FirstAt (d : Table) (place : ℕ) (faults : List Answer) : Type 0 where
+  pub says : answerAmong d place ≡ firstOf faults
+  pub command : place < commandsMax → place < length (d .commands)
 
 -- where the recursion has the places of a design instead of the design: the label of register r and of state s is asked for, and the labels that expression e reads are gathered
 pub record Labelled (image : List ℕ) (registersAt r : ℕ) : Type 0 where

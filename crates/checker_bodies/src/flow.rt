@@ -1,10 +1,10 @@
 // Refusals 10 to 12: the flow rules, by recursion over parts. A context is a mask of labels: bit l
 // is set where all of the context flows to label l. The recursion has the places where sections
 // begin, since a whole design would be copied at every call, and answers a place; which rule is
-// broken there, the command's kind tells.
+// broken there, the command's kind tells. It stops at the first fault in the order in which a body is
+// written.
 use crate::places::NOWHERE;
 use crate::places::charged_unless;
-use crate::places::lower;
 use design::Design;
 use design::rows::bit;
 use model::Answer;
@@ -15,10 +15,10 @@ ghost use mathlib.Core.List.{List, [], _∷_};
 ghost use Rattle.model.specs.Image.{designOf};
 ghost use Rattle.model.specs.Lattice.{allFlowTo, registerLabel, stateLabel};
 ghost use Rattle.model.specs.Trees.{exprOf, cmdOf};
-ghost use Rattle.model.specs.Flow.{labelsRead, flowFaults, stateFlowFaults, nearest, flowAnswer};
+ghost use Rattle.model.specs.Flow.{labelsRead, flowFaults, stateFlowFaults, flowAnswer};
 ghost use Rattle.design.specs.Describes.{Describes};
 ghost use Rattle.design.specs.Kept.{RecordsKept};
-ghost use Rattle.checker_bodies.specs.Flows.{MaskOf, Gathering, Assigning, Flowing, Labelled, Naming, answerAmong};
+ghost use Rattle.checker_bodies.specs.Flows.{MaskOf, Gathering, Assigning, Flowing, Labelled, Naming, answerAmong, FirstAt};
 
 // The mask of register r, where the registers begin at a place: its label's row.
 fn register_mask(image: &[u8], at: usize, r: usize) -> usize
@@ -62,7 +62,7 @@ fn assign_flow(
     n: usize,
 ) -> usize
     requires { ⌜ Assigning (now image) «registers_at» «commands_at» «expressions_at» n × (context < 65536) ⌝ }
-    ensures { λ p. ⌜ ((s : ℕ) (labels : List ℕ) → MaskOf (designOf (now (image .entry)) .rows) labels context → answerAmong (designOf (now (image .entry))) p ≡ nearest (flowFaults (designOf (now (image .entry))) s labels (cmdOf (designOf (now (image .entry))) n))) ⌝ }
+    ensures { λ p. ⌜ ((s : ℕ) (labels : List ℕ) → MaskOf (designOf (now (image .entry)) .rows) labels context → FirstAt (designOf (now (image .entry))) p (flowFaults (designOf (now (image .entry))) s labels (cmdOf (designOf (now (image .entry))) n))) ⌝ }
 {
     let r = Design::item(image, commands_at, n);
     let e = Design::part_a(image, commands_at, n);
@@ -80,7 +80,7 @@ fn flows_to_state(image: &[u8], at: usize, context: usize, s: usize) -> bool
     bit(context, label)
 }
 
-// The place of the lowest flow fault of command n of state s, in a context.
+// The place of the first flow fault of command n of state s, in a context.
 fn flow(
     image: &[u8],
     registers_at: usize,
@@ -92,7 +92,7 @@ fn flow(
     n: usize,
 ) -> usize
     requires { ⌜ Flowing (now image) «registers_at» «states_at» «commands_at» «expressions_at» s n × (context < 65536) ⌝ }
-    ensures { λ p. ⌜ ((labels : List ℕ) → MaskOf (designOf (now (image .entry)) .rows) labels context → answerAmong (designOf (now (image .entry))) p ≡ nearest (flowFaults (designOf (now (image .entry))) s labels (cmdOf (designOf (now (image .entry))) n))) ⌝ }
+    ensures { λ p. ⌜ ((labels : List ℕ) → MaskOf (designOf (now (image .entry)) .rows) labels context → FirstAt (designOf (now (image .entry))) p (flowFaults (designOf (now (image .entry))) s labels (cmdOf (designOf (now (image .entry))) n))) ⌝ }
 {
     let kind = Design::kind(image, commands_at, n);
     match kind {
@@ -110,7 +110,10 @@ fn flow(
                 context,
                 a,
             );
-            let q = flow(
+            if p < NOWHERE {
+                return p;
+            }
+            flow(
                 &*image,
                 registers_at,
                 states_at,
@@ -119,8 +122,7 @@ fn flow(
                 s,
                 context,
                 b,
-            );
-            lower(p, q)
+            )
         }
         3 => {
             let kept = flows_to_state(image, states_at, context, s);
@@ -146,7 +148,10 @@ fn flow(
                 inner,
                 b,
             );
-            let q = flow(
+            if p < NOWHERE {
+                return p;
+            }
+            flow(
                 &*image,
                 registers_at,
                 states_at,
@@ -155,17 +160,16 @@ fn flow(
                 s,
                 inner,
                 c,
-            );
-            lower(p, q)
+            )
         }
         _ => NOWHERE,
     }
 }
 
-// The place of the lowest flow fault of state s, whose context is its label.
+// The place of the first flow fault of state s, whose context is its label.
 fn state_flow(image: &[u8], design: Design, s: usize) -> usize
     requires { ⌜ RecordsKept (now image) design × (s < design .states) ⌝ }
-    ensures { λ p. ⌜ answerAmong (designOf (now (image .entry))) p ≡ nearest (stateFlowFaults (designOf (now (image .entry))) s) ⌝ }
+    ensures { λ p. ⌜ FirstAt (designOf (now (image .entry))) p (stateFlowFaults (designOf (now (image .entry))) s) ⌝ }
 {
     let at = design.states_at;
     let label = Design::state_label(image, at, s);
@@ -198,17 +202,18 @@ fn answer(image: &[u8], design: Design, place: usize) -> Answer
     }
 }
 
-// Refusals 10 to 12, at the lowest node.
+// Refusals 10 to 12, in the lowest state that has one; the states behind it are not looked at.
 pub fn faults(image: &[u8], design: Design) -> Answer
     requires { ⌜ RecordsKept (now image) design ⌝ }
     ensures { λ a. ⌜ a ≡ flowAnswer (designOf (now (image .entry))) ⌝ }
 {
-    let mut lowest = NOWHERE;
     let mut s = 0;
     while s < design.states {
-        let here = state_flow(image, design, s);
-        lowest = lower(lowest, here);
+        let place = state_flow(image, design, s);
+        if place < NOWHERE {
+            return answer(image, design, place);
+        }
         s += 1;
     }
-    answer(image, design, lowest)
+    Answer::Accepted(0)
 }

@@ -1,7 +1,7 @@
 -- The place of a refusal is small: a label, a register, a state or a node of an image that keeps its directory, and a tree has no node above its own number.
 use Prim.Native.Nat.{ℕ, zero, suc, min, _+_, _≤_, _<_}
 use mathlib.Core.Path.{_≡_, refl, sym, _∙_}
-use mathlib.Core.Bool.{Bool, true, false, not, cond, Bool·beq}
+use mathlib.Core.Bool.{Bool, true, false, not, Bool·beq}
 use mathlib.Core.List.{List, [], _∷_, _++_}
 use native.Mathlib.Omega.{arith}
 use lib.Dec.{ltb}
@@ -19,7 +19,7 @@ use Rattle.model.specs.Image.{Design as Table, Node, Labels, Registers, States,
 use Rattle.model.specs.Kinds.{CommandKind, skips, assigns, sequences, falls, goes, branches, unknownCommand, commandKind}
 use Rattle.model.specs.Trees.{Expr, Cmd, skip, assign, sequence, fall, goto, branch, cmdOfKind, cmdStep, cmdOf, bodyOf, exprOf}
 use Rattle.model.specs.Shape.{chargedUnless, transfers, shapeFaults, stateShapeFaults, shapeFault}
-use Rattle.model.specs.Flow.{refusedUnless, flowFaults, stateFlowFaults, nearer, nearest, flowAnswer, labelsRead}
+use Rattle.model.specs.Flow.{refusedUnless, flowFaults, stateFlowFaults, firstOf, flowAnswer, labelsRead}
 use Rattle.model.specs.Lattice.{allFlowTo, registerLabel, stateLabel}
 use Rattle.model.specs.States.{stateKept, hasChild, siblingOrSelf}
 use Rattle.model.specs.Verdict.{_before_, refusedAt, atZeroUnless, commandsFirst, lowestNode, designVerdict, verdict}
@@ -68,7 +68,7 @@ unfolding refusedAt _before_
 placed-before b r (At n) later h k = placed-refused b r n (h n refl)
 placed-before b r Nowhere later h k = k refl
 
--- the lowest of charged nodes, and the nearest of refusals
+-- the lowest of charged nodes, and the first of refusals
 lower-below : (b i : ℕ) (f : Found) → i < b → FoundBelow b (lower (At i) f)
 lower-below b i Nowhere l = found-at b i l
 lower-below b i (At j) l = found-at b (min i j) (omega arith)
@@ -78,20 +78,10 @@ unfolding lowestOf
 lowest-below b none = found-nowhere b
 lowest-below b (one-more {x} {more} l h) = lower-below b x (lowestOf more) l
 
-nearer-below : (b : ℕ) (a other : Answer) → PlacedBelow b a → PlacedBelow b other → PlacedBelow b (nearer a other)
-unfolding nearer
-nearer-below b (Accepted n) other h k = k
-nearer-below b (Refused r i) (Accepted n) h k = h
-nearer-below b (Refused r i) (Refused s j) h k = go (ltb j i)
-  where
-    go : (w : Bool) → PlacedBelow b (cond w (Refused s j) (Refused r i))
-    go true = k
-    go false = h
-
-nearest-below : (b : ℕ) {xs : List Answer} → Each (PlacedBelow b) xs → PlacedBelow b (nearest xs)
-unfolding nearest
-nearest-below b none = placed-accepted b 0
-nearest-below b (one-more {x} {more} l h) = nearer-below b x (nearest more) l (nearest-below b h)
+first-of-below : (b : ℕ) {xs : List Answer} → Each (PlacedBelow b) xs → PlacedBelow b (firstOf xs)
+unfolding firstOf
+first-of-below b none = placed-accepted b 0
+first-of-below b (one-more l h) = l
 
 -- ---- the nodes of a tree
 abbrev Numbered : ℕ → Cmd → Type 0
@@ -181,7 +171,7 @@ module _ (d : Table) (b : ℕ) where
     flow-answer-below : PlacedBelow b (flowAnswer d)
     unfolding flowAnswer stateFlowFaults bodyOf
     flow-answer-below =
-        nearest-below
+        first-of-below
         b
         (each-join
         (stateFlowFaults d)

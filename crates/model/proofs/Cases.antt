@@ -241,9 +241,9 @@ refusal-10-flat-lease = unfold checks in refl
 refusal-11-secret-gotos : judged secretGotos ≡ refused 11 1
 refusal-11-secret-gotos = unfold checks in refl
 
--- "10 to 12 are one pass where the lowest node counts": 11 at command 1 before 10 at command 4
-refusal-11-lowest-node : judged gotoBelowAssign ≡ refused 11 1
-refusal-11-lowest-node = unfold checks in refl
+-- "10 to 12 are one pass", since E7 in reading order: 10 at command 4 is read before 11 at command 1
+refusal-10-read-first : judged gotoBelowAssign ≡ refused 10 4
+refusal-10-read-first = unfold checks in refl
 
 -- 12: "if r1 then fall else fall, in label 0"
 refusal-12-secret-falls : judged secretFalls ≡ refused 12 1

@@ -11,7 +11,7 @@ pub mod Gotos
 pub mod Commands
 pub mod Cycles
 pub mod Verdict
-pub mod Nearest
+pub mod Firsts
 pub mod Passes
 pub mod Numbers
 pub mod Among

@@ -3,7 +3,7 @@ use Prim.Native.Nat.{ℕ, _*_, _≤_, _<_}
 use mathlib.Core.Path.{_≡_, refl, sym, _∙_}
 use mathlib.Core.Logic.{_↔_, Iff·trans, Iff·symm, _⊎_, inl, inr}
 use mathlib.Core.Bool.{true, not, _&&_}
-use mathlib.Core.List.{List, [], _∷_}
+use mathlib.Core.List.{List, [], _∷_, append-nil}
 use lib.ListN.{length, getD}
 use Rattle.model.specs.declared.Found.{Found}
 use Rattle.model.specs.declared.Refusal.{Refusal}
@@ -36,7 +36,6 @@ use Rattle.model.proofs.Refused.Shapes.{shape-finds}
 use Rattle.model.proofs.Refused.Flows.{flow-decides}
 pub mod Standing
 pub mod Shapes
-pub mod Kinds
 pub mod Flows
 
 -- a stage that searches, put before those behind it
@@ -135,7 +134,7 @@ module _ (image : List ℕ) where
 
   -- an area's length is answered where the image is accepted
   length-decides : (n : ℕ) → Decides (verdict image before Accepted n) n (imageTable image)
-  length-decides n = decides-before (image-decides image) (λ kept. decides-none n)
+  length-decides n = rw (append-nil (imageTable image)) at (decides-before (image-decides image) (λ kept. decides-none n))
 
   pub registers-length-answers : AnswersBy (imageTable image) (wordLength * length (designOf image .registers)) (numbersOf (registersLength image))
   unfolding registersLength

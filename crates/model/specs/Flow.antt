@@ -1,8 +1,7 @@
--- 01, 'Shape and flow', the flow rules: refusals 10 to 12, "one pass where the lowest node counts".
+-- 01, 'Shape and flow', the flow rules: refusals 10 to 12, in one pass; since 02, E7, in the order in which the bodies are read.
 use Prim.Native.Nat.{ℕ}
-use mathlib.Core.Bool.{Bool, true, false, cond}
+use mathlib.Core.Bool.{Bool, true, false}
 use mathlib.Core.List.{List, [], _∷_, _++_, map}
-use lib.Dec.{ltb}
 use lib.ListN.{length}
 use Rattle.model.specs.declared.Refusal.{Refusal}
 use Rattle.model.specs.declared.Refusal.the-variants.{AssignFlow, GotoFlow, FallFlow}
@@ -36,7 +35,8 @@ module _ (d : Design) where
   abbrev pub fallFlows : List ℕ → ℕ → Bool
   fallFlows context s = allFlowTo (d .rows) context (stateLabel d s)
 
-  -- Every flow fault of a command of state s, in the order in which the body is written. 01: "The context of a node is its state's label and the
+  -- Every flow fault of a command of state s, in the order in which the body is written: a sequence's first part before its second, "an if's first branch
+  -- before its second" (02, E7). 01: "The context of a node is its state's label and the
   -- labels of all registers read in the conditions of the ifs around it."
   module _ (s : ℕ) where
     unfoldable pub flowFaults : List ℕ → Cmd → List Answer
@@ -61,16 +61,11 @@ flowRefusal goes = GotoFlow
 flowRefusal branches = FallFlow
 flowRefusal unknownCommand = FallFlow
 
--- the refusal at the lower place
-unfoldable pub nearer : Answer → Answer → Answer
-nearer (Accepted count) other = other
-nearer (Refused refusal i) (Accepted count) = Refused refusal i
-nearer (Refused refusal i) (Refused other j) = cond (ltb j i) (Refused other j) (Refused refusal i)
-
--- "10 to 12 are one pass where the lowest node counts"
-unfoldable pub nearest : List Answer → Answer
-nearest [] = Accepted 0
-nearest (answer ∷ more) = nearer answer (nearest more)
+-- 02, E7: "the one shown first is now in the lowest-numbered state, and within it the first command in the order it is written". 01 had the lowest node.
+-- The faults are listed in this order.
+unfoldable pub firstOf : List Answer → Answer
+firstOf [] = Accepted 0
+firstOf (answer ∷ more) = answer
 
 unfoldable pub flowAnswer : Design → Answer
-flowAnswer d = nearest (joinBelow (stateFlowFaults d) (length (d .states)))
+flowAnswer d = firstOf (joinBelow (stateFlowFaults d) (length (d .states)))

@@ -1,6 +1,6 @@
 -- 01, 'When the box says no': its table as propositions, the rules in the order in which they are judged. Beside it stand the computations of `Verdict`
 -- and `Calls`; `refused-exactly` and its sisters (proofs/Promises.antt) say that a call answers a refusal exactly where it is the first that this table has.
-use Prim.Native.Nat.{ℕ, _+_, _*_, _≤_, _<_, _^_}
+use Prim.Native.Nat.{ℕ, zero, suc, _+_, _*_, _≤_, _<_, _^_}
 use mathlib.Core.Path.{_≡_}
 use mathlib.Core.Logic.{_↔_, _⊎_}
 use mathlib.Core.List.{List, [], _∷_, _++_}
@@ -9,8 +9,11 @@ use Rattle.model.specs.declared.Refusal.{Refusal}
 use Rattle.model.specs.declared.Refusal.the-variants.{Directory, LabelRow, RegisterRecord, StateRecord, NodeRecord, NodeUse, Depth, Shape, ChildLabel, AssignFlow, GotoFlow, FallFlow, NoPort, Area, CycleCount, PortAssigned, PortValue}
 use Rattle.model.specs.Limits.{expressionPlace, cyclesMax, wordLength}
 use Rattle.model.specs.Image.{Design, designOf, registerAt}
+use Rattle.model.specs.Lattice.{registerLabel, stateLabel}
+use Rattle.model.specs.Trees.{Cmd, skip, assign, sequence, fall, goto, branch, bodyOf}
+use Rattle.model.specs.Flow.{labelsRead}
 use Rattle.model.specs.Rules.{DirectoryKeeps, LabelKeeps, RegisterKeeps, StateKeeps, CommandKeeps, ExpressionKeeps, CommandUsedOnce, ExpressionUsedOnce, CommandDepthKeeps, ExpressionDepthKeeps, ChildLabelKeeps, NamesNoPort}
-use Rattle.model.specs.Standing.{ChildOf, ShapeKeeps, AssignKeeps, GotoKeeps, FallKeeps}
+use Rattle.model.specs.Standing.{ChildOf, ShapeKeeps, AllFlow}
 use Rattle.model.specs.Values.{wordsOf}
 use Rattle.model.specs.Answers.{Numbers, numberOf}
 use Rattle.model.specs.Calls.{Lent}
@@ -26,7 +29,7 @@ infix 80 _asks_
 abbrev pub _asks_ : Refusal → (ℕ → Type 0) → Rule
 refusal asks Kept = record { refusal = refusal; Kept = Kept }
 
--- rules that are judged together, "one pass where the lowest node counts"
+-- rules that are judged together, at the lowest place first
 abbrev pub Pass : Type 1
 Pass = List Rule
 
@@ -64,8 +67,27 @@ pub record eachNode (d : Design) (P Q : ℕ → Type 0) (place : ℕ) : Type 0 w
   pub command : place < length (d .commands) → P place
   pub expression : (e : ℕ) → place ≡ expressionPlace + e → e < length (d .expressions) → Q e
 
+-- ---- the flow rules in reading order
+-- 02, E7: "the one shown first is now in the lowest-numbered state, and within it the first command in the order it is written, an if's first branch before its
+-- second". Each command's rule is a pass of its own, and the passes stand in this order.
+abbrev pub flowRules : Design → ℕ → List ℕ → Cmd → List Pass
+flowRules d s context (skip n) = []
+-- "Assign: the context and each register read flow to the label written."
+flowRules d s context (assign n r e) = (AssignFlow asks at n (AllFlow d (context ++ labelsRead d e) (registerLabel d r)) ∷ []) ∷ []
+flowRules d s context (sequence n p q) = flowRules d s context p ++ flowRules d s context q
+-- "Fall: the context flows to the own state's label."
+flowRules d s context (fall n) = (FallFlow asks at n (AllFlow d context (stateLabel d s)) ∷ []) ∷ []
+-- "Goto: the context flows to the named state's label."
+flowRules d s context (goto n t) = (GotoFlow asks at n (AllFlow d context (stateLabel d t)) ∷ []) ∷ []
+flowRules d s context (branch n e p q) = flowRules d s (context ++ labelsRead d e) p ++ flowRules d s (context ++ labelsRead d e) q
+
+-- those of the first n states
+abbrev pub flowTable : Design → ℕ → List Pass
+flowTable d zero = []
+flowTable d (suc n) = flowTable d n ++ flowRules d n (stateLabel d n ∷ []) (bodyOf d n)
+
 -- ---- the table
--- the image checks: "The lowest number that applies comes first, except that 10 to 12 are one pass". 02, E1: 16 comes "after 8 and before 9".
+-- the image checks: "The lowest number that applies comes first, except that 10 to 12 are one pass", since E7 in reading order. 02, E1: 16 comes "after 8 and before 9".
 abbrev pub imageTable : List ℕ → List Pass
 imageTable image =
     let d = designOf image in
@@ -79,8 +101,7 @@ imageTable image =
     ∷ (Shape asks ShapeKeeps d ∷ [])
     ∷ (PortAssigned asks each (length (d .commands)) (NamesNoPort d) ∷ [])
     ∷ (ChildLabel asks each (length (d .states)) (ChildLabelKeeps d) ∷ [])
-    ∷ (AssignFlow asks AssignKeeps d ∷ GotoFlow asks GotoKeeps d ∷ FallFlow asks FallKeeps d ∷ [])
-    ∷ []
+    ∷ flowTable d (length (d .states))
 
 -- "A target is a child of its state; a childless state's is its own number."
 abbrev pub TargetKeeps : Design → List ℕ → ℕ → Type 0

@@ -1,5 +1,5 @@
--- 01, 'Shape and flow', as propositions about one command by where it stands: the rules behind refusals 8 and 10 to 12 at a node. `Refusals` has them in
--- the table.
+-- 01, 'Shape and flow', as propositions about one command by where it stands: the rules behind refusals 8 and 10 to 12 at a node. `Refusals` has those of shape in
+-- the table, and those of flow in the order in which bodies are read (02, E7); that these are the same rules is the law `flow-table-stands`.
 use Prim.Native.Nat.{ℕ, _<_}
 use mathlib.Core.Path.{_≡_}
 use mathlib.Core.Logic.{_↔_}

@@ -161,9 +161,9 @@ shows-flow-in-sequence
     ≡ refused 10 1 ∷ refused 10 1 ∷ []
 shows-flow-in-sequence = unfold checks in refl
 
--- "10 to 12 are one pass where the lowest node counts". State 1 of label 0, with a child: r0 := r1; if r1 then x else y, where the nodes stand in the
--- order given: 11 at 1; 12 at 1; 10 at 1
-shows-lowest-of-10-to-12
+-- 02, E7: "the first command in the order it is written". State 1 of label 0, with a child: r0 := r1; if r1 then x else y, where the nodes are numbered in
+-- several orders: the assignment is read first
+shows-read-first
     : map
     (λ (commands : List (List ℕ)).
     judged
@@ -178,11 +178,39 @@ shows-lowest-of-10-to-12
     ∷ (falls ∷ goesTo 1 ∷ branches 1 2 1 ∷ assigns 0 0 ∷ sequences 4 3 ∷ goesTo 2 ∷ [])
     ∷ (assigns 0 0 ∷ falls ∷ goesTo 1 ∷ branches 1 2 3 ∷ sequences 1 4 ∷ goesTo 2 ∷ [])
     ∷ [])
-    ≡ refused 11 1 ∷ refused 12 1 ∷ refused 12 1 ∷ refused 10 1 ∷ []
-shows-lowest-of-10-to-12 = unfold checks in refl
+    ≡ refused 10 3 ∷ refused 10 3 ∷ refused 10 4 ∷ refused 10 1 ∷ []
+shows-read-first = unfold checks in refl
 
--- the lowest node of all bodies: state 2 has the lower command
-shows-flow-lowest-of-states
+-- "an if's first branch before its second": if r1 then goto 1 else goto 1, and the other way round by the numbers; whichever number is lower
+shows-first-branch
+    : map
+    (λ (body : List ℕ). judged (oneState chain lowAndHigh 3 (goesTo 1 ∷ goesTo 1 ∷ body ∷ []) (reads 1 ∷ [])))
+    (branches 0 1 2 ∷ branches 0 2 1 ∷ [])
+    ≡ refused 11 1 ∷ refused 11 2 ∷ []
+shows-first-branch = unfold checks in refl
+
+-- State 1 of label 0, with a child: an if on r1 of a fall and of r0 := 1; goto 1. 12 is read before 10, though its node is the higher one; then 10 before 12,
+-- with the lower node at the fall; and each with the numbers in reading order
+shows-12-and-10
+    : map
+    (λ (commands : List (List ℕ)).
+    judged
+    (assemble
+    chain
+    lowAndHigh
+    (stateRecord 0 0 0 ∷ stateRecord 0 0 5 ∷ stateRecord 1 0 6 ∷ [])
+    (falls ∷ commands)
+    (constant 1 ∷ reads 1 ∷ [])))
+    ((assigns 0 0 ∷ falls ∷ goesTo 1 ∷ sequences 1 3 ∷ branches 1 2 4 ∷ goesTo 2 ∷ [])
+    ∷ (falls ∷ assigns 0 0 ∷ goesTo 1 ∷ sequences 2 3 ∷ branches 1 4 1 ∷ goesTo 2 ∷ [])
+    ∷ (falls ∷ assigns 0 0 ∷ goesTo 1 ∷ sequences 2 3 ∷ branches 1 1 4 ∷ goesTo 2 ∷ [])
+    ∷ (assigns 0 0 ∷ falls ∷ goesTo 1 ∷ sequences 1 3 ∷ branches 1 4 2 ∷ goesTo 2 ∷ [])
+    ∷ [])
+    ≡ refused 12 2 ∷ refused 10 2 ∷ refused 12 1 ∷ refused 10 1 ∷ []
+shows-12-and-10 = unfold checks in refl
+
+-- "in the lowest-numbered state": state 2 has the lower command, and state 1 is shown
+shows-lowest-state
     : judged
     (assemble
     chain
@@ -190,8 +218,8 @@ shows-flow-lowest-of-states
     (stateRecord 0 0 0 ∷ stateRecord 0 1 2 ∷ stateRecord 0 1 1 ∷ stateRecord 0 0 3 ∷ [])
     (falls ∷ goesTo 3 ∷ goesTo 3 ∷ goesTo 3 ∷ [])
     [])
-    ≡ refused 11 1
-shows-flow-lowest-of-states = unfold checks in refl
+    ≡ refused 11 2
+shows-lowest-state = unfold checks in refl
 
 -- the last state is judged too
 shows-flow-of-last-state

@@ -11,7 +11,7 @@ use Rattle.model.specs.Lattice.{stateLabel}
 use Rattle.model.specs.Trees.{Cmd, skip, assign, sequence, fall, goto, branch, bodyOf}
 use Rattle.model.specs.Flow.{flowFaults, stateFlowFaults, flowAnswer}
 use Rattle.model.specs.Rules.{Flows}
-use Rattle.model.proofs.Laws.Nearest.{FaultsOf, no-faults, faults-unless, faults-append, faults-join, nearest-iff}
+use Rattle.model.proofs.Laws.Firsts.{FaultsOf, no-faults, faults-unless, faults-append, faults-join, first-iff}
 
 module _ (d : Design) where
   module _ (s : ℕ) where
@@ -24,7 +24,7 @@ module _ (d : Design) where
     flow-faults context (goto n t) = faults-unless _ _ n
     flow-faults context (branch n e p q) = faults-append (flow-faults _ p) (flow-faults _ q)
 
-    state-flow-faults : FaultsOf (stateFlowFaults d s) (Flows d s (stateLabel d s ∷ []) (bodyOf d s))
+    pub state-flow-faults : FaultsOf (stateFlowFaults d s) (Flows d s (stateLabel d s ∷ []) (bodyOf d s))
     unfolding stateFlowFaults
     state-flow-faults = flow-faults (stateLabel d s ∷ []) (bodyOf d s)
 
@@ -34,4 +34,4 @@ module _ (d : Design) where
 
   pub flow-iff : (flowAnswer d ≡ Accepted 0) ↔ ((s : ℕ) → s < length (d .states) → Flows d s (stateLabel d s ∷ []) (bodyOf d s))
   unfolding flowAnswer
-  flow-iff = nearest-iff all-flow-faults
+  flow-iff = first-iff all-flow-faults

@@ -84,7 +84,7 @@ decides-one {refusal} {Kept} {f = At i} found =
     }
 
 -- ---- one behind the other
-all-kept-append : (passes more : List Pass) → AllKept (passes ++ more) ↔ (AllKept passes × AllKept more)
+pub all-kept-append : (passes more : List Pass) → AllKept (passes ++ more) ↔ (AllKept passes × AllKept more)
 all-kept-append [] more = (λ h. (tt, h), λ h. h .1)
 all-kept-append (pass ∷ passes) more =
     let rest = all-kept-append passes more in

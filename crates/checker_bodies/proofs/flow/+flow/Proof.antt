@@ -14,7 +14,6 @@ use Rattle.design.proofs.Design.part_b.Reads as part-b-reads
 use Rattle.design.proofs.Design.part_c.Reads as part-c-reads
 use Rattle.checker_bodies.proofs.flow.assign_flow.Reads as assign-flow-reads
 use Rattle.checker_bodies.proofs.flow.flows_to_state.Reads as flows-to-state-reads
-use Rattle.checker_bodies.proofs.places.lower.Reads as lower-reads
 use Rattle.checker_bodies.proofs.flow.reads.Reads as reads-reads
 use Rattle.checker_bodies.proofs.places.charged_unless.Reads as charged-unless-reads
 use Rattle.checker_bodies.proofs.flow.+flow.{statement}
@@ -31,7 +30,7 @@ flow-below t = and 1 flow-kinds.ps (falls 1 flow-kinds.ps _<_ μ-flow t) flow.Pr
 
 -- what the callees ask and tell
 abbrev flow-calls : ℕ → flow-lts.Claims
-flow-calls t = (kind-reads.Asked, kind-reads.Learnt, assign-flow-reads.Asked, assign-flow-reads.Learnt, part-a-reads.Asked, part-a-reads.Learnt, part-b-reads.Asked, part-b-reads.Learnt, flow-below t, flow.Post, lower-reads.Asked, lower-reads.Learnt, flows-to-state-reads.Asked, flows-to-state-reads.Learnt, charged-unless-reads.Asked, charged-unless-reads.Learnt, item-reads.Asked, item-reads.Learnt, part-c-reads.Asked, part-c-reads.Learnt, reads-reads.Asked, reads-reads.Learnt)
+flow-calls t = (kind-reads.Asked, kind-reads.Learnt, assign-flow-reads.Asked, assign-flow-reads.Learnt, part-a-reads.Asked, part-a-reads.Learnt, part-b-reads.Asked, part-b-reads.Learnt, flow-below t, flow.Post, flows-to-state-reads.Asked, flows-to-state-reads.Learnt, charged-unless-reads.Asked, charged-unless-reads.Learnt, item-reads.Asked, item-reads.Learnt, part-c-reads.Asked, part-c-reads.Learnt, reads-reads.Asked, reads-reads.Learnt)
 
 flow-kind-requires : (t : ℕ) → flow-lts.Need-kind-requires (flow-calls t) (flow-at t) flow.Post
 flow-kind-requires t c κs = search (flow-laws, needs)
@@ -50,9 +49,6 @@ flow-flow-requires t c κs = (search sequence-a-falls, (search sequence-a-flowin
 
 flow-flow-requires-2 : (t : ℕ) → flow-lts.Need-flow-requires-2 (flow-calls t) (flow-at t) flow.Post
 flow-flow-requires-2 t c κs = (search sequence-b-falls, (search sequence-b-flowing, search (mask-small, needs)))
-
-flow-lower-requires : (t : ℕ) → flow-lts.Need-lower-requires (flow-calls t) (flow-at t) flow.Post
-flow-lower-requires t c κs = search (flow-laws, needs)
 
 flow-flows-to-state-requires : (t : ℕ) → flow-lts.Need-flows-to-state-requires (flow-calls t) (flow-at t) flow.Post
 flow-flows-to-state-requires t c κs = search (flow-laws, needs)
@@ -87,17 +83,14 @@ flow-flow-requires-3 t c κs = (search branch-b-falls, (search branch-b-flowing,
 flow-flow-requires-4 : (t : ℕ) → flow-lts.Need-flow-requires-4 (flow-calls t) (flow-at t) flow.Post
 flow-flow-requires-4 t c κs = (search branch-c-falls, (search branch-c-flowing, search (mask-small, needs)))
 
-flow-lower-requires-2 : (t : ℕ) → flow-lts.Need-lower-requires-2 (flow-calls t) (flow-at t) flow.Post
-flow-lower-requires-2 t c κs = search (flow-laws, needs)
-
 flow-returns : (t : ℕ) → flow-lts.Need-returns (flow-calls t) (flow-at t) flow.Post
-flow-returns t c = λ labels mask. c .assign-flow .ensures _ labels mask
+flow-returns t c = search (flow-laws, needs)
 
 flow-returns-2 : (t : ℕ) → flow-lts.Need-returns-2 (flow-calls t) (flow-at t) flow.Post
 flow-returns-2 t c = search (flow-laws, needs)
 
 flow-returns-3 : (t : ℕ) → flow-lts.Need-returns-3 (flow-calls t) (flow-at t) flow.Post
-flow-returns-3 t c = search (flow-laws, needs)
+flow-returns-3 t c = λ labels mask. c .assign-flow .ensures _ labels mask
 
 flow-returns-4 : (t : ℕ) → flow-lts.Need-returns-4 (flow-calls t) (flow-at t) flow.Post
 flow-returns-4 t c = search (flow-laws, needs)
@@ -108,6 +101,12 @@ flow-returns-5 t c = search (flow-laws, needs)
 flow-returns-6 : (t : ℕ) → flow-lts.Need-returns-6 (flow-calls t) (flow-at t) flow.Post
 flow-returns-6 t c = search (flow-laws, needs)
 
+flow-returns-7 : (t : ℕ) → flow-lts.Need-returns-7 (flow-calls t) (flow-at t) flow.Post
+flow-returns-7 t c = search (flow-laws, needs)
+
+flow-returns-8 : (t : ℕ) → flow-lts.Need-returns-8 (flow-calls t) (flow-at t) flow.Post
+flow-returns-8 t c = search (flow-laws, needs)
+
 pub +flow-spec : {M : Type 1} → statement M
 +flow-spec = close μ-flow λ t. flow-lts.spec (flow-calls t)
     (flow-at t)
@@ -117,8 +116,8 @@ pub +flow-spec : {M : Type 1} → statement M
     (flow-part-a-requires t)
     (flow-part-b-requires t)
     (flow-flow-requires t)
+    (flow-returns t)
     (flow-flow-requires-2 t)
-    (flow-lower-requires t)
     (flow-flows-to-state-requires t)
     (flow-charged-unless-requires t)
     (flow-item-requires t)
@@ -129,11 +128,11 @@ pub +flow-spec : {M : Type 1} → statement M
     (flow-part-c-requires t)
     (flow-reads-requires t)
     (flow-flow-requires-3 t)
-    (flow-flow-requires-4 t)
-    (flow-lower-requires-2 t)
-    (flow-returns t)
     (flow-returns-2 t)
+    (flow-flow-requires-4 t)
     (flow-returns-3 t)
     (flow-returns-4 t)
     (flow-returns-5 t)
     (flow-returns-6 t)
+    (flow-returns-7 t)
+    (flow-returns-8 t)
