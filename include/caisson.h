@@ -11,16 +11,18 @@
  *
  * Every call answers a caisson_answer. `number` is 0 on acceptance, else the refusal's number, one of
  * the caisson_refusal values below: of those that apply, the one judged first. Every call begins with
- * the image checks, in this order: 1 to 8, then 16, then 9, then 10 to 12 in one pass where the lowest
- * node counts. What it judges after them stands at the call. `place` says where:
+ * the image checks, in this order: 1 to 8, then 16, then 9, then 10 to 12 in one pass in reading order:
+ * state by state from number 0 on, and in each the commands as they are written, an if's first branch
+ * before its second. What it judges after them stands at the call. `place` says where:
  *
  *   a label, register or state   its number, from 0
  *   a command                    its node number, from 0
  *   an expression                CAISSON_EXPRESSION_PLACE plus its node number
  *   nothing of these             0
  *
- * It is the lowest that breaks the rule. Whether that of 14 is a register or a state, its words below
- * say. `count` is the cycles that were run or the length that was asked for, and 0 on every refusal. A
+ * It is the lowest that breaks the rule; of 10 to 12 it is the first in reading order that breaks one
+ * of them, whatever its number. Whether that of 14 is a register or a state, its words below say.
+ * `count` is the cycles that were run or the length that was asked for, and 0 on every refusal. A
  * refusal changes no byte of the areas.
  *
  * The state of a design is two areas that the host owns and lends to each call: registers,
@@ -58,7 +60,7 @@ extern "C" {
 
 /* The version of the library and the number of the image's format. CHANGELOG.md says when each moves;
    docs/FORMAT.md has the format byte by byte. */
-#define CAISSON_VERSION "2.2.0"
+#define CAISSON_VERSION "2.3.0"
 #define CAISSON_FORMAT 2
 
 /* Limits of a design table. */

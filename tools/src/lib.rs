@@ -4,10 +4,12 @@ pub mod explain;
 pub mod library;
 mod numbering;
 mod operator;
+mod positions;
 mod print;
 mod table;
 mod text;
 
+pub use positions::Positions;
 pub use print::print;
 pub use table::old;
 pub use table::read::read;
@@ -16,6 +18,12 @@ pub use text::fault::Fault;
 
 /// The table of a source text.
 pub fn assemble(source: &str) -> Result<Vec<u8>, Fault> {
+    assemble_placed(source).map(|(image, _)| image)
+}
+
+/// With where each of its records stands in the text.
+pub fn assemble_placed(source: &str) -> Result<(Vec<u8>, Positions), Fault> {
     let design = text::parse(source)?;
-    Ok(numbering::number(&design)?.image())
+    let (table, positions) = numbering::number(&design)?;
+    Ok((table.image(), positions))
 }

@@ -1,7 +1,7 @@
 //! caisson: designs as source text, for the table format of document 01.
 
 use caisson_tools::old::{self, Form};
-use caisson_tools::{assemble, explain, library, print, read};
+use caisson_tools::{assemble, assemble_placed, explain, library, print, read};
 use std::io::Write;
 use std::os::unix::fs::MetadataExt;
 use std::process::ExitCode;
@@ -10,12 +10,16 @@ use std::{env, fs, io, thread};
 const USAGE: &str = "usage: caisson assemble SOURCE TABLE
        caisson print TABLE
        caisson explain TABLE
+       caisson explain SOURCE.caisson
        caisson upgrade OLD NEW";
+
+/// How the name of a text ends. `explain` takes all else for a table.
+const TEXT: &str = ".caisson";
 
 /// A table out of the limits may nest 8,191 nodes deep, more than the usual stack takes.
 const STACK: usize = 64 << 20;
 
-/// Ends with 0, with 1 where a table is refused, with 2 on any other failure.
+/// Ends with 0, with 1 where a design is refused, with 2 on any other failure.
 fn main() -> ExitCode {
     let work = thread::Builder::new().stack_size(STACK).spawn(command);
     match work.expect("a thread starts").join() {
@@ -34,18 +38,18 @@ fn command() -> Result<ExitCode, String> {
     match arguments[..] {
         ["assemble", source, table] => assemble_file(source, table),
         ["print", table] => print_file(table),
-        ["explain", table] => explain_file(table),
+        ["explain", text] if text.ends_with(TEXT) => explain_text(text),
+        ["explain", table] => explain_table(table),
         ["upgrade", old, new] => upgrade_file(old, new),
         _ => Err(USAGE.to_string()),
     }
 }
 
 fn assemble_file(source: &str, table: &str) -> Result<ExitCode, String> {
-    let bytes = load(source)?;
+    let text = load_text(source)?;
     if same_file(source, table) {
         return Err(format!("{table}: is the source itself, and would be lost"));
     }
-    let text = String::from_utf8(bytes).map_err(|_| format!("{source}: the text is not UTF-8"))?;
     let image = assemble(&text).map_err(|fault| format!("{source}: {fault}"))?;
     fs::write(table, image).map_err(|error| format!("{table}: {error}"))?;
     Ok(ExitCode::SUCCESS)
@@ -62,11 +66,24 @@ fn print_file(table: &str) -> Result<ExitCode, String> {
     Ok(ExitCode::SUCCESS)
 }
 
-fn explain_file(table: &str) -> Result<ExitCode, String> {
+fn explain_table(table: &str) -> Result<ExitCode, String> {
     let image = load(table)?;
     let answer = library::check(&image);
     show(&explain::explain(&image, answer))?;
-    Ok(ExitCode::from(u8::from(answer.number != 0)))
+    Ok(status(answer))
+}
+
+fn explain_text(source: &str) -> Result<ExitCode, String> {
+    let text = load_text(source)?;
+    let (image, positions) =
+        assemble_placed(&text).map_err(|fault| format!("{source}: {fault}"))?;
+    let answer = library::check(&image);
+    show(&explain::explain_text(&text, &image, &positions, answer))?;
+    Ok(status(answer))
+}
+
+fn status(answer: library::Answer) -> ExitCode {
+    ExitCode::from(u8::from(answer.number != 0))
 }
 
 /// The old table stays: a design that was made by hand may have no other copy.
@@ -90,6 +107,10 @@ fn same_file(one: &str, other: &str) -> bool {
 
 fn load(path: &str) -> Result<Vec<u8>, String> {
     fs::read(path).map_err(|error| format!("{path}: {error}"))
+}
+
+fn load_text(path: &str) -> Result<String, String> {
+    String::from_utf8(load(path)?).map_err(|_| format!("{path}: the text is not UTF-8"))
 }
 
 /// A reader that has gone away is a failure like any other, not a panic.

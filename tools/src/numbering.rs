@@ -1,13 +1,15 @@
 //! Names and nesting to numbers. Everything is numbered in the order of the text; a node comes
 //! after its parts, as soon as they all have their numbers.
 
+use crate::positions::Positions;
 use crate::table::node::{self, Node};
 use crate::table::{self, Table, INNER, PORT};
 use crate::text::fault::Fault;
-use crate::text::tree::{Command, Design, Expression, Name};
+use crate::text::tree::{Command, Design, Expression, Name, Placed};
 use std::collections::HashMap;
 
-pub fn number(design: &Design) -> Result<Table, Fault> {
+/// The table, and where each of its records stands in the text.
+pub fn number(design: &Design) -> Result<(Table, Positions), Fault> {
     let labels = design.labels.iter().map(|label| &label.name);
     let registers = design.registers.iter().map(|register| &register.name);
     let states = design.states.iter().map(|state| &state.name);
@@ -16,11 +18,12 @@ pub fn number(design: &Design) -> Result<Table, Fault> {
         registers: Names::new("register", registers)?,
         states: Names::new("state", states)?,
         table: Table::default(),
+        positions: Positions::of(design),
     };
     numbering.rows(design)?;
     numbering.registers(design)?;
     numbering.states(design)?;
-    Ok(numbering.table)
+    Ok((numbering.table, numbering.positions))
 }
 
 struct Numbering<'a> {
@@ -28,6 +31,7 @@ struct Numbering<'a> {
     registers: Names<'a>,
     states: Names<'a>,
     table: Table,
+    positions: Positions,
 }
 
 impl Numbering<'_> {
@@ -72,8 +76,8 @@ impl Numbering<'_> {
         Ok(())
     }
 
-    fn command(&mut self, command: &Command) -> Result<u16, Fault> {
-        let command = match command {
+    fn command(&mut self, command: &Placed<Command>) -> Result<u16, Fault> {
+        let node = match &command.node {
             Command::Skip => node::Command::Skip,
             Command::Assign(register, value) => node::Command::Assign {
                 register: self.registers.find(register)?,
@@ -93,11 +97,12 @@ impl Numbering<'_> {
                 otherwise: self.command(otherwise)?,
             },
         };
-        Ok(add(&mut self.table.commands, command.node()))
+        self.positions.commands.push(command.at);
+        Ok(add(&mut self.table.commands, node.node()))
     }
 
-    fn expression(&mut self, expression: &Expression) -> Result<u16, Fault> {
-        let expression = match expression {
+    fn expression(&mut self, expression: &Placed<Expression>) -> Result<u16, Fault> {
+        let node = match &expression.node {
             Expression::Constant(value) => node::Expression::Constant(*value),
             Expression::Register(name) => node::Expression::Register(self.registers.find(name)?),
             Expression::Operation(operator, left, right) => {
@@ -106,7 +111,8 @@ impl Numbering<'_> {
                 node::Expression::Operation(*operator, left, right)
             }
         };
-        Ok(add(&mut self.table.expressions, expression.node()))
+        self.positions.expressions.push(expression.at);
+        Ok(add(&mut self.table.expressions, node.node()))
     }
 }
 

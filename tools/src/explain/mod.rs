@@ -8,19 +8,37 @@ mod ports;
 mod registers;
 mod rules;
 mod shape;
+mod source;
 mod uses;
 
 use crate::library::Answer;
+use crate::positions::Positions;
+use crate::table::old::{self, Form};
 
+/// The verdict on a table.
 pub fn explain(image: &[u8], answer: Answer) -> String {
-    if answer.number == 0 {
+    let words = verdict(image, answer);
+    match old::form(image) {
+        Form::Old => format!("{words}\nIt {}.\n", old::ADVICE),
+        _ => words,
+    }
+}
+
+/// The verdict on the table of a text, with the line of the text that has what stands at the place.
+pub fn explain_text(text: &str, image: &[u8], positions: &Positions, answer: Answer) -> String {
+    let words = verdict(image, answer);
+    match rules::place(answer.number, answer.place) {
+        Some(place) => format!("{words}\n{}", source::line(text, positions.at(place))),
+        None => words,
+    }
+}
+
+fn verdict(image: &[u8], answer: Answer) -> String {
+    let Answer { number, place, .. } = answer;
+    if number == 0 {
         return "accepted\n".to_string();
     }
-    let Answer { number, place, .. } = answer;
     let rule = rules::rule(number);
-    let place = place::describe(image, number, place);
-    format!(
-        "refused by {number} at place {}\n\n{rule}\n\n{place}",
-        answer.place
-    )
+    let described = place::describe(image, number, place);
+    format!("refused by {number} at place {place}\n\n{rule}\n\n{described}")
 }

@@ -1,53 +1,41 @@
 //! What stands at the place of a refusal, in source form.
 
-use super::{children, flow, lattice, ports, registers, shape, uses};
+use super::{children, flow, lattice, ports, registers, rules, shape, uses};
 use crate::print::body::{self, Reader};
 use crate::print::{layout, records};
-use crate::table::limits::EXPRESSION_PLACE;
-use crate::table::old::{self, Form};
+use crate::table::place::Place;
 use crate::table::read::{pairs, read};
 use crate::table::Table;
 
+/// With what a reader would look for next: other records, the uses, or why the rule fails.
 pub fn describe(image: &[u8], number: u32, place: usize) -> String {
-    let text = described(image, number, place);
-    match old::form(image) {
-        Form::Old => format!("{text}\nIt {}.\n", old::ADVICE),
-        _ => text,
-    }
-}
-
-fn described(image: &[u8], number: u32, place: usize) -> String {
     let table = match read(image) {
         Ok(table) => table,
         Err(why) => return directory(image, &why),
     };
-    match number {
-        1 => directory(image, "a count is out of its limits"),
-        2 => label(&table, place),
-        3 => register(&table, place),
-        4 => state(&table, place),
-        9 => child(&table, place),
-        _ => node(&table, number, place),
-    }
-}
-
-/// With what a reader would look for next: the uses, or why the rule fails.
-fn node(table: &Table, number: u32, place: usize) -> String {
-    if place >= EXPRESSION_PLACE {
-        let place = place - EXPRESSION_PLACE;
-        let text = expression(table, place);
-        return match number {
-            6 => format!("{text}\n{}", uses::of_expression(table, place as u16)),
-            _ => text,
-        };
-    }
-    let text = command(table, place);
-    match number {
-        6 => format!("{text}\n{}", uses::of_command(table, place as u16)),
-        8 => format!("{text}\nBecause:\n{}", shape::reasons(table, place)),
-        10..=12 => format!("{text}\nBecause:\n{}", flow::reasons(table, place)),
-        16 => format!("{text}\nBecause:\n{}", ports::reasons(table, place)),
-        _ => text,
+    match rules::place(number, place) {
+        None => directory(image, "a count is out of its limits"),
+        Some(Place::Label(place)) => label(&table, place),
+        Some(Place::Register(place)) => register(&table, place),
+        Some(Place::State(place)) if number == 9 => child(&table, place),
+        Some(Place::State(place)) => state(&table, place),
+        Some(Place::Command(place)) => {
+            let text = command(&table, place);
+            match number {
+                6 => format!("{text}\n{}", uses::of_command(&table, place as u16)),
+                8 => format!("{text}\nBecause:\n{}", shape::reasons(&table, place)),
+                10..=12 => format!("{text}\nBecause:\n{}", flow::reasons(&table, place)),
+                16 => format!("{text}\nBecause:\n{}", ports::reasons(&table, place)),
+                _ => text,
+            }
+        }
+        Some(Place::Expression(place)) => {
+            let text = expression(&table, place);
+            match number {
+                6 => format!("{text}\n{}", uses::of_expression(&table, place as u16)),
+                _ => text,
+            }
+        }
     }
 }
 

@@ -1,16 +1,32 @@
-//! The rules in words: those of `include/caisson_refusals.def`, where each is worded once.
+//! The rules in words, and what their places are: those of `include/caisson_refusals.def`, where each is
+//! worded once.
+
+use crate::table::place::Place;
 
 const WORDS: &str = include_str!("../../../include/caisson_refusals.def");
 
 /// What is wrong, and the rule in full.
 pub fn rule(number: u32) -> String {
-    let row = WORDS
-        .split("\n\n")
-        .find(|row| row.starts_with(&format!("CAISSON_REFUSAL({number},")));
-    match row.map(strings).as_deref() {
+    match row(number).map(strings).as_deref() {
         Some([_place, wrong, more]) => format!("{wrong} {more}").trim_end().to_string(),
         _ => "The tool has no words for this number.".to_string(),
     }
+}
+
+/// What stands at the place of a refusal of an image. None where the place is the number of nothing.
+pub fn place(number: u32, place: usize) -> Option<Place> {
+    match row(number)?.split(',').nth(3)?.trim() {
+        "LABEL" => Some(Place::Label(place)),
+        "REGISTER" => Some(Place::Register(place)),
+        "STATE" => Some(Place::State(place)),
+        "NODE" => Some(Place::node(place)),
+        _ => None,
+    }
+}
+
+fn row(number: u32) -> Option<&'static str> {
+    let start = format!("CAISSON_REFUSAL({number},");
+    WORDS.split("\n\n").find(|row| row.starts_with(&start))
 }
 
 /// The strings of a row; those with only blanks between them are one.
@@ -45,5 +61,21 @@ mod tests {
         }
         assert_eq!(rule(rows + 1), "The tool has no words for this number.");
         assert_eq!(rule(15), "A run asks for more than 1,000,000 cycles.");
+    }
+
+    #[test]
+    fn every_refusal_of_an_image_but_1_has_a_place() {
+        for number in 2..=12 {
+            let expected = match number {
+                2 => Place::Label(5),
+                3 => Place::Register(5),
+                4 | 9 => Place::State(5),
+                _ => Place::Command(5),
+            };
+            assert_eq!(place(number, 5), Some(expected), "{number}");
+        }
+        assert_eq!(place(16, 1_023), Some(Place::Command(1_023)));
+        assert_eq!(place(5, 1_024), Some(Place::Expression(0)));
+        assert_eq!((place(0, 0), place(1, 0), place(99, 0)), (None, None, None));
     }
 }

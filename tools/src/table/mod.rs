@@ -3,6 +3,7 @@
 pub mod limits;
 pub mod node;
 pub mod old;
+pub mod place;
 pub mod read;
 mod write;
 

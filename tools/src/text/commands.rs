@@ -2,12 +2,12 @@
 
 use super::fault::Fault;
 use super::parser::Parser;
-use super::tree::Command;
+use super::tree::{Command, Placed};
 use crate::table::limits::COMMANDS;
 
 impl Parser {
     /// Commands up to and with the closing brace. `a; b; c` is `a; { b; c }`.
-    pub fn sequence(&mut self) -> Result<Command, Fault> {
+    pub fn sequence(&mut self) -> Result<Placed<Command>, Fault> {
         let mut commands = vec![self.command()?];
         while self.is_symbol(";") {
             self.count_command()?;
@@ -16,27 +16,30 @@ impl Parser {
         }
         self.symbol("}", "`;` or `}`")?;
         let last = commands.pop().expect("one command was parsed");
-        Ok(commands.into_iter().rfold(last, |second, first| {
-            Command::Sequence(Box::new(first), Box::new(second))
+        Ok(commands.into_iter().rfold(last, |second, first| Placed {
+            at: first.at,
+            node: Command::Sequence(Box::new(first), Box::new(second)),
         }))
     }
 
-    fn command(&mut self) -> Result<Command, Fault> {
+    fn command(&mut self) -> Result<Placed<Command>, Fault> {
         if self.take_symbol("{") {
             return self.nested(Parser::sequence);
         }
         self.count_command()?;
-        if self.take_word("skip") {
-            Ok(Command::Skip)
+        let at = self.at();
+        let node = if self.take_word("skip") {
+            Command::Skip
         } else if self.take_word("fall") {
-            Ok(Command::Fall)
+            Command::Fall
         } else if self.take_word("goto") {
-            Ok(Command::Goto(self.name("the name of a state")?))
+            Command::Goto(self.name("the name of a state")?)
         } else if self.take_word("if") {
-            self.nested(Parser::choice)
+            self.nested(Parser::choice)?
         } else {
-            self.assign()
-        }
+            self.assign()?
+        };
+        Ok(Placed { at, node })
     }
 
     fn choice(&mut self) -> Result<Command, Fault> {

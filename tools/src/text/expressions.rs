@@ -2,12 +2,12 @@
 
 use super::fault::Fault;
 use super::parser::Parser;
-use super::tree::Expression;
+use super::tree::{Expression, Placed};
 use crate::operator::{Operator, COMPARISON};
 use crate::table::limits::EXPRESSIONS;
 
 impl Parser {
-    pub fn expression(&mut self) -> Result<Expression, Fault> {
+    pub fn expression(&mut self) -> Result<Placed<Expression>, Fault> {
         let expression = self.binding(COMPARISON)?;
         if self.operator().is_some() {
             return Err(self.fault("parentheses, as comparisons do not chain"));
@@ -16,7 +16,7 @@ impl Parser {
     }
 
     /// An expression whose outer operators bind at least so tightly.
-    fn binding(&mut self, least: u8) -> Result<Expression, Fault> {
+    fn binding(&mut self, least: u8) -> Result<Placed<Expression>, Fault> {
         let mut left = self.operand()?;
         let mut most = u8::MAX;
         while let Some(operator) = self.operator() {
@@ -26,24 +26,30 @@ impl Parser {
             self.count_expression()?;
             self.advance();
             let right = self.binding(operator.right_binding())?;
-            left = Expression::Operation(operator, Box::new(left), Box::new(right));
+            left = Placed {
+                at: left.at,
+                node: Expression::Operation(operator, Box::new(left), Box::new(right)),
+            };
             most = operator.binding();
         }
         Ok(left)
     }
 
-    fn operand(&mut self) -> Result<Expression, Fault> {
+    fn operand(&mut self) -> Result<Placed<Expression>, Fault> {
         if self.take_symbol("(") {
             let inner = self.nested(Parser::expression)?;
             self.symbol(")", "an operator or `)`")?;
             return Ok(inner);
         }
         self.count_expression()?;
+        let at = self.at();
         let expected = "an expression: a number, the name of a register or `(`";
-        if self.is_number() {
-            return Ok(Expression::Constant(self.number(expected)?));
-        }
-        Ok(Expression::Register(self.name(expected)?))
+        let node = if self.is_number() {
+            Expression::Constant(self.number(expected)?)
+        } else {
+            Expression::Register(self.name(expected)?)
+        };
+        Ok(Placed { at, node })
     }
 
     fn operator(&self) -> Option<Operator> {

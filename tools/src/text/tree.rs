@@ -9,6 +9,14 @@ pub struct Name {
     pub at: Position,
 }
 
+/// A command or an expression, and where it begins. A sequence and an operation begin where their
+/// first part does.
+#[derive(Debug)]
+pub struct Placed<T> {
+    pub at: Position,
+    pub node: T,
+}
+
 #[derive(Debug)]
 pub struct Design {
     pub labels: Vec<Label>,
@@ -39,22 +47,26 @@ pub struct State {
     /// None for the root only.
     pub parent: Option<Name>,
     pub label: Name,
-    pub body: Command,
+    pub body: Placed<Command>,
 }
 
 #[derive(Debug)]
 pub enum Command {
     Skip,
-    Assign(Name, Expression),
-    Sequence(Box<Command>, Box<Command>),
+    Assign(Name, Placed<Expression>),
+    Sequence(Box<Placed<Command>>, Box<Placed<Command>>),
     Fall,
     Goto(Name),
-    If(Expression, Box<Command>, Box<Command>),
+    If(
+        Placed<Expression>,
+        Box<Placed<Command>>,
+        Box<Placed<Command>>,
+    ),
 }
 
 #[derive(Debug)]
 pub enum Expression {
     Constant(u32),
     Register(Name),
-    Operation(Operator, Box<Expression>, Box<Expression>),
+    Operation(Operator, Box<Placed<Expression>>, Box<Placed<Expression>>),
 }

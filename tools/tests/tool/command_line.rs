@@ -97,11 +97,13 @@ fn print_says_why_it_cannot() {
 
 #[test]
 fn explain_accepts() {
-    let output = caisson(&["explain", "lease.table"]);
-    assert_eq!(
-        (output.status.code(), out(&output).as_str()),
-        (Some(0), "accepted\n")
-    );
+    for design in ["lease.table", "lease.caisson"] {
+        let output = caisson(&["explain", design]);
+        assert_eq!(
+            (output.status.code(), out(&output).as_str()),
+            (Some(0), "accepted\n")
+        );
+    }
 }
 
 /// Each refusal names the place and shows what stands there.
@@ -203,6 +205,39 @@ fn explain_shows_the_place() {
         );
         assert!(text.contains(shown), "{text}");
     }
+}
+
+/// The name's ending tells a text from a table.
+#[test]
+fn explain_points_into_a_text() {
+    let output = caisson(&["explain", "reading_order.table"]);
+    assert_eq!(output.status.code(), Some(1));
+    assert!(!out(&output).contains("In the text"));
+    let output = caisson(&["explain", "high_timer.caisson"]);
+    assert_eq!(output.status.code(), Some(1));
+    let line = "\nIn the text, line 14, column 5:\n        timer := timer - 1;\n        ^\n";
+    assert!(out(&output).ends_with(line), "{}", out(&output));
+}
+
+/// In the assembler's words.
+#[test]
+fn explain_says_where_a_text_is_wrong() {
+    let source = format!("{}/no_design.caisson", env!("CARGO_TARGET_TMPDIR"));
+    let table = format!("{}/no_design.table", env!("CARGO_TARGET_TMPDIR"));
+    for text in [
+        &b"label low\nstate root : low { fell }\n"[..],
+        b"label \xff",
+    ] {
+        fs::write(&source, text).unwrap();
+        let message = failure(&caisson(&["explain", &source]));
+        assert!(message.starts_with(&format!("{source}: ")), "{message}");
+        assert_eq!(message, failure(&caisson(&["assemble", &source, &table])));
+    }
+    // Under any other name it is a table, and none that the library takes.
+    fs::rename(&source, &table).unwrap();
+    let output = caisson(&["explain", &table]);
+    assert_eq!(output.status.code(), Some(1));
+    assert!(out(&output).starts_with("refused by 1 at place 0\n"));
 }
 
 /// The lease table as version 1.2.0 had it: 208 bytes.

@@ -1,10 +1,11 @@
 //! The designs: each table is what the tool makes, and has the verdict that its text names.
 
 use crate::common::{bytes, designs, text};
+use crate::from_the_end::from_the_end;
 use caisson_tools::{assemble, library};
 
-/// Tables that no text makes: the lease design with bytes changed.
-fn damaged() -> Vec<(&'static str, Vec<u8>, (u32, usize))> {
+/// Tables that no text makes: the lease design with bytes changed, and nodes in another order.
+fn without_text() -> Vec<(&'static str, Vec<u8>, (u32, usize))> {
     let lease = bytes("designs/lease.table");
     let changed = |at: usize, byte: u8| {
         let mut image = lease.clone();
@@ -18,6 +19,11 @@ fn damaged() -> Vec<(&'static str, Vec<u8>, (u32, usize))> {
         ("command_kind", changed(58, 6), (5, 0)),
         ("expression_kind", changed(186, 12), (5, 1_027)),
         ("shared_command", changed(44, 0), (6, 0)),
+        (
+            "reading_order",
+            from_the_end(&bytes("designs/high_timer.table")).0,
+            (10, 10),
+        ),
     ]
 }
 
@@ -53,8 +59,8 @@ fn tables_are_what_the_tool_makes() {
 }
 
 #[test]
-fn damaged_tables_are_the_lease_design_with_bytes_changed() {
-    for (name, image, expected) in damaged() {
+fn tables_without_a_text_are_made_from_others() {
+    for (name, image, expected) in without_text() {
         assert!(image == bytes(&format!("designs/{name}.table")), "{name}");
         assert_eq!(verdict(&image), expected, "{name}");
     }
@@ -64,7 +70,11 @@ fn damaged_tables_are_the_lease_design_with_bytes_changed() {
 #[test]
 fn designs_are_complete() {
     let mut known = designs("caisson");
-    known.extend(damaged().into_iter().map(|(name, ..)| name.to_string()));
+    known.extend(
+        without_text()
+            .into_iter()
+            .map(|(name, ..)| name.to_string()),
+    );
     known.sort();
     assert_eq!(designs("table"), known);
     let mut met: Vec<u32> = known

@@ -3,8 +3,10 @@
 mod command_line;
 mod common;
 mod designs;
+mod from_the_end;
 mod known_tables;
 mod odd_tables;
 mod round_trip;
+mod source_lines;
 mod text_form;
 mod upgrade;

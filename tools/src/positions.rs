@@ -1,0 +1,41 @@
+//! Where each record of a table stands in the text that it was made from: a label, register or state
+//! at its name, a node where it begins.
+
+use crate::table::place::Place;
+use crate::text::fault::Position;
+use crate::text::tree::Design;
+
+pub struct Positions {
+    labels: Vec<Position>,
+    registers: Vec<Position>,
+    states: Vec<Position>,
+    /// In the order of the numbers, which the nodes get later.
+    pub(crate) commands: Vec<Position>,
+    pub(crate) expressions: Vec<Position>,
+}
+
+impl Positions {
+    /// Of all that a design declares, and of no node yet.
+    pub(crate) fn of(design: &Design) -> Positions {
+        let labels = design.labels.iter().map(|label| label.name.at);
+        let registers = design.registers.iter().map(|register| register.name.at);
+        let states = design.states.iter().map(|state| state.name.at);
+        Positions {
+            labels: labels.collect(),
+            registers: registers.collect(),
+            states: states.collect(),
+            commands: Vec::new(),
+            expressions: Vec::new(),
+        }
+    }
+
+    pub(crate) fn at(&self, place: Place) -> Position {
+        match place {
+            Place::Label(number) => self.labels[number],
+            Place::Register(number) => self.registers[number],
+            Place::State(number) => self.states[number],
+            Place::Command(number) => self.commands[number],
+            Place::Expression(number) => self.expressions[number],
+        }
+    }
+}
