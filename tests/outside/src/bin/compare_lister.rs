@@ -1,7 +1,7 @@
 //! Compares a cycle lister, a program given by `--program`, with the reference's listing.
 
 use caisson_tests::compare::arguments::Arguments;
-use caisson_tests::compare::listings::listings_of_seed;
+use caisson_tests::compare::listings::{listings_of_examples, listings_of_seed};
 use std::process::ExitCode;
 use std::time::{Duration, Instant};
 
@@ -11,6 +11,10 @@ fn main() -> ExitCode {
         eprintln!("--program must name the lister");
         return ExitCode::from(2);
     };
+    if let Err(difference) = listings_of_examples(program) {
+        difference.report("the examples");
+        return ExitCode::FAILURE;
+    }
     let end = Instant::now() + Duration::from_secs(arguments.seconds);
     println!("first seed {}", arguments.seed);
     let mut seed = arguments.seed;

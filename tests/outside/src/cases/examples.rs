@@ -17,6 +17,19 @@ fn verdicts() {
 }
 
 #[test]
+fn listings() {
+    for example in examples::all() {
+        let (number, place) = example.verdict;
+        let expected = match number {
+            0 => "cycle;walk;registers\n".to_string(),
+            _ => format!("refused;{number};{place}\n"),
+        };
+        let listing = reference::listing(&[&[0, 0], &example.image[..]].concat());
+        assert_eq!(listing, expected.as_bytes(), "{}", example.sentence);
+    }
+}
+
+#[test]
 fn every_refusal_of_an_image_has_an_example() {
     let examples = examples::all();
     for number in [&[0], refusal::IMAGE].concat() {

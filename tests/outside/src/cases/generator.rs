@@ -4,6 +4,7 @@ use super::Areas;
 use crate::compare::children::note_children;
 use crate::compare::kinds::note_kind;
 use crate::compare::operands::note_operands;
+use crate::compare::reading::note_reading;
 use crate::compare::tally::Tally;
 use crate::generate::random::Random;
 use crate::generate::{design, faults, Size};
@@ -114,6 +115,19 @@ fn children_are_met() {
             let image = faults::spoiled(&table, faults, &mut random).image();
             note_children(&mut tally, &image, reference::check(&image));
         }
+    }
+    assert_eq!(missing_reasons(&tally), NONE);
+}
+
+/// Of several faults in the flow, numbered anyhow, each is shown before each, wherever that stands.
+#[test]
+fn reading_is_met() {
+    let mut random = Random::new(23);
+    let mut tally = Tally::default();
+    for _ in 0..2_000 {
+        let size = Size::random(&mut random);
+        let image = faults::leaking(&design(&mut random, size), &mut random).image();
+        note_reading(&mut tally, &image, reference::check(&image));
     }
     assert_eq!(missing_reasons(&tally), NONE);
 }

@@ -4,6 +4,7 @@
 use super::children::note_children;
 use super::difference::Difference;
 use super::kinds::note_kind;
+use super::reading::note_reading;
 use super::reasons::note_register;
 use super::tally::Tally;
 use crate::answer::Answer;
@@ -89,6 +90,7 @@ impl Judges<'_> {
             note_register(tally, &image, expected);
             note_kind(tally, &image, expected);
             note_children(tally, &image, expected);
+            note_reading(tally, &image, expected);
         }
         Ok(())
     }
@@ -156,6 +158,9 @@ pub fn images_of_seed(seed: u64, tallies: &mut Tallies) -> Result<(), Difference
     // 16 is judged where its number would not have it.
     for other in [8, 9, 10, 11, 12] {
         judges.compare(spoiled(&[16, other], &mut random))?;
+    }
+    for _ in 0..6 {
+        judges.compare(faults::leaking(&table, &mut random).image())?;
     }
     for _ in 0..10 {
         let one = *random.pick(faults::NUMBERS);

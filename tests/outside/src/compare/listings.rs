@@ -1,7 +1,9 @@
-//! The cycle lister as a program: random inputs, its output compared with the reference's.
+//! The cycle lister as a program: the examples and random inputs, its output compared with the
+//! reference's.
 
 use super::difference::Difference;
 use crate::designs;
+use crate::examples;
 use crate::generate::random::Random;
 use crate::generate::{design, faults, Size};
 use crate::reference;
@@ -9,11 +11,19 @@ use std::io::{self, Write};
 use std::process::{Command, Stdio};
 use std::thread;
 
+/// Three cycles of every example, or its refusal.
+pub fn listings_of_examples(program: &str) -> Result<(), Difference> {
+    let mut examples = examples::all().into_iter();
+    examples.try_for_each(|example| compare(program, &[&[3, 0], &example.image[..]].concat()))
+}
+
 pub fn listings_of_seed(program: &str, seed: u64) -> Result<(), Difference> {
-    let mut random = Random::new(seed);
-    let input = any_input(&mut random);
-    let expected = reference::listing(&input);
-    let given = listed(program, &input).unwrap_or_else(|error| error.to_string().into_bytes());
+    compare(program, &any_input(&mut Random::new(seed)))
+}
+
+fn compare(program: &str, input: &[u8]) -> Result<(), Difference> {
+    let expected = reference::listing(input);
+    let given = listed(program, input).unwrap_or_else(|error| error.to_string().into_bytes());
     if given == expected {
         return Ok(());
     }
@@ -24,12 +34,7 @@ pub fn listings_of_seed(program: &str, seed: u64) -> Result<(), Difference> {
         let end = text.len().min(place + 40);
         String::from_utf8_lossy(&text[place.min(end)..end]).into_owned()
     };
-    Err(Difference::new(
-        &input,
-        &what,
-        show(&given),
-        show(&expected),
-    ))
+    Err(Difference::new(input, &what, show(&given), show(&expected)))
 }
 
 fn any_input(random: &mut Random) -> Vec<u8> {
@@ -59,6 +64,7 @@ fn any_input(random: &mut Random) -> Vec<u8> {
             let number = *random.pick(faults::NUMBERS);
             faults::spoiled(&table, &[number], random).image()
         }
+        3 => faults::leaking(&table, random).image(),
         _ => table.image(),
     });
     match random.below(20) {

@@ -6,6 +6,7 @@ pub mod difference;
 pub mod kinds;
 pub mod listings;
 pub mod operands;
+pub mod reading;
 pub mod tally;
 
 #[cfg(feature = "library")]

@@ -2,12 +2,14 @@
 //! level below zero for E3 and a spare child for E4; and small ones, each for one sentence.
 
 mod largest;
+mod leaks;
 mod level;
 mod small;
 mod spare;
 mod valve;
 
 pub use largest::largest;
+pub use leaks::{fall_before_assignment, two_bodies};
 pub use level::level;
 pub use small::{
     assigns_twice, copied, low_child, nested, nested_commands, nested_sums, one_operation,

@@ -62,15 +62,15 @@ pub fn examples() -> Vec<Example> {
             1,
         ),
         refused(
-            "11: the same with the goto as the lower node",
+            "12: the same with the goto as the lower node",
             &with_child(|table| {
                 let secret = table.read(1);
                 let otherwise = table.goto(2);
                 let then = table.fall();
                 table.branch(secret, then, otherwise)
             }),
-            11,
-            1,
+            12,
+            2,
         ),
         accepted(
             "if r0 then fall else goto 2, r0 low",

@@ -8,6 +8,7 @@ mod lattices;
 mod nodes;
 mod operations;
 mod ports;
+mod reading;
 mod records;
 mod shape;
 pub mod values;
@@ -32,6 +33,7 @@ pub fn all() -> Vec<Example> {
     examples.extend(ports::examples());
     examples.extend(children::examples());
     examples.extend(flow::examples());
+    examples.extend(reading::examples());
     examples
 }
 

@@ -1,8 +1,9 @@
-//! Document 01 with requests E1 to E4 of document 02, implemented for clarity: tables and passes over
-//! node numbers, no recursion in the checker, so that it shares as little as possible with the proved
-//! library.
+//! Document 01 with requests E1 to E4 and E7 of document 02, implemented for clarity: tables and passes
+//! over node numbers, no recursion in the checker, so that it shares as little as possible with the
+//! proved library.
 
 pub mod calls;
+mod flow;
 pub mod image;
 pub mod labels;
 pub mod limits;
@@ -16,3 +17,4 @@ mod rules;
 
 pub use calls::{check, registers_length, reset, run, targets_length, walk, write_port};
 pub use listing::listing;
+pub use rules::flow_faults;

@@ -1,22 +1,23 @@
-//! Shape, assigned ports and flow (refusals 8, 16 and 9 to 12), on an image whose nodes form one
-//! tree for each state.
+//! Shape, assigned ports, default children and flow (refusals 8, 16 and 9 to 12), on an image whose
+//! nodes form one tree for each state.
 
+use super::flow::Flow;
 use super::image::*;
 use super::labels::{only, LabelSet, Labels};
 use super::limits::*;
 use super::refusal::Refusal;
 
 /// For each command the state that holds it and the labels of its context.
-struct Surroundings {
-    state: [u8; MOST_COMMANDS],
-    context: [LabelSet; MOST_COMMANDS],
+pub struct Surroundings {
+    pub state: [u8; MOST_COMMANDS],
+    pub context: [LabelSet; MOST_COMMANDS],
 }
 
 /// The states' fields as tables, for reading by number.
-struct States {
+pub struct States {
     count: usize,
     parent: [u8; MOST_STATES],
-    label: [u8; MOST_STATES],
+    pub label: [u8; MOST_STATES],
     /// The lowest-numbered child.
     default_child: [Option<u8>; MOST_STATES],
 }
@@ -27,7 +28,16 @@ pub fn judge(image: &Image, labels: &Labels) -> Result<(), Refusal> {
     judge_shape(image, &states, &around)?;
     judge_ports(image)?;
     judge_children(image, &states, &around, labels)?;
-    judge_flow(image, &states, &around, labels)
+    Flow::of(image, &states, &around, labels).judge(image)
+}
+
+/// Every fault of refusals 10 to 12, in the order of the nodes. Expects an image that passes the checks
+/// before them.
+pub fn flow_faults(image: &Image) -> Vec<Refusal> {
+    let labels = Labels::judge(image).expect("a lattice");
+    let states = States::of(image);
+    let around = Surroundings::of(image);
+    Flow::of(image, &states, &around, &labels).faults(image)
 }
 
 impl States {
@@ -170,31 +180,6 @@ fn judge_children(
         let entered = holds_fall[parent] && states.default_child[parent] == Some(child as u8);
         if entered && !labels.flow(only(states.label[parent]), states.label[child]) {
             return Err(Refusal::new(9, child));
-        }
-    }
-    Ok(())
-}
-
-/// Refusals 10 to 12: one pass, the lowest node counts.
-fn judge_flow(
-    image: &Image,
-    states: &States,
-    around: &Surroundings,
-    labels: &Labels,
-) -> Result<(), Refusal> {
-    let mut register_labels = [0; MOST_REGISTERS];
-    for (label, register) in register_labels.iter_mut().zip(image.registers()) {
-        *label = register.label;
-    }
-    for (number, node) in image.commands().enumerate() {
-        let (refusal, destination) = match node.kind {
-            ASSIGN => (10, register_labels[usize::from(node.which)]),
-            GOTO => (11, states.label[usize::from(node.which)]),
-            FALL => (12, states.label[usize::from(around.state[number])]),
-            _ => continue,
-        };
-        if !labels.flow(around.context[number], destination) {
-            return Err(Refusal::new(refusal, number));
         }
     }
     Ok(())

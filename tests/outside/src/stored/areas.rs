@@ -1,7 +1,7 @@
 //! Wrong lengths, and refused images with good areas. No lent byte changes.
 
 use super::Script;
-use crate::designs::{lease, low_child, timer_is_a_port};
+use crate::designs::{fall_before_assignment, lease, low_child, timer_is_a_port};
 
 pub fn add(script: &mut Script) {
     let image = lease().image();
@@ -59,4 +59,8 @@ fn refused_images(script: &mut Script, image: &[u8]) {
         .areas(&[3, 0, 0, 0, 0, 0, 0, 0], &[1, 1, 3, 3, 4]);
     script.reset().write(0, 7).write(9, 9);
     script.run(0).run(1).run(1_000_001);
+    script
+        .note("an image refused by 12, which is read before a lower 10")
+        .design(&fall_before_assignment());
+    script.reset().write(1, 7).run(0).run(1);
 }

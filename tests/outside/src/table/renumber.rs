@@ -4,8 +4,8 @@ use super::{Family, Table};
 use crate::generate::random::Random;
 
 impl Table {
-    /// Expects parts that stand below their owners.
-    pub fn renumber(&mut self, random: &mut Random) {
+    /// Gives the new number of each command. Expects parts that stand below their owners.
+    pub fn renumber(&mut self, random: &mut Random) -> Vec<u16> {
         let commands = self.reorder(Family::Command, random);
         for state in &mut self.states {
             state.command = commands[usize::from(state.command)];
@@ -16,6 +16,7 @@ impl Table {
                 *part = expressions[usize::from(*part)];
             }
         }
+        commands
     }
 
     /// Moves the nodes of one family and gives the new number of each.

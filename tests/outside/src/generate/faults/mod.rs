@@ -31,6 +31,16 @@ pub fn spoiled(table: &Table, numbers: &[u32], random: &mut Random) -> Table {
     table
 }
 
+/// The design with several faults in its flow, its nodes in another order: request E7 shows the fault
+/// that is read first, which may have any number.
+pub fn leaking(table: &Table, random: &mut Random) -> Table {
+    let count = random.between(2, 6);
+    let numbers: Vec<u32> = (0..count).map(|_| *random.pick(&[10, 11, 12])).collect();
+    let mut table = spoiled(table, &numbers, random);
+    table.renumber(random);
+    table
+}
+
 /// Puts a fault into the table that the refusal of this number speaks of.
 pub fn spoil(table: &mut Table, number: u32, random: &mut Random) {
     match number {
