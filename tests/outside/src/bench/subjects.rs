@@ -1,6 +1,7 @@
-//! The accepted images that are timed.
+//! The images that are timed.
 
 use crate::designs::lease;
+use crate::generate::faults::leaking;
 use crate::generate::random::Random;
 use crate::generate::{design, Size};
 use crate::reference;
@@ -28,7 +29,15 @@ pub fn accepted(table: &Table) -> Vec<u8> {
     image
 }
 
-/// The lease design, then designs of about a quarter, a half and all of the largest image.
+/// Refused by the last of the image checks.
+fn refused_for_flow(table: &Table) -> Vec<u8> {
+    let image = table.image();
+    assert!((10..=12).contains(&reference::check(&image).number));
+    image
+}
+
+/// The lease design, then designs of about a quarter, a half and all of the largest image, and the last
+/// with faults of flow.
 pub fn by_size() -> Vec<Subject> {
     let of_size = |name, part| Subject {
         name,
@@ -47,5 +56,15 @@ pub fn by_size() -> Vec<Subject> {
         of_size("quarter", 1),
         of_size("half", 2),
         of_size("largest", 4),
+        Subject {
+            name: "leaking",
+            images: (1..=IMAGES)
+                .map(|seed| {
+                    let mut random = Random::new(seed);
+                    let table = design(&mut random, Size::part_of_largest(4, 4));
+                    refused_for_flow(&leaking(&table, &mut random))
+                })
+                .collect(),
+        },
     ]
 }
