@@ -29,11 +29,9 @@ pub fn accepted(table: &Table) -> Vec<u8> {
     image
 }
 
-/// Refused by the last of the image checks.
-fn refused_for_flow(table: &Table) -> Vec<u8> {
-    let image = table.image();
-    assert!((10..=12).contains(&reference::check(&image).number));
-    image
+/// Refused by the last of the image checks: some faults of flow bring one of another kind with them.
+fn refused_for_flow(image: &[u8]) -> bool {
+    (10..=12).contains(&reference::check(image).number)
 }
 
 /// The lease design, then designs of about a quarter, a half and all of the largest image, and the last
@@ -58,12 +56,14 @@ pub fn by_size() -> Vec<Subject> {
         of_size("largest", 4),
         Subject {
             name: "leaking",
-            images: (1..=IMAGES)
+            images: (1..)
                 .map(|seed| {
                     let mut random = Random::new(seed);
                     let table = design(&mut random, Size::part_of_largest(4, 4));
-                    refused_for_flow(&leaking(&table, &mut random))
+                    leaking(&table, &mut random).image()
                 })
+                .filter(|image| refused_for_flow(image))
+                .take(IMAGES as usize)
                 .collect(),
         },
     ]
