@@ -1,14 +1,13 @@
 -- What the flow pass finds at an expression and at an assignment: what a place says, the first of two lists of faults, the labels that are read, and the labels of states.
-use Prim.Native.Nat.{ℕ, zero, suc, min, _/_, _%_, _^_, _≤_, _<_}
+use Prim.Native.Nat.{ℕ, zero, suc, _/_, _%_, _^_, _≤_, _<_}
 use mathlib.Core.Path.{_≡_, refl, sym, _∙_, ap}
-use mathlib.Core.Logic.{⊎-elim}
 use mathlib.Core.Bool.{Bool, true, false}
 use mathlib.Core.List.{List, [], _∷_, _++_, map}
 use native.Mathlib.Omega.{arith}
 use lib.Bits.{bitAnd}
-use lib.Dec.{ltb, eqb}
+use lib.Dec.{eqb}
 use lib.ListN.{length}
-use borrow.Author.Tests.{lt-ltb, le-ltb, ltb-true, ltb-false}
+use borrow.Author.Tests.{lt-ltb, le-ltb}
 use Rattle.model.specs.declared.Refusal.{Refusal}
 use Rattle.model.specs.declared.Refusal.the-variants.{AssignFlow, GotoFlow, FallFlow}
 use Rattle.model.specs.declared.Answer.{Answer}
@@ -16,11 +15,10 @@ use Rattle.model.specs.declared.Answer.the-variants.{Accepted, Refused}
 use Rattle.model.specs.Image.{Design as Table, Node, State, designOf, commandAt, expressionAt}
 use Rattle.model.specs.Limits.{commandsMax}
 use Rattle.model.specs.Lattice.{allFlowTo, registerLabel, stateLabel}
-use Rattle.model.specs.Kinds.{Operation, less, constants, commandKind, expressionKind}
+use Rattle.model.specs.Kinds.{Operation, commandKind, expressionKind}
 use Rattle.model.specs.Trees.{Expr, constant, register, binary, exprOf, cmdOf, registersRead}
 use Rattle.model.specs.Flow.{refusedUnless, labelsRead, assignFlows, flowFaults, firstOf, flowRefusal}
 use Rattle.model.specs.Verdict.{_before_}
-use Rattle.model.specs.Rules.{ExpressionHolds}
 use Rattle.model.proofs.Laws.Kinds.{expressionKinds, kind-constants, no-expression-kind}
 use Rattle.model.proofs.Laws.Firsts.{AreRefusals, first-append}
 use Rattle.model.proofs.Laws.Trees.{expr-constant, expr-register, expr-binary, cmd-assign}

@@ -26,10 +26,9 @@ use Rattle.model.proofs.Laws.Trees.{cmd-skip, cmd-assign, cmd-sequence, cmd-fal
 use native.Mathlib.Numerals.{add-one}
 use Rattle.design.specs.declared.Design.{Design}
 use Rattle.design.specs.Records.{nodeIn, stateIn}
-use Rattle.design.specs.Describes.{Describes}
 use Rattle.design.specs.Kept.{StatesKept}
 use Rattle.design.specs.Resets.{Defaults, Filled}
-use Rattle.design.proofs.ResetRules.{filled-none, filled-within, entry-inside, alone, not-alone}
+use Rattle.design.proofs.ResetRules.{filled-none, filled-within, alone, not-alone}
 use Rattle.design.proofs.Laws.{states-count, commands-count}
 use Rattle.design.proofs.FieldRules.{parent-is, body-is, body-below, command-at, command-place-inside, command-below, command-kind-of, item-is, a-is, b-is, c-is, command-holds, named-state, sequence-a-below, sequence-b-below, branch-b-below, branch-c-below, lower-command}
 use Rattle.checker_bodies.specs.Places.{placeUnless, foundAmong}

@@ -2,7 +2,7 @@
 -- all that is within t.
 use Prim.Native.Nat.{ℕ, zero, suc, _+_, _≤_, _<_}
 use mathlib.Core.Path.{_≡_, refl, sym, _∙_, ap}
-use mathlib.Core.Logic.{_⊎_, inl, inr, _≢_}
+use mathlib.Core.Logic.{_≢_}
 use mathlib.Core.Bool.{Bool, true, false, _||_, cond}
 use mathlib.Core.List.{List}
 use native.Mathlib.Omega.{arith}
@@ -17,9 +17,8 @@ use Rattle.model.specs.States.{parent, isChild, hasChild, defaultTarget, within
 use Rattle.model.specs.Machine.{targetSound, cleared, goneTo}
 use Rattle.model.proofs.Laws.Booleans.{true-or-false, false-unless-true, cond-true, cond-false}
 use Rattle.model.proofs.Laws.Indices.{extend, nothing-below-zero, only-below-at}
-use Rattle.model.proofs.Laws.States.{child-of, has-child, default-cases}
+use Rattle.model.proofs.Laws.States.{child-of, has-child}
 use Rattle.model.proofs.Laws.Gotos.{within-step, within-self, within-below, length-cleared}
-use Rattle.model.proofs.Exact.Records.{state-iff}
 use Rattle.design.specs.declared.Design.{Design}
 use Rattle.design.specs.Records.{stateIn}
 use Rattle.design.specs.Describes.{Describes}

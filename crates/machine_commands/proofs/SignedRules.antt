@@ -1,11 +1,11 @@
 -- The signed operations on the numbers as they are, in the forms in which the code has them.
 use Prim.Native.Nat.{ℕ, _-_, _/_, _%_, _^_, _≤_, _<_}
-use mathlib.Core.Path.{_≡_, sym, _∙_, ap}
+use mathlib.Core.Path.{_≡_, sym, _∙_}
 use native.Mathlib.Omega.{arith}
 use native.Mathlib.Nat.{div-le-self}
 use lib.IntN.{natAbs}
 use Rattle.model.specs.Signed.{signedValue, dividedSigned}
-use Rattle.model.proofs.Laws.Signed.{below-signed, shifted-low, shifted-high, magnitude-low, magnitude-high, magnitude-some, divided-by-zero, divided-low-low, divided-low-high, divided-high-low, divided-high-high}
+use Rattle.model.proofs.Laws.Signed.{shifted-low, shifted-high, magnitude-low, magnitude-high, magnitude-some, divided-by-zero, divided-low-low, divided-low-high, divided-high-low, divided-high-high}
 
 -- ---- shift
 -- what is shifted out leaves no more than there was

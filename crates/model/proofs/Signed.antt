@@ -3,14 +3,14 @@
 use Prim.Native.Nat.{ℕ, zero, suc, _+_, _-_, _*_, _/_, _^_, _≤_, _<_}
 use mathlib.Core.Path.{_≡_, refl, sym, _∙_, ap}
 use mathlib.Core.Logic.{_⊎_, inl, inr, _↔_}
-use mathlib.Core.Bool.{Bool, true, false, true≢false, false≢true}
+use mathlib.Core.Bool.{true, false, true≢false, false≢true}
 use native.Mathlib.Omega.{arith}
 use native.Mathlib.Nat.{div-le-self, div-lt-iff-lt-mul, div-mul-le-self, lt-div-mul-add, suc-mul, le-trans, le-of-lt, lt-of-le-of-lt}
 use borrow.Author.Tests.{ltb-true, eqb-true, eqb-false}
 use lib.Dec.{ltb, eqb, le→leb, lt→ltb}
 use lib.Pow.{pow-pos}
 use lib.IntN.{ℤ, pos, negsuc, negℤ, natAbs, _+ℤ_, _*ℤ_}
-use lib.Signed.{mag, nonNeg, quotZ, shrZ, mag-shr, _≤ℤ_, _<ℤ_, leZ-yes, ltZ-yes}
+use lib.Signed.{mag, nonNeg, quotZ, shrZ, mag-shr, _<ℤ_, leZ-yes, ltZ-yes}
 use Rattle.model.specs.Rounding.{RoundedDown, RoundedTowardZero}
 use Rattle.model.specs.Signed.{signedValue, wordOf, shiftCount, shiftedRight, dividedSigned}
 use Rattle.model.proofs.Laws.Booleans.{decide, true-or-false}

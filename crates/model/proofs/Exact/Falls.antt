@@ -1,16 +1,14 @@
 -- Refusal 9 is exact: the default child is the lowest child, and the test for a fall finds one wherever it stands.
-use Prim.Native.Nat.{ℕ, _≤_}
-use mathlib.Core.Path.{_≡_, refl, sym}
+use Prim.Native.Nat.{ℕ}
+use mathlib.Core.Path.{_≡_, refl}
 use mathlib.Core.Logic.{_↔_, Iff·trans, ⊎-elim}
-use mathlib.Core.Bool.{true, false, _&&_}
-use lib.Dec.{eqb}
-use borrow.Author.Tests.{eqb-true, eq-eqb}
+use mathlib.Core.Bool.{true, false}
 use Rattle.model.specs.Image.{Design}
-use Rattle.model.specs.Lattice.{flowsTo, stateLabel}
+use Rattle.model.specs.Lattice.{stateLabel}
 use Rattle.model.specs.States.{parent, isChild, defaultTarget}
 use Rattle.model.specs.Trees.{Cmd, skip, assign, sequence, fall, goto, branch, bodyOf}
 use Rattle.model.specs.Falls.{holdsFall, isFallenInto, childLabelKept}
-use Rattle.model.specs.Rules.{FlowsTo, HoldsFall, itself, in-first, in-second, in-then, in-else, DefaultChild, ChildLabelKeeps}
+use Rattle.model.specs.Rules.{FlowsTo, HoldsFall, itself, in-first, in-second, in-then, in-else, ChildLabelKeeps}
 use Rattle.model.proofs.Laws.Booleans.{or-cases, or-first, or-second, true-or-false}
 use Rattle.model.proofs.Laws.Equivalences.{equal-iff, and-three-iff, implies-iff}
 use Rattle.model.proofs.Laws.States.{child-of, default-is, default-least}

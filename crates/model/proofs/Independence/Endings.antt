@@ -1,7 +1,7 @@
 -- How a command can end: it transfers exactly where its shape says so, a goto is to a sibling or to the state itself, and the context flows to where it goes.
 use Prim.Native.Nat.{ℕ}
 use mathlib.Core.Path.{_≡_, refl, sym, _∙_}
-use mathlib.Core.Bool.{Bool, true, false, _||_, cond}
+use mathlib.Core.Bool.{Bool, true, false, cond}
 use mathlib.Core.List.{List, _++_}
 use lib.Dec.{eqb}
 use Rattle.model.specs.declared.Ending.the-variants.{Goto, Fall}

@@ -11,7 +11,7 @@ use Rattle.model.specs.declared.Outcome.{Outcome}
 use Rattle.model.specs.declared.Outcome.the-variants.{Continued, Transferred}
 use Rattle.model.specs.Image.{Design}
 use Rattle.model.specs.Lattice.{flowsTo, allFlowTo, stateLabel}
-use Rattle.model.specs.States.{parent, defaultTarget, within}
+use Rattle.model.specs.States.{defaultTarget, within}
 use Rattle.model.specs.Trees.{bodyOf}
 use Rattle.model.specs.Falls.{holdsFall}
 use Rattle.model.specs.Rules.{DesignKeeps, FlowsTo}

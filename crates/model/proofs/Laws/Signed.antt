@@ -1,16 +1,15 @@
 -- Laws of signed numbers. A number of the upper half is negsuc of its distance from the greatest one, so each operation on integers comes to one on natural numbers by the signs of its parts.
-use Prim.Native.Nat.{ℕ, zero, suc, _+_, _-_, _*_, _/_, _%_, _^_, _≤_, _<_}
+use Prim.Native.Nat.{ℕ, zero, suc, _+_, _-_, _/_, _%_, _^_, _≤_, _<_}
 use mathlib.Core.Path.{_≡_, refl, sym, _∙_, ap}
 use mathlib.Core.Logic.{_⊎_, inl, inr}
-use mathlib.Core.Bool.{Bool, true, false, cond}
 use native.Mathlib.Omega.{arith}
 use native.Mathlib.Nat.{div-le-self}
 use borrow.Author.Tests.{ltb-true, ltb-false, lt-ltb, le-ltb, eq-eqb, ne-eqb}
-use lib.Dec.{ltb, eqb}
+use lib.Dec.{ltb}
 use lib.IntN.{ℤ, pos, negsuc, negℤ, natAbs}
-use lib.Signed.{mag, ltZ, shrZ, quotZ}
-use Rattle.model.specs.Signed.{signedValue, wordOf, belowSigned, shiftCount, shiftedRight, dividedSigned}
-use Rattle.model.proofs.Laws.Booleans.{decide, cond-true, cond-false}
+use lib.Signed.{mag, quotZ}
+use Rattle.model.specs.Signed.{signedValue, wordOf, belowSigned, shiftedRight, dividedSigned}
+use Rattle.model.proofs.Laws.Booleans.{decide}
 
 -- ---- the integer of a number, and the number of an integer
 pub signed-low : (x : ℕ) → x < 2 ^ 31 → signedValue x ≡ pos x

@@ -1,7 +1,7 @@
 -- The first flow fault in reading order is the first rule of 10 to 12 that is broken: each command's fault decides its own pass, and faults and passes stand in
 -- one order. And these passes are the rules of the commands that stand in the bodies.
 use Prim.Native.Nat.{ℕ, zero, suc, _≤_, _<_}
-use mathlib.Core.Path.{_≡_, refl, sym}
+use mathlib.Core.Path.{_≡_, refl}
 use mathlib.Core.Logic.{_↔_, ⊎-elim}
 use mathlib.Core.Bool.{Bool, true, false}
 use mathlib.Core.List.{List, [], _∷_, _++_}
@@ -9,8 +9,6 @@ use native.Mathlib.Omega.{arith}
 use native.Mathlib.Nat.{le-refl}
 use lib.ListN.{length}
 use Rattle.model.specs.declared.Refusal.{Refusal}
-use Rattle.model.specs.declared.Answer.{Answer}
-use Rattle.model.specs.declared.Answer.the-variants.{Accepted}
 use Rattle.model.specs.Indices.{joinBelow}
 use Rattle.model.specs.Image.{Design}
 use Rattle.model.specs.Lattice.{stateLabel}
@@ -18,7 +16,7 @@ use Rattle.model.specs.Trees.{Cmd, skip, assign, sequence, fall, goto, b
 use Rattle.model.specs.Flow.{labelsRead, refusedUnless, flowFaults, stateFlowFaults, firstOf, flowAnswer}
 use Rattle.model.specs.Verdict.{refusedAt}
 use Rattle.model.specs.Standing.{Stands, whole, in-first, in-second, in-then, in-else, AssignKeeps, GotoKeeps, FallKeeps}
-use Rattle.model.specs.Refusals.{Pass, _asks_, at, AllKept, flowRules, flowTable}
+use Rattle.model.specs.Refusals.{_asks_, at, AllKept, flowRules, flowTable}
 use Rattle.model.proofs.Laws.Indices.{below-suc, nothing-below-zero}
 use Rattle.model.proofs.Laws.Firsts.{first-append, refusals-join}
 use Rattle.model.proofs.Laws.Broken.{Decides, decides-one, decides-before, decides-none, all-kept-append}
