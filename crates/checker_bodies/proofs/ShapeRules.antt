@@ -58,9 +58,6 @@ module _ {image : List ℕ} {place s t : ℕ} (here : Going image place s t) whe
       and-known (not (eqb s 0)) (not (eqb t 0)) (eqb y z) (lt-ltb t (length (d .states)) below) ∙ rw (first, second)
 
 -- ---- the number of a shape
-pub judgement-rule : {first second : ℕ} (t f : Bool) (l : ℕ) → first ≡ oneOrZero t → second ≡ oneOrZero f → 4 * l + 2 * second + first ≡ judgementOf t f l
-judgement-rule t f l e g = rw (e, g)
-
 -- in the code's order of calls
 module _ (n p q : ℕ) {first second parts own lowest r : ℕ} where
   pub sequenced-rule :

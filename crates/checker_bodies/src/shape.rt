@@ -138,7 +138,8 @@ fn has_child(defaults: &[u8], s: usize) -> bool
     defaults[s] != s as u8
 }
 
-// What the body of state s comes to; a state that does not transfer is charged to its command.
+// What the body of state s comes to; a state that does not transfer is charged to its command, so
+// that nothing is left to say of transferring.
 fn state_shape(image: &[u8], design: Design, defaults: &[u8], s: usize) -> usize
     requires { ⌜ ShapeKnown (now image) design × Defaults (designOf (now image)) (now defaults) × (s < design .states) ⌝ }
     ensures { λ r. ⌜ StateShaped (designOf (now (image .entry))) s r ⌝ }

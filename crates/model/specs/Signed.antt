@@ -11,7 +11,7 @@ use Rattle.model.specs.Limits.{valueCount}
 unfoldable pub signedValue : ℕ → ℤ
 signedValue x = cond (ltb x (valueCount / 2)) (pos x) (pos x -ℤ pos valueCount)
 
--- the 32 bits of an integer: itself, or where it is below 0 itself and 2 to the power of 32
+-- the 32 bits of an integer: itself, or where it is below 0 its sum with 2 to the power of 32
 unfoldable pub wordOf : ℤ → ℕ
 wordOf z = natAbs (cond (nonNeg z) z (z +ℤ pos valueCount))
 

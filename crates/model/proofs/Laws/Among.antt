@@ -1,16 +1,12 @@
--- What stands in a list of charged nodes or of refusals: the kit's membership, of joined lists and of what is charged unless a test holds.
+-- What stands in a list of charged nodes: the kit's membership, of joined lists and of what is charged unless a test holds.
 use Prim.Native.Nat.{ℕ, zero, suc, _<_}
 use mathlib.Core.Path.{_≡_, refl}
 use mathlib.Core.Logic.{⊎-elim}
 use mathlib.Core.Bool.{Bool, true, false, true≢false}
 use mathlib.Core.List.{List, List·Memᴰ, List·Memᴰ·head, List·Memᴰ·not-nil, List·Memᴰ·eq-of-singleton, List·Memᴰ·append-cases, Memᴰ·append-left, Memᴰ·append-right}
 use native.Mathlib.Omega.{arith}
-use Rattle.model.specs.declared.Refusal.{Refusal}
-use Rattle.model.specs.declared.Answer.{Answer}
-use Rattle.model.specs.declared.Answer.the-variants.{Refused}
 use Rattle.model.specs.Indices.{joinBelow}
 use Rattle.model.specs.Shape.{chargedUnless}
-use Rattle.model.specs.Flow.{refusedUnless}
 use Rattle.model.proofs.Laws.Indices.{nothing-below-zero, below-suc}
 
 module _ {A : Type 0} (f : ℕ → List A) where
@@ -32,7 +28,7 @@ module _ {A : Type 0} (f : ℕ → List A) where
       (λ (e : List·Memᴰ x (f n)). (n, omega arith, e))
       (List·Memᴰ·append-cases (joinBelow f n) h)
 
--- a node that is charged, and a refusal at a node
+-- a node that is charged
 pub charged-among : (b : Bool) (n : ℕ) → b ≡ false → List·Memᴰ n (chargedUnless b n)
 charged-among true n e = absurd (true≢false e)
 charged-among false n e = List·Memᴰ·head refl
@@ -40,11 +36,3 @@ charged-among false n e = List·Memᴰ·head refl
 pub charged-cases : (k : ℕ) (b : Bool) (n : ℕ) → List·Memᴰ k (chargedUnless b n) → (k ≡ n) × (b ≡ false)
 charged-cases k true n h = absurd (List·Memᴰ·not-nil h)
 charged-cases k false n h = (List·Memᴰ·eq-of-singleton h, refl)
-
-pub refused-among : (b : Bool) (refusal : Refusal) (n : ℕ) → b ≡ false → List·Memᴰ (Refused refusal n) (refusedUnless b refusal n)
-refused-among true refusal n e = absurd (true≢false e)
-refused-among false refusal n e = List·Memᴰ·head refl
-
-pub refused-cases : (a : Answer) (b : Bool) (refusal : Refusal) (n : ℕ) → List·Memᴰ a (refusedUnless b refusal n) → (a ≡ Refused refusal n) × (b ≡ false)
-refused-cases a true refusal n h = absurd (List·Memᴰ·not-nil h)
-refused-cases a false refusal n h = (List·Memᴰ·eq-of-singleton h, refl)

@@ -39,13 +39,6 @@ module _ {f : Found} {Kept : ℕ → Type 0} (found : Finds f Kept) where
       go (At i) e = e ∙ ap At (not-apart i place (λ l. found .broken i e (lower i l)) (λ l. broken (found .lower i e place l)))
       go Nowhere e = absurd (broken (found .nowhere e place))
 
--- ---- passes of rules
--- a rule that is broken is not kept
-pub broken-or-kept : (pass : Pass) (r : Refusal) (place : ℕ) → BrokenAt pass r place → KeptAt pass place → ⊥
-broken-or-kept [] r place broken kept = broken
-broken-or-kept (rule ∷ more) r place (inl (e, broken)) kept = broken (kept .0)
-broken-or-kept (rule ∷ more) r place (inr broken) kept = broken-or-kept more r place broken (kept .1)
-
 -- ---- an answer against passes of rules
 -- the answer accepts with the count where every rule is kept, and else refuses by the first that is broken
 pub record Decides (a : Answer) (count : ℕ) (passes : List Pass) : Type 0 where

@@ -15,7 +15,7 @@ use Rattle.model.specs.Verdict.{_before_}
 use Rattle.model.proofs.Laws.Found.{append-iff, join-iff}
 use Rattle.model.proofs.Laws.Verdict.{refused-is-not-accepted}
 
--- every answer of a list is a refusal: an acceptance in it would be passed over
+-- every answer of a list is a refusal: an acceptance at its head would hide those behind it
 pub data AreRefusals : List Answer → Type 0 where
   none : AreRefusals []
   one-more : {refusal : Refusal} {place : ℕ} {more : List Answer} → AreRefusals more → AreRefusals (Refused refusal place ∷ more)

@@ -2,18 +2,14 @@
 use Prim.Native.Nat.{ℕ}
 use mathlib.Core.Path.{_≡_, refl, sym, _∙_, ap}
 use mathlib.Core.Logic.{_↔_}
-use mathlib.Core.Bool.{Bool, true, false}
 use mathlib.Core.List.{[], _∷_}
 use native.Mathlib.Omega.{arith}
-use lib.Dec.{eqb}
 use lib.ListN.{getD}
-use borrow.Author.Tests.{eqb-true, eq-eqb}
 use Rattle.model.specs.declared.Refusal.{Refusal}
 use Rattle.model.specs.declared.Refusal.the-variants.{Directory, LabelRow, RegisterRecord, StateRecord, NodeRecord, NodeUse, Depth, Shape, ChildLabel, AssignFlow, GotoFlow, FallFlow, NoPort, Area, CycleCount, PortAssigned, PortValue}
 use Rattle.model.specs.declared.Answer.{Answer}
 use Rattle.model.specs.declared.Answer.the-variants.{Accepted, Refused}
 use Rattle.model.specs.Answers.{Numbers, numberOf, numbersOf}
-use Rattle.model.proofs.Laws.Booleans.{true-or-false}
 
 abbrev numbered : ℕ → Refusal
 numbered n =
@@ -62,14 +58,6 @@ numbered-back PortValue = refl
 -- two refusals of one number are one
 pub same-number : (r q : Refusal) → numberOf r ≡ numberOf q → r ≡ q
 same-number r q e = sym (numbered-back r) ∙ ap numbered e ∙ numbered-back q
-
--- two refusals are one unless they differ
-pub same-unless : (r q : Refusal) → ((r ≡ q → ⊥) → ⊥) → r ≡ q
-same-unless r q h = go (eqb (numberOf r) (numberOf q)) refl
-  where
-    go : (b : Bool) → eqb (numberOf r) (numberOf q) ≡ b → r ≡ q
-    go true e = same-number r q (eqb-true (numberOf r) (numberOf q) e)
-    go false e = absurd (h (λ same. true-or-false (eqb (numberOf r) (numberOf q)) (eq-eqb (numberOf r) (numberOf q) (ap numberOf same)) e))
 
 -- no refusal has number 0: the table's first entry has number 1
 pub no-number-zero : (r : Refusal) → numberOf r ≡ 0 → ⊥

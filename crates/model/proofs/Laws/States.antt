@@ -82,19 +82,7 @@ module _ (d : Design) where
       go (inl k) = child-of s (defaultTarget d s) k
       go (inr k) = absurd (true-or-false (hasChild d s) h (k .0))
 
-  -- the lowest of the children is the default child, and no child is lower than the default child
-  pub default-is : (s q : ℕ) → isChild d s q ≡ true → ((r : ℕ) → isChild d s r ≡ true → q ≤ r) → defaultTarget d s ≡ q
-  unfolding defaultTarget
-  default-is s q child least = go (lowest (isChild d s) (length (d .states))) refl
-    where
-      go : (f : Found) → lowest (isChild d s) (length (d .states)) ≡ f → foundOr s f ≡ q
-      go (At j) e =
-          let found = lowest-at (isChild d s) (length (d .states)) j e in
-          let most = least j (found .passes) in
-          let least′ : (q < j → ⊥) = (λ l. true-or-false (isChild d s q) child (found .none-lower q l)) in
-          omega arith
-      go Nowhere e = absurd (true-or-false (isChild d s q) child (lowest-none (isChild d s) (length (d .states)) e q (child-of s q child .state)))
-
+  -- no child is lower than the default child
   pub default-least : (s r : ℕ) → isChild d s r ≡ true → defaultTarget d s ≤ r
   unfolding defaultTarget
   default-least s r child = go (lowest (isChild d s) (length (d .states))) refl
@@ -105,6 +93,13 @@ module _ (d : Design) where
           let least : (r < j → ⊥) = (λ l. true-or-false (isChild d s r) child (found .none-lower r l)) in
           omega arith
       go Nowhere e = absurd (true-or-false (isChild d s r) child (lowest-none (isChild d s) (length (d .states)) e r (child-of s r child .state)))
+
+  -- the lowest of the children is the default child
+  pub default-is : (s q : ℕ) → isChild d s q ≡ true → ((r : ℕ) → isChild d s r ≡ true → q ≤ r) → defaultTarget d s ≡ q
+  default-is s q child least =
+      let above = least (defaultTarget d s) (is-child s (defaultTarget d s) (default-child s (has-child s q (child-of s q child)))) in
+      let below = default-least s q child in
+      omega arith
 
   -- ---- sound targets
   pub sound-child : (targets : List ℕ) (s : ℕ) → targetSound d targets s ≡ true → hasChild d s ≡ true → ChildOf d s (getD targets s 0)
