@@ -58,7 +58,7 @@ pub targets-bytes : {image : List ℕ} {x : Design} → Describes image x → Ac
 targets-bytes d = ap Accepted (states-count d)
 
 pub states-kept : {image : List ℕ} → Keeps image → StatesKept (designOf image)
-states-kept {image} keeps = record { kept = λ s l. state-iff (designOf image) s .1 (keeps .design .states s l) }
+states-kept {image} keeps = record { kept = λ s l. state-iff (designOf image) s .1 (keeps .design .structure .states s l) }
 
 pub are-bytes : (bytes : List ℕ) → ((i : ℕ) → Fits w8 (getD bytes i 0)) → AreBytes bytes
 are-bytes bytes h i = h i .fits

@@ -5,25 +5,30 @@ use mathlib.Core.List.{List}
 use Rattle.model.specs.declared.Answer.{Answer}
 use Rattle.model.specs.declared.Answer.the-variants.{Accepted}
 use Rattle.model.specs.Image.{designOf}
-use Rattle.model.specs.Rules.{Keeps}
-use Rattle.model.specs.Verdict.{verdict}
-use Rattle.model.proofs.Exact.{verdict-exact}
+use Rattle.model.specs.Rules.{DirectoryKeeps, StructureKeeps, Keeps}
+use Rattle.model.specs.Verdict.{structure, verdict}
+use Rattle.model.proofs.Exact.{structure-counts-nothing, structure-exact, verdict-exact}
 use Rattle.model.proofs.Refused.{accepted-count}
 use Rattle.model.proofs.Exact.Records.{register-iff, state-iff, command-iff, expression-iff}
 use Rattle.design.specs.declared.Design.{Design}
 use Rattle.design.specs.Describes.{Describes}
 use Rattle.design.specs.Kept.{RecordsKept}
 
-pub accepted-keeps : {image : List ℕ} {a : Answer} {n : ℕ} → a ≡ verdict image → a ≡ Accepted n → Keeps image
-accepted-keeps {image} {a} {n} e h =
-    let accepted : verdict image ≡ Accepted n = sym e ∙ h in
-    verdict-exact image .0 (accepted ∙ ap Accepted (accepted-count image accepted))
+-- ---- once the structure is accepted
+module _ (image : List ℕ) {a : Answer} {n : ℕ} (is : a ≡ structure image) (accepts : a ≡ Accepted n) where
+  pub structured-is : structure image ≡ Accepted 0
+  structured-is = let accepted : structure image ≡ Accepted n = sym is ∙ accepts in accepted ∙ ap Accepted (structure-counts-nothing image n accepted)
 
--- ---- and what the code above the checker is handed
-pub accepted-known : {image : List ℕ} {x : Design} → Keeps image → Describes image x → RecordsKept image x
-accepted-known {image} keeps describes =
+  pub structured-directory : DirectoryKeeps image
+  structured-directory = structure-exact image .0 structured-is .0
+
+  pub structured-keeps : StructureKeeps (designOf image)
+  structured-keeps = structure-exact image .0 structured-is .1
+
+-- and what the code above the checker is handed
+pub structure-known : {image : List ℕ} {x : Design} → StructureKeeps (designOf image) → Describes image x → RecordsKept image x
+structure-known {image} rules describes =
     let d = designOf image in
-    let rules = keeps .design in
     record {
       describes = describes;
       registers = record { kept = λ r l. register-iff d r .1 (rules .registers r l) };
@@ -31,3 +36,12 @@ accepted-known {image} keeps describes =
       commands = record { kept = λ n l. command-iff d n .1 (rules .commands n l) };
       expressions = record { kept = λ n l. expression-iff d n .1 (rules .expressions n l) };
     }
+
+-- ---- once the whole is accepted
+pub accepted-keeps : {image : List ℕ} {a : Answer} {n : ℕ} → a ≡ verdict image → a ≡ Accepted n → Keeps image
+accepted-keeps {image} {a} {n} e h =
+    let accepted : verdict image ≡ Accepted n = sym e ∙ h in
+    verdict-exact image .0 (accepted ∙ ap Accepted (accepted-count image accepted))
+
+pub accepted-known : {image : List ℕ} {x : Design} → Keeps image → Describes image x → RecordsKept image x
+accepted-known keeps describes = structure-known (keeps .design .structure) describes

@@ -12,14 +12,15 @@ use Rattle.model.specs.declared.Found.the-variants.{At, Nowhere}
 use Rattle.model.specs.declared.Refusal.{Refusal}
 use Rattle.model.specs.declared.Refusal.the-variants.{Directory}
 use Rattle.model.specs.declared.Answer.{Answer}
-use Rattle.model.specs.declared.Answer.the-variants.{Refused}
+use Rattle.model.specs.declared.Answer.the-variants.{Accepted, Refused}
 use Rattle.model.specs.Indices.{lowestFailing, joinBelow}
 use Rattle.model.specs.Limits.{commandsMax, expressionsMax}
 use Rattle.model.specs.Image.{Design as Table, directoryKept, designOf}
 use Rattle.model.specs.States.{registerKept, stateKept}
 use Rattle.model.specs.Kinds.{commandKept, expressionKept}
+use Rattle.model.specs.Flow.{flowAnswer}
 use Rattle.model.specs.Rules.{DirectoryKeeps}
-use Rattle.model.specs.Verdict.{_before_, refusedAt, commandsFirst, lowestNode, designVerdict, verdict}
+use Rattle.model.specs.Verdict.{_before_, refusedAt, commandsFirst, lowestNode, designStructure, structure, verdict}
 use Rattle.model.proofs.Laws.Booleans.{not-true, not-false}
 use Rattle.model.proofs.Laws.Indices.{failing-none, lowest-failing-below}
 use Rattle.model.proofs.Exact.Directories.{directory-iff}
@@ -143,14 +144,32 @@ shape-known known = record { describes = known .describes; states = known .state
 pub children-told : {image defaults falls : List ℕ} {x : Design} {f : Found} → f ≡ Nowhere → ShapesPassed (designOf image) f falls → RecordsKept image x → defaults ≡ withDefaults (designOf image) (replicate {A = ℕ} 64 0) → ChildrenTold (designOf image) defaults falls
 children-told h passed known e = record { targets = fresh-defaults (known .describes) e; held = passed .falls }
 
+-- the last pass
+pub searched-refuses : (r : Refusal) (g : Found) {f : Found} {p : ℕ} → f ≡ g → f ≡ At p → Refused r p ≡ refusedAt r g
+unfolding refusedAt
+searched-refuses r g e h = rw (← e, h)
+
+pub searched-passes : (r : Refusal) (g : Found) {f : Found} → f ≡ g → f ≡ Nowhere → Accepted 0 ≡ refusedAt r g
+unfolding refusedAt
+searched-passes r g e h = rw (← e, h)
+
 -- ---- the whole
-pub directory-refuses : (image : List ℕ) {b : Bool} → b ≡ directoryKept image → not b ≡ true → Refused Directory 0 ≡ verdict image
-unfolding verdict refusedAt _before_
+pub directory-refuses : (image : List ℕ) {b : Bool} → b ≡ directoryKept image → not b ≡ true → Refused Directory 0 ≡ structure image
+unfolding structure refusedAt _before_
 directory-refuses image {b} e h = rw (← e, not-true b h)
 
-pub directory-passes : (image : List ℕ) {b : Bool} {a : Answer} → b ≡ directoryKept image → not b ≡ false → a ≡ fromLabels (designOf image) → a ≡ verdict image
-unfolding verdict designVerdict refusedAt _before_ fromLabels fromRegisters fromStates fromNodes fromUses fromDepths fromShape fromPorts fromChildren
+pub directory-passes : (image : List ℕ) {b : Bool} {a : Answer} → b ≡ directoryKept image → not b ≡ false → a ≡ fromLabels (designOf image) → a ≡ structure image
+unfolding structure designStructure refusedAt _before_ fromLabels fromRegisters fromStates fromNodes fromUses fromDepths fromShape fromPorts fromChildren
 directory-passes image {b} e h k = k ∙ rw (← e, not-false b h)
 
 pub directory-keeps : (image : List ℕ) {b : Bool} → b ≡ directoryKept image → not b ≡ false → DirectoryKeeps image
 directory-keeps image {b} e h = directory-iff image .0 (sym e ∙ not-false b h)
+
+-- the structure, and then the flow
+pub structure-refuses : (image : List ℕ) {a : Answer} {r : Refusal} {p : ℕ} → a ≡ structure image → a ≡ Refused r p → Refused r p ≡ verdict image
+unfolding verdict _before_
+structure-refuses image e h = rw (← e, h)
+
+pub structure-passes : (image : List ℕ) {a b : Answer} {n : ℕ} → a ≡ structure image → a ≡ Accepted n → b ≡ flowAnswer (designOf image) → b ≡ verdict image
+unfolding verdict _before_
+structure-passes image e h k = k ∙ rw (← e, h)

@@ -1,4 +1,4 @@
--- The verdict from each pass on, in the order of the table: each is the pass's refusal, if it has one, before all that follow.
+-- The image checks up to refusal 9, from each pass on, in the order of the table: each is the pass's refusal, if it has one, before all that follow.
 use Prim.Native.Nat.{ℕ}
 use mathlib.Core.List.{List}
 use lib.ListN.{length}
@@ -13,7 +13,6 @@ use Rattle.model.specs.Nodes.{commandUsedOnce, expressionUsedOnce, commandDepth
 use Rattle.model.specs.Shape.{shapeFault}
 use Rattle.model.specs.Ports.{namesNoPort}
 use Rattle.model.specs.Falls.{childLabelKept}
-use Rattle.model.specs.Flow.{flowAnswer}
 use Rattle.model.specs.Verdict.{_before_, refusedAt, lowestNode}
 use Rattle.design.specs.Resets.{Defaults}
 use Rattle.design.specs.Falls.{FallsTold}
@@ -24,7 +23,7 @@ pub record ChildrenTold (d : Design) (defaults falls : List ℕ) : Type 0 where
   pub held : FallsTold d falls
 
 unfoldable pub fromChildren : Design → Answer
-fromChildren d = refusedAt ChildLabel (lowestFailing (childLabelKept d) (length (d .states))) before flowAnswer d
+fromChildren d = refusedAt ChildLabel (lowestFailing (childLabelKept d) (length (d .states)))
 
 unfoldable pub fromPorts : Design → Answer
 fromPorts d = refusedAt PortAssigned (lowestFailing (namesNoPort d) (length (d .commands))) before fromChildren d

@@ -11,7 +11,7 @@ ghost use Rattle.model.specs.declared.Found.the-variants.{At};
 ghost use Rattle.model.specs.Limits.{commandsMax, expressionsMax};
 ghost use Rattle.model.specs.Image.{designOf};
 ghost use Rattle.model.specs.Nodes.{commandUsedOnce, expressionUsedOnce, commandDepthKept, expressionDepthKept};
-ghost use Rattle.model.specs.Verdict.{commandsFirst, lowestNode, verdict as verdictOf};
+ghost use Rattle.model.specs.Verdict.{commandsFirst, lowestNode, structure as structureOf, verdict as verdictOf};
 ghost use Rattle.design.specs.Describes.{Describes};
 ghost use Rattle.design.specs.Kept.{RegistersKept, StatesKept, RecordsKept};
 ghost use Rattle.checker_nodes.specs.Tables.{NodesPassed, OnceWhere, ShallowWhere, NodesTold};
@@ -90,7 +90,7 @@ fn node_depths(image: &[u8], design: Design, commands: &[u8], expressions: &[u8]
     commands_first(command, expression)
 }
 
-// Refusal 9, and on.
+// Refusal 9.
 fn from_children(image: &[u8], design: Design, defaults: &[u8], falls: &[u8]) -> Answer
     requires { ⌜ RecordsKept (now image) design × ChildrenTold (designOf (now image)) (now defaults) (now falls) ⌝ }
     ensures { λ a. ⌜ a ≡ fromChildren (designOf (now (image .entry))) ⌝ }
@@ -98,7 +98,7 @@ fn from_children(image: &[u8], design: Design, defaults: &[u8], falls: &[u8]) ->
     let found = checker_records::states::child_labels(image, design, defaults, falls);
     match found {
         Found::At(place) => Answer::Refused(Refusal::ChildLabel, place),
-        Found::Nowhere => checker_bodies::flow::faults(image, design),
+        Found::Nowhere => Answer::Accepted(0),
     }
 }
 
@@ -234,13 +234,27 @@ fn from_labels(image: &[u8], design: Design) -> Answer
     }
 }
 
-// The image checks: 1 to 8, 16, 9, and 10 to 12 in one pass.
-pub fn verdict(image: &[u8]) -> Answer
-    ensures { λ a. ⌜ a ≡ verdictOf (now (image .entry)) ⌝ }
+// The image checks but for 10 to 12: 1 to 8, 16 and 9.
+pub fn structure(image: &[u8]) -> Answer
+    ensures { λ a. ⌜ a ≡ structureOf (now (image .entry)) ⌝ }
 {
     if !Design::directory_kept(image) {
         return Answer::Refused(Refusal::Directory, 0);
     }
     let design = Design::read(image);
     from_labels(image, design)
+}
+
+// The image checks: the structure, and 10 to 12 in one pass.
+pub fn verdict(image: &[u8]) -> Answer
+    ensures { λ a. ⌜ a ≡ verdictOf (now (image .entry)) ⌝ }
+{
+    let structure = structure(image);
+    match structure {
+        Answer::Refused(refusal, place) => Answer::Refused(refusal, place),
+        Answer::Accepted(_) => {
+            let design = Design::read(image);
+            checker_bodies::flow::faults(image, design)
+        }
+    }
 }

@@ -12,7 +12,7 @@ use Rattle.model.specs.declared.Refusal.the-variants.{Directory}
 use Rattle.model.specs.declared.Answer.the-variants.{Refused}
 use Rattle.model.specs.Image.{Labels, Registers, States, Commands, Expressions, directoryKept}
 use Rattle.model.specs.Rules.{DirectoryKeeps}
-use Rattle.model.specs.Verdict.{_before_, refusedAt, verdict}
+use Rattle.model.specs.Verdict.{_before_, refusedAt, structure, verdict}
 use Rattle.model.specs.Listing.{refusalLine, listed, listing}
 use Rattle.model.specs.Limits.{largestImage}
 use Rattle.lister.specs.Lengths.{inputLength}
@@ -30,7 +30,7 @@ longest image keeps =
     )
 
 long-refused : (image : List ℕ) → largestImage < length image → verdict image ≡ Refused Directory 0
-unfolding verdict refusedAt _before_
+unfolding verdict structure refusedAt _before_
 long-refused image l = go (directoryKept image) refl
   where
     go : (w : Bool) → directoryKept image ≡ w → verdict image ≡ Refused Directory 0

@@ -1,6 +1,6 @@
 -- The place of a refusal is small: a label, a register, a state or a node of an image that keeps its directory, and a tree has no node above its own number.
 use Prim.Native.Nat.{ℕ, zero, suc, min, _+_, _≤_, _<_}
-use mathlib.Core.Path.{_≡_, refl, sym, _∙_}
+use mathlib.Core.Path.{_≡_, refl, sym, _∙_, ap}
 use mathlib.Core.Bool.{Bool, true, false, not, Bool·beq}
 use mathlib.Core.List.{List, [], _∷_, _++_}
 use native.Mathlib.Omega.{arith}
@@ -22,9 +22,10 @@ use Rattle.model.specs.Shape.{chargedUnless, transfers, shapeFaults, stateShape
 use Rattle.model.specs.Flow.{refusedUnless, flowFaults, stateFlowFaults, firstOf, flowAnswer, labelsRead}
 use Rattle.model.specs.Lattice.{allFlowTo, registerLabel, stateLabel}
 use Rattle.model.specs.States.{stateKept, hasChild, siblingOrSelf}
-use Rattle.model.specs.Verdict.{_before_, refusedAt, atZeroUnless, commandsFirst, lowestNode, designVerdict, verdict}
+use Rattle.model.specs.Verdict.{_before_, refusedAt, atZeroUnless, commandsFirst, lowestNode, designStructure, structure, verdict}
 use Rattle.model.proofs.Laws.Indices.{failing-none, lowest-failing-below}
 use Rattle.model.proofs.Laws.Images.{label-count, register-count, state-count, command-count, expression-count}
+use Rattle.model.proofs.Exact.{structure-counts-nothing, structure-exact}
 use Rattle.model.proofs.Exact.Directories.{directory-iff}
 use Rattle.model.proofs.Exact.Records.{state-iff}
 
@@ -67,6 +68,17 @@ placed-before : (b : ℕ) (r : Refusal) (f : Found) (later : Answer) → FoundBe
 unfolding refusedAt _before_
 placed-before b r (At n) later h k = placed-refused b r n (h n refl)
 placed-before b r Nowhere later h k = k refl
+
+-- the last stage, and two groups of stages
+placed-searched : (b : ℕ) (r : Refusal) (f : Found) → FoundBelow b f → PlacedBelow b (refusedAt r f)
+unfolding refusedAt
+placed-searched b r (At n) h = placed-refused b r n (h n refl)
+placed-searched b r Nowhere h = placed-accepted b 0
+
+placed-both : (b : ℕ) (first later : Answer) → PlacedBelow b first → ((n : ℕ) → first ≡ Accepted n → PlacedBelow b later) → PlacedBelow b (first before later)
+unfolding _before_
+placed-both b (Refused r p) later h k = h
+placed-both b (Accepted n) later h k = k n refl
 
 -- the lowest of charged nodes, and the first of refusals
 lower-below : (b i : ℕ) (f : Found) → i < b → FoundBelow b (lower (At i) f)
@@ -202,8 +214,8 @@ module _ (d : Table) (rows : length (d .rows) ≤ 3072) (registers : length (d .
       let below = state-iff d s .0 (failing-none (stateKept d) (length (d .states)) e s l) .command in
       omega arith
 
-  design-below : PlacedBelow 3072 (designVerdict d)
-  unfolding designVerdict
+  design-below : PlacedBelow 3072 (designStructure d)
+  unfolding designStructure
   design-below =
       placed-before 3072 LabelRow _ _ (failing-below _ (length (d .rows)) 3072 rows)
       (λ e1. placed-before 3072 RegisterRecord _ _ (failing-below _ (length (d .registers)) 3072 registers)
@@ -213,8 +225,7 @@ module _ (d : Table) (rows : length (d .rows) ≤ 3072) (registers : length (d .
       (λ e5. placed-before 3072 Depth _ _ (node-below _ _)
       (λ e6. placed-before 3072 Shape _ _ (shape-fault-below d 3072 (command-below e3))
       (λ e7. placed-before 3072 PortAssigned _ _ (failing-below _ (length (d .commands)) 3072 (omega arith))
-      (λ e8. placed-before 3072 ChildLabel _ _ (failing-below _ (length (d .states)) 3072 states)
-      (λ e9. flow-answer-below d 3072 (command-below e3))))))))))
+      (λ e8. placed-searched 3072 ChildLabel _ (failing-below _ (length (d .states)) 3072 states)))))))))
 
 zero-below : (w : Bool) → FoundBelow 3072 (atZeroUnless w)
 zero-below true = found-nowhere 3072
@@ -227,14 +238,14 @@ kept-when false e = absurd (found-nowhere-at e)
     found-nowhere-at : At 0 ≡ Nowhere → ⊥
     found-nowhere-at e = let z : _≡_ {A = ℕ} 0 1 = cc in omega arith
 
-verdict-below : (image : List ℕ) → PlacedBelow 3072 (verdict image)
-unfolding verdict
-verdict-below image =
+structure-below : (image : List ℕ) → PlacedBelow 3072 (structure image)
+unfolding structure
+structure-below image =
     placed-before
     3072
     Directory
     (atZeroUnless (directoryKept image))
-    (designVerdict (designOf image))
+    (designStructure (designOf image))
     (zero-below (directoryKept image))
     (λ e.
     let keeps = directory-iff image .0 (kept-when (directoryKept image) e) in
@@ -250,6 +261,13 @@ verdict-below image =
     (omega (arith, keeps .sections States))
     (omega (arith, keeps .sections Commands))
     (omega (arith, keeps .sections Expressions)))
+
+verdict-below : (image : List ℕ) → PlacedBelow 3072 (verdict image)
+unfolding verdict
+verdict-below image = placed-both 3072 (structure image) (flowAnswer (designOf image)) (structure-below image) (λ n e.
+    let accepted = structure-exact image .0 (e ∙ ap Accepted (structure-counts-nothing image n e)) in
+    let commands = command-count image in
+    flow-answer-below (designOf image) 3072 (λ s l. let below = accepted .1 .states s l .command in omega (arith, accepted .0 .sections Commands)))
 
 pub place-small : (image : List ℕ) {a : Answer} {r : Refusal} {p : ℕ} → a ≡ verdict image → a ≡ Refused r p → p < 3072
 place-small image {r = r} {p = p} e h = verdict-below image r p (sym e ∙ h)

@@ -26,7 +26,7 @@ use Rattle.checker.proofs.Accepted.{accepted-known}
 use Rattle.listing.specs.Lines.{RunningAt}
 
 pub start-kept : {image : List ℕ} → Keeps image → StatesKept (designOf image)
-start-kept {image} keeps = record { kept = λ s l. state-iff (designOf image) s .1 (keeps .design .states s l) }
+start-kept {image} keeps = record { kept = λ s l. state-iff (designOf image) s .1 (keeps .design .structure .states s l) }
 
 reset-target : (d : Table) (s : ℕ) → s < length (d .states) → getD (resetAreas d .targets) s 0 ≡ defaultTarget d s
 unfolding resetAreas

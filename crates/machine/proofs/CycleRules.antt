@@ -191,7 +191,7 @@ named-state : {image : List ℕ} {x : Design} {table registers targets values : 
 named-state {image} {x} {table} {registers} {s = s} {t = t} running l ran h k =
     let d = designOf image in
     let rules = running .keeps .design in
-    let ends = exec-ends d s (stateLabel d s ∷ []) (valuesIn d registers) (bodyOf d s) (rules .shaped s l) (rules .flowing s l) in
+    let ends = exec-ends d s (stateLabel d s ∷ []) (valuesIn d registers) (bodyOf d s) (rules .structure .shaped s l) (rules .flowing s l) in
     let came : exec (d .registers) (valuesIn d registers) (bodyOf d s) .outcome ≡ Transferred (Goto t) = ap (λ (y : Executed). y .outcome) (sym ran) ∙ rw (h, k) in
     let sibling = (rw came at ends) .1 in
     sibling-child d s t sibling .state

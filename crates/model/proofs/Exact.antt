@@ -8,11 +8,11 @@ use Rattle.model.specs.declared.Answer.the-variants.{Accepted}
 use Rattle.model.specs.Answers.{numbersOf}
 use Rattle.model.specs.Calls.{check}
 use Rattle.model.specs.Image.{Design, designOf}
-use Rattle.model.specs.Verdict.{designVerdict, verdict}
-use Rattle.model.specs.Rules.{DesignKeeps, Keeps}
+use Rattle.model.specs.Verdict.{designStructure, structure, verdict}
+use Rattle.model.specs.Rules.{DirectoryKeeps, StructureKeeps, Keeps}
 use Rattle.model.proofs.Laws.Found.{zero-unless-iff, failing-iff, node-iff}
 use Rattle.model.proofs.Laws.Numbers.{told-accepted}
-use Rattle.model.proofs.Laws.Verdict.{before-iff}
+use Rattle.model.proofs.Laws.Verdict.{CountsNothing, before-iff, searched-iff, both-iff, searched-counts-nothing, before-counts-nothing}
 use Directories.{directory-iff}
 use Labels.{lattice-iff}
 use Falls.{child-label-iff}
@@ -31,10 +31,10 @@ infixr 5 _and_
 _and_ : {P Q : Type 0} → P → Q → P × Q
 p and q = (p, q)
 
--- checks 2 to 12 and 16
-pub design-verdict-exact : (d : Design) → (designVerdict d ≡ Accepted 0) ↔ DesignKeeps d
-unfolding designVerdict
-design-verdict-exact d =
+-- checks 2 to 9 and 16
+pub design-structure-exact : (d : Design) → (designStructure d ≡ Accepted 0) ↔ StructureKeeps d
+unfolding designStructure
+design-structure-exact d =
     Iff·trans
     (before-iff LabelRow (lattice-iff (d .rows))
     (before-iff RegisterRecord (failing-iff (register-iff d))
@@ -44,9 +44,8 @@ design-verdict-exact d =
     (before-iff Depth (node-iff d (command-depth-iff d) (expression-depth-iff d))
     (before-iff Shape (shape-iff d)
     (before-iff PortAssigned (failing-iff (port-iff d))
-    (before-iff ChildLabel (failing-iff (child-label-iff d))
-    (flow-iff d)))))))))) (
-      λ (lattice, (registers, (states, (nodes, (uses, (depths, (shapes, (ports, (children, flows))))))))).
+    (searched-iff ChildLabel (failing-iff (child-label-iff d))))))))))) (
+      λ (lattice, (registers, (states, (nodes, (uses, (depths, (shapes, (ports, children)))))))).
           record {
             lattice = lattice;
             registers = registers;
@@ -61,7 +60,6 @@ design-verdict-exact d =
             shaped = λ s l. shapes s l .1;
             ports = ports;
             child-labels = children;
-            flowing = flows;
           },
       λ k.
           k .lattice
@@ -72,17 +70,35 @@ design-verdict-exact d =
           and (k .commands-depth and k .expressions-depth)
           and (λ s l. k .transferring s l and k .shaped s l)
           and k .ports
-          and k .child-labels
-          and k .flowing,
+          and k .child-labels,
     )
+
+-- the image checks but for 10 to 12
+pub structure-exact : (image : List ℕ) → (structure image ≡ Accepted 0) ↔ (DirectoryKeeps image × StructureKeeps (designOf image))
+unfolding structure
+structure-exact image = before-iff Directory (Iff·trans zero-unless-iff (directory-iff image)) (design-structure-exact (designOf image))
+
+pub structure-counts-nothing : (image : List ℕ) → CountsNothing (structure image)
+unfolding structure designStructure
+structure-counts-nothing image =
+    before-counts-nothing _ _
+    (before-counts-nothing _ _
+    (before-counts-nothing _ _
+    (before-counts-nothing _ _
+    (before-counts-nothing _ _
+    (before-counts-nothing _ _
+    (before-counts-nothing _ _
+    (before-counts-nothing _ _
+    (before-counts-nothing _ _
+    (searched-counts-nothing ChildLabel _)))))))))
 
 -- all image checks
 pub verdict-exact : (image : List ℕ) → (verdict image ≡ Accepted 0) ↔ Keeps image
 unfolding verdict
 verdict-exact image =
     Iff·trans
-    (before-iff Directory (Iff·trans zero-unless-iff (directory-iff image)) (design-verdict-exact (designOf image)))
-    (λ h. record { directory = h .0; design = h .1 }, λ k. (k .directory, k .design))
+    (both-iff (structure-counts-nothing image) (structure-exact image) (flow-iff (designOf image)))
+    (λ h. record { directory = h .0 .0; design = record { structure = h .0 .1; flowing = h .1 } }, λ k. ((k .directory, k .design .structure), k .design .flowing))
 
 -- the same through the numbers that the host is given
 pub check-exact : (image : List ℕ) → (numbersOf (check image) ≡ record { number = 0; place = 0; count = 0 }) ↔ Keeps image

@@ -16,7 +16,7 @@ use Rattle.model.specs.Falls.{holdsFall, isFallenInto, childLabelKept}
 use Rattle.model.specs.Ports.{sparesPorts, namesNoPort}
 use Rattle.model.specs.Flow.{labelsRead, flowFaults, stateFlowFaults, firstOf, flowAnswer}
 use Rattle.model.specs.Answers.{Numbers, numbersOf}
-use Rattle.model.specs.Verdict.{_before_, refusedAt, lowestNode, designVerdict, verdict}
+use Rattle.model.specs.Verdict.{_before_, refusedAt, lowestNode, designStructure, structure, verdict}
 use Rattle.model.specs.Signed.{signedValue, wordOf, belowSigned, shiftedRight, dividedSigned}
 use Rattle.model.specs.Values.{apply, wordsOf, bytesOf}
 use Rattle.model.specs.Machine.{Areas, Cycle, eval, exec, resetAreas, targetSound, cleared, goneTo, afterBody, runFrom, cycle, cycles, afterLast, afterCycles}
@@ -26,7 +26,7 @@ use Rattle.model.specs.Parties.{Event, wasReset, wasWritten, cycled, per
 
 -- every definition of the image checks
 unfoldable pub checks : ℕ
-unfolding allBelow someBelow lowest lowestFailing lowestOf occurrences tabulateFrom tabulate joinBelow upTo recursively sectionKept offsetsKept directoryKept recordsOf sectionOf designOf flowsTo rowInside reflexive antisymmetric transitive leastFull leastAbove joined labelKept allFlowTo widthKept registerKept parentKept stateKept isChild hasChild defaultTarget siblingOrSelf within commandKind expressionKind commandHolds expressionHolds commandKept expressionKept exprOfKind cmdOfKind exprStep exprOf cmdStep cmdOf bodyOf exprDepth cmdDepth registersRead commandParts expressionsOf expressionParts commandUses expressionUses commandUsedOnce expressionUsedOnce commandDepthKept expressionDepthKept transfers shapeFaults stateShapeFaults shapeFault sparesPorts namesNoPort holdsFall isFallenInto childLabelKept labelsRead flowFaults stateFlowFaults firstOf flowAnswer _before_ refusedAt lowestNode designVerdict verdict
+unfolding allBelow someBelow lowest lowestFailing lowestOf occurrences tabulateFrom tabulate joinBelow upTo recursively sectionKept offsetsKept directoryKept recordsOf sectionOf designOf flowsTo rowInside reflexive antisymmetric transitive leastFull leastAbove joined labelKept allFlowTo widthKept registerKept parentKept stateKept isChild hasChild defaultTarget siblingOrSelf within commandKind expressionKind commandHolds expressionHolds commandKept expressionKept exprOfKind cmdOfKind exprStep exprOf cmdStep cmdOf bodyOf exprDepth cmdDepth registersRead commandParts expressionsOf expressionParts commandUses expressionUses commandUsedOnce expressionUsedOnce commandDepthKept expressionDepthKept transfers shapeFaults stateShapeFaults shapeFault sparesPorts namesNoPort holdsFall isFallenInto childLabelKept labelsRead flowFaults stateFlowFaults firstOf flowAnswer _before_ refusedAt lowestNode designStructure structure verdict
 checks = 0
 
 -- and with these every definition of the cycle, the calls, the lists of calls and the listing

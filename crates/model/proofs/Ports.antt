@@ -59,7 +59,7 @@ module _ (d : Design) where
     every-command n is = go (decLt n (length (d .commands)))
       where
         go : Dec (n < length (d .commands)) → registerAt d (commandAt d n .item) .kind ≡ 1 → ⊥
-        go (yes l) = keeps .ports n l is
+        go (yes l) = keeps .structure .ports n l is
         go (no l) =
             let none : commandAt d n ≡ noNode = List·getD-eq-default (d .commands) noNode (omega arith) in
             let skipped : commandKind (commandAt d n .kind) ≡ skips = kind-skips (ap (λ (x : Node). x .kind) none) in

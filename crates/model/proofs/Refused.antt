@@ -14,12 +14,12 @@ use Rattle.model.specs.Image.{Commands, count, nodeOf, Design, registerA
 use Rattle.model.specs.Machine.{targetSound}
 use Rattle.model.specs.States.{hasChild}
 use Rattle.model.specs.Answers.{numbersOf}
-use Rattle.model.specs.Verdict.{_before_, refusedAt, designVerdict, verdict}
+use Rattle.model.specs.Verdict.{_before_, refusedAt, designStructure, structure, verdict}
 use Rattle.model.specs.Rules.{DirectoryKeeps, Keeps}
 use Rattle.model.specs.Calls.{Lent, registerAreaKept, targetAreaKept, registerAreaAnswer, lengthAnswer, contentKept, contentsAnswer, targetsAnswer, isWritable, portAnswer, valueAnswer, cyclesAnswer, leaves, leavesRegisters, check, registersLength, targetsLength, resetAnswer, reset, runAnswer, run, writePortAnswer, writePort}
 use Rattle.model.specs.Parties.{RightLengths, Call, resets, writes, runs, perform}
 use Rattle.model.specs.Standing.{ChildOf}
-use Rattle.model.specs.Refusals.{Pass, _asks_, TargetKeeps, AllKept, imageTable, resetTable, writePortTable, runTable, callTable, callCount, AnswersBy}
+use Rattle.model.specs.Refusals.{Pass, _asks_, TargetKeeps, AllKept, structureTable, imageTable, resetTable, writePortTable, runTable, callTable, callCount, AnswersBy}
 use Rattle.model.proofs.Laws.Equivalences.{less-iff, at-most-iff, equal-iff, refutes-iff, and-iff, or-iff}
 use Rattle.model.proofs.Laws.Images.{section-length}
 use Rattle.model.proofs.Laws.Numbers.{told-accepted, told-refused}
@@ -48,9 +48,9 @@ few-commands : (image : List ℕ) → DirectoryKeeps image → length (designOf 
 unfolding designOf
 few-commands image k = rw (section-length nodeOf image Commands) (k .sections Commands .at-most)
 
-pub image-decides : (image : List ℕ) → Decides (verdict image) 0 (imageTable image)
-unfolding verdict designVerdict
-image-decides image =
+pub structure-decides : (image : List ℕ) → Decides (structure image) 0 (structureTable image)
+unfolding structure designStructure
+structure-decides image =
     let d = designOf image in
     decides-before
     (decides-one (finds-zero (directory-iff image)))
@@ -64,8 +64,11 @@ image-decides image =
     (stage (finds-node d few (command-depth-iff d) (expression-depth-iff d))
     (stage (shape-finds d)
     (stage (finds-each (port-iff d))
-    (stage (finds-each (child-label-iff d))
-    (flow-decides d))))))))))
+    (decides-one (finds-each (child-label-iff d)))))))))))
+
+pub image-decides : (image : List ℕ) → Decides (verdict image) 0 (imageTable image)
+unfolding verdict
+image-decides image = decides-before (structure-decides image) (λ kept. flow-decides (designOf image))
 
 -- an image keeps the rules exactly where nothing of the table is broken
 pub keeps-table : (image : List ℕ) → Keeps image ↔ AllKept (imageTable image)

@@ -10,6 +10,7 @@ pub mod States
 pub mod Kinds
 pub mod Trees
 pub mod Nodes
+pub mod Labelling
 -- 'Shape and flow'
 pub mod Shape
 pub mod Ports

@@ -87,9 +87,9 @@ flowTable d zero = []
 flowTable d (suc n) = flowTable d n ++ flowRules d n (stateLabel d n ∷ []) (bodyOf d n)
 
 -- ---- the table
--- the image checks: "The lowest number that applies comes first, except that 10 to 12 are one pass", since E7 in reading order. 02, E1: 16 comes "after 8 and before 9".
-abbrev pub imageTable : List ℕ → List Pass
-imageTable image =
+-- the image checks but for 10 to 12, in the order of judging. 02, E1: 16 comes "after 8 and before 9".
+abbrev pub structureTable : List ℕ → List Pass
+structureTable image =
     let d = designOf image in
     (Directory asks at 0 (DirectoryKeeps image) ∷ [])
     ∷ (LabelRow asks each (length (d .rows)) (LabelKeeps (d .rows)) ∷ [])
@@ -101,7 +101,11 @@ imageTable image =
     ∷ (Shape asks ShapeKeeps d ∷ [])
     ∷ (PortAssigned asks each (length (d .commands)) (NamesNoPort d) ∷ [])
     ∷ (ChildLabel asks each (length (d .states)) (ChildLabelKeeps d) ∷ [])
-    ∷ flowTable d (length (d .states))
+    ∷ []
+
+-- all image checks: "The lowest number that applies comes first, except that 10 to 12 are one pass", since E7 in reading order
+abbrev pub imageTable : List ℕ → List Pass
+imageTable image = structureTable image ++ flowTable (designOf image) (length (designOf image .states))
 
 -- "A target is a child of its state; a childless state's is its own number."
 abbrev pub TargetKeeps : Design → List ℕ → ℕ → Type 0

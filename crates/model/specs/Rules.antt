@@ -152,8 +152,8 @@ module _ (d : Design) where
   Flows s context (goto n t) = gotoFlows d context t ≡ true
   Flows s context (branch n e p q) = Flows s (context ++ labelsRead d e) p × Flows s (context ++ labelsRead d e) q
 
-  -- the rules behind refusals 2 to 12 and 16
-  pub record DesignKeeps : Type 0 where
+  -- the rules behind refusals 2 to 9 and 16
+  pub record StructureKeeps : Type 0 where
     pub lattice : IsLattice (d .rows)
     pub registers : (r : ℕ) → r < length (d .registers) → RegisterKeeps r
     pub states : (s : ℕ) → s < length (d .states) → StateKeeps s
@@ -167,6 +167,10 @@ module _ (d : Design) where
     pub shaped : (s : ℕ) → s < length (d .states) → Shaped s (bodyOf d s)
     pub ports : (n : ℕ) → n < length (d .commands) → NamesNoPort n
     pub child-labels : (s : ℕ) → s < length (d .states) → ChildLabelKeeps s
+
+  -- those behind refusals 2 to 12 and 16
+  pub record DesignKeeps : Type 0 where
+    pub structure : StructureKeeps
     pub flowing : (s : ℕ) → s < length (d .states) → Flows s (stateLabel d s ∷ []) (bodyOf d s)
 
 -- an image keeps the rules

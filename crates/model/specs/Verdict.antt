@@ -48,9 +48,9 @@ unfoldable pub lowestNode : Design → (ℕ → Bool) → (ℕ → Bool) → Fou
 lowestNode d command expression =
     commandsFirst (lowestFailing command (length (d .commands))) (lowestFailing expression (length (d .expressions)))
 
--- refusals 2 to 12 and 16. 02, E1: "It refuses with 16 at the lowest such assignment, after 8 and before 9."
-unfoldable pub designVerdict : Design → Answer
-designVerdict d =
+-- refusals 2 to 9 and 16: the records, the nodes and their shape. 02, E1: "It refuses with 16 at the lowest such assignment, after 8 and before 9."
+unfoldable pub designStructure : Design → Answer
+designStructure d =
     refusedAt LabelRow (lowestFailing (labelKept (d .rows)) (length (d .rows)))
     before refusedAt RegisterRecord (lowestFailing (registerKept d) (length (d .registers)))
     before refusedAt StateRecord (lowestFailing (stateKept d) (length (d .states)))
@@ -60,8 +60,11 @@ designVerdict d =
     before refusedAt Shape (shapeFault d)
     before refusedAt PortAssigned (lowestFailing (namesNoPort d) (length (d .commands)))
     before refusedAt ChildLabel (lowestFailing (childLabelKept d) (length (d .states)))
-    before flowAnswer d
 
--- the image checks, 1 to 12 and 16: what every call makes first
+-- the image checks but for 10 to 12
+unfoldable pub structure : List ℕ → Answer
+structure image = refusedAt Directory (atZeroUnless (directoryKept image)) before designStructure (designOf image)
+
+-- the image checks, 1 to 12 and 16: what every call of 01 makes first
 unfoldable pub verdict : List ℕ → Answer
-verdict image = refusedAt Directory (atZeroUnless (directoryKept image)) before designVerdict (designOf image)
+verdict image = structure image before flowAnswer (designOf image)

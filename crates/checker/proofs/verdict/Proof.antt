@@ -1,29 +1,31 @@
-use Rattle.checker.proofs.StageRules.{directory-refuses, directory-passes, directory-keeps}
+use Rattle.checker.proofs.Accepted.{structured-directory, structured-keeps, structure-known}
+use Rattle.checker.proofs.StageRules.{structure-refuses, structure-passes}
 use borrow.Author.Needs.{needs}
 use Rattle.checker.proofs.verdict.Statement.{statement}
 use Rattle.checker.proofs.verdict.Tie as tie
-use Rattle.checker.proofs.verdict.Reads as reads
-use Rattle.checker.proofs.verdict.Lts as lts
-use Rattle.design.proofs.Design.directory_kept.Reads as directory-kept-reads
-use Rattle.design.proofs.Design.read.Reads as read-reads
-use Rattle.checker.proofs.from_labels.Reads as from-labels-reads
 
-directory-kept-requires : tie.Need-directory-kept-requires
-directory-kept-requires c κs = search needs
+structure-requires : tie.Need-structure-requires
+structure-requires c κs = search needs
+
+enum-known-structure : tie.Need-enum-known-structure
+enum-known-structure c = search needs
+
+enum-told : tie.Need-enum-told
+enum-told c = search needs
 
 returns : tie.Need-returns
-returns c = search (directory-refuses, directory-passes, needs)
+returns c = search (structure-refuses, structure-passes, needs)
 
 read-requires : tie.Need-read-requires
-read-requires c κs = search (directory-keeps, needs)
+read-requires c κs = search (structured-directory, needs)
 
-from-labels-requires : tie.Need-from-labels-requires
-from-labels-requires c κs = search needs
+faults-requires : tie.Need-faults-requires
+faults-requires c κs = search (structured-keeps, structure-known, needs)
 
 returns-2 : tie.Need-returns-2
-returns-2 c = search (directory-refuses, directory-passes, needs)
+returns-2 c = search (structure-refuses, structure-passes, needs)
 
 pub verdict-spec : {M : Type 1} → statement M
 verdict-spec =
     tie.close
-    (tie.spec directory-kept-requires returns read-requires from-labels-requires returns-2)
+    (tie.spec structure-requires enum-known-structure enum-told read-requires faults-requires returns returns-2)

@@ -204,7 +204,7 @@ module _ (d₁ d₂ : Design) (level : ℕ) (alike : Alike d₁ d₂ level) wher
           ∙ ap (λ (registers : List Register). exec registers (a₂ .registers) (bodyOf d₂ s)) (alike .registers) in
           rw
           (← alike-run)
-          (exec-same d₁ level keeps₁ isLabel s seen (stateLabel d₁ s ∷ []) agree (bodyOf d₁ s) (keeps₁ .shaped s l₁) (keeps₁ .flowing s l₁) (state-label d₁ level keeps₁ isLabel s, tt) (and-both (stateSeen d₁ level s) true seen refl))
+          (exec-same d₁ level keeps₁ isLabel s seen (stateLabel d₁ s ∷ []) agree (bodyOf d₁ s) (keeps₁ .structure .shaped s l₁) (keeps₁ .flowing s l₁) (state-label d₁ level keeps₁ isLabel s, tt) (and-both (stateSeen d₁ level s) true seen refl))
 
     -- the run from the target of s goes on together
     abbrev Further : ℕ → ℕ → ℕ → Areas → Areas → Type 0

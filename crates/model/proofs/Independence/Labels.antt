@@ -31,7 +31,7 @@ module _ (d : Design) (level : ℕ) (keeps : DesignKeeps d) (isLabel : level < l
 
   -- what flows to a label that is seen is seen
   pub seen-below : (a b : ℕ) → a < length (d .rows) → b < length (d .rows) → FlowsTo (d .rows) a b → Seen b → Seen a
-  seen-below a b la lb f s = keeps .lattice .transitive a b level la lb isLabel f s
+  seen-below a b la lb f s = keeps .structure .lattice .transitive a b level la lb isLabel f s
 
   -- what a label that is not seen flows to is not seen
   pub unseen-above : (a b : ℕ) → a < length (d .rows) → b < length (d .rows) → FlowsTo (d .rows) a b → flowsTo (d .rows) a level ≡ false → flowsTo (d .rows) b level ≡ false
@@ -58,7 +58,7 @@ module _ (d : Design) (level : ℕ) (keeps : DesignKeeps d) (isLabel : level < l
   register-label r = go (decLt r (length (d .registers)))
     where
       go : Dec (r < length (d .registers)) → registerLabel d r < length (d .rows)
-      go (yes h) = keeps .registers r h .label
+      go (yes h) = keeps .structure .registers r h .label
       go (no h) =
           let past : registerLabel d r ≡ 0 = ap (λ (x : Register). x .label) (List·getD-eq-default (d .registers) _ {n = r} (omega arith)) in
           omega arith
@@ -67,7 +67,7 @@ module _ (d : Design) (level : ℕ) (keeps : DesignKeeps d) (isLabel : level < l
   state-label s = go (decLt s (length (d .states)))
     where
       go : Dec (s < length (d .states)) → stateLabel d s < length (d .rows)
-      go (yes h) = keeps .states s h .label
+      go (yes h) = keeps .structure .states s h .label
       go (no h) =
           let past : stateLabel d s ≡ 0 = ap (λ (x : State). x .label) (List·getD-eq-default (d .states) _ {n = s} (omega arith)) in
           omega arith

@@ -79,7 +79,7 @@ module _ (d : Design) (keeps : DesignKeeps d) where
       }
 
   pub ended : (s : ℕ) → s < length (d .states) → (a : Areas) → Ended d s (stateLabel d s ∷ []) (bodyOf d s) (ran d s a .outcome)
-  ended s l a = exec-ends d s (stateLabel d s ∷ []) (a .registers) (bodyOf d s) (keeps .shaped s l) (keeps .flowing s l)
+  ended s l a = exec-ends d s (stateLabel d s ∷ []) (a .registers) (bodyOf d s) (keeps .structure .shaped s l) (keeps .flowing s l)
 
   -- a target of a sound table is a state
   pub target-state : (a : Areas) → Good d a → (s : ℕ) → s < length (d .states) → target a s < length (d .states)
@@ -92,10 +92,10 @@ module _ (d : Design) (keeps : DesignKeeps d) where
 
   -- a state that holds a fall has a child for its target
   pub target-child : (a : Areas) → Good d a → (s : ℕ) → s < length (d .states) → holdsFall (bodyOf d s) ≡ true → ChildOf d s (target a s)
-  target-child a good s l h = sound-child d (a .targets) s (good .sound s l) (fall-child d s (bodyOf d s) (keeps .shaped s l) h)
+  target-child a good s l h = sound-child d (a .targets) s (good .sound s l) (fall-child d s (bodyOf d s) (keeps .structure .shaped s l) h)
 
   pub parent-lower : (s : ℕ) → s < length (d .states) → s ≢ 0 → parent d s < s
-  parent-lower s l h = keeps .states s l .parent-below h
+  parent-lower s l h = keeps .structure .states s l .parent-below h
 
   -- ---- good areas stay good
   gone-good : (s t : ℕ) (a : Areas) → s < length (d .states) → Good d a → Ended d s (stateLabel d s ∷ []) (bodyOf d s) (Transferred (Goto t)) → Good d (record { registers = a .registers; targets = goneTo d t (a .targets) })
@@ -158,7 +158,7 @@ module _ (d : Design) (keeps : DesignKeeps d) where
       lower q m = go (ℕ-discrete s 0)
         where
           go : Dec (s ≡ 0) → q < s
-          go (yes e) = let none : parent d s ≡ 0 = keeps .states s l .root-parent e in omega arith
+          go (yes e) = let none : parent d s ≡ 0 = keeps .structure .states s l .root-parent e in omega arith
           go (no no-root) = let b = parent-lower s l no-root in omega arith
 
   after-above : (s : ℕ) (a : Areas) → s < length (d .states) → Good d a → (o : Outcome) → Ended d s (stateLabel d s ∷ []) (bodyOf d s) o → (fell : Cycle) (goesOn : ℕ) → Above d (a .targets) (target a s) goesOn (fell .after .targets) → Above d (a .targets) s (entryOf o s) (afterBody d o s a fell .after .targets)

@@ -53,14 +53,14 @@ module _ (d : Design) where
 module _ (d : Design) (keeps : DesignKeeps d) where
   -- the default child of a state that holds a fall
   pub default-of-fall : (q : ℕ) → q < length (d .states) → holdsFall (bodyOf d q) ≡ true → ChildOf d q (defaultTarget d q)
-  default-of-fall q l h = default-child d q (fall-child d q (bodyOf d q) (keeps .shaped q l) h)
+  default-of-fall q l h = default-child d q (fall-child d q (bodyOf d q) (keeps .structure .shaped q l) h)
 
   pub default-rises : (P : ℕ → Type 0) (targets : List ℕ) → Defaults d P targets → (f q : ℕ) → P q → q < length (d .states) → Rising d f q targets
   default-rises P targets table zero q p l = tt
   default-rises P targets table (suc f) q p l = λ h.
       let child = default-of-fall q l h in
       let rises : FlowsTo (d .rows) (stateLabel d q) (stateLabel d (defaultTarget d q)) =
-      keeps .child-labels (defaultTarget d q) (child .state) q (holds-iff .0 h) (record { child = is-child d q (defaultTarget d q) child; lowest = default-least d q }) in
+      keeps .structure .child-labels (defaultTarget d q) (child .state) q (holds-iff .0 h) (record { child = is-child d q (defaultTarget d q) child; lowest = default-least d q }) in
       rw (table .default q p l) (rises, default-rises P targets table f (defaultTarget d q) (table .closed q (defaultTarget d q) p child) (child .state))
 
   -- after a goto the named state and its descendants are at their defaults
@@ -75,11 +75,11 @@ module _ (d : Design) (keeps : DesignKeeps d) where
 
   module _ (level : ℕ) (isLabel : level < length (d .rows)) where
     label-reflexive : (s : ℕ) → FlowsTo (d .rows) (stateLabel d s) (stateLabel d s)
-    label-reflexive s = keeps .lattice .reflexive (stateLabel d s) (state-label d level keeps isLabel s)
+    label-reflexive s = keeps .structure .lattice .reflexive (stateLabel d s) (state-label d level keeps isLabel s)
 
     label-transitive : (s t u : ℕ) → FlowsTo (d .rows) (stateLabel d s) (stateLabel d t) → FlowsTo (d .rows) (stateLabel d t) (stateLabel d u) → FlowsTo (d .rows) (stateLabel d s) (stateLabel d u)
     label-transitive s t u h k =
-        keeps .lattice .transitive (stateLabel d s) (stateLabel d t) (stateLabel d u) (state-label d level keeps isLabel s) (state-label d level keeps isLabel t) (state-label d level keeps isLabel u) h k
+        keeps .structure .lattice .transitive (stateLabel d s) (stateLabel d t) (stateLabel d u) (state-label d level keeps isLabel s) (state-label d level keeps isLabel t) (state-label d level keeps isLabel u) h k
 
     after-risen : (f s : ℕ) (a : Areas) → s < length (d .states) → Good d a → Rising d (suc f) s (a .targets) → (o : Outcome) → Ended d s (stateLabel d s ∷ []) (bodyOf d s) o → (fell : Cycle) (goesOn : ℕ)
         → (holdsFall (bodyOf d s) ≡ true → getD (fell .after .targets) s 0 ≡ goesOn) → (holdsFall (bodyOf d s) ≡ true → Risen d f (target a s) goesOn (fell .after .targets))

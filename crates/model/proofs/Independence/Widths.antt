@@ -68,7 +68,7 @@ module _ (d : Design) (keeps : DesignKeeps d) where
       go (no l) = rw (List·getD-eq-default (d .registers) noRegister {n = r} (omega arith)) none
 
   pub modulus-most : (r : ℕ) → modulus (d .registers) r ≤ valueCount
-  modulus-most = each-register (λ x. 2 ^ x .width ≤ valueCount) (omega arith) (λ r l. pow-mono (keeps .registers r l .width-most))
+  modulus-most = each-register (λ x. 2 ^ x .width ≤ valueCount) (omega arith) (λ r l. pow-mono (keeps .structure .registers r l .width-most))
 
   pub fitting-bounded : (values : List ℕ) → Fitting (d .registers) values → (r : ℕ) → getD values r 0 < valueCount
   fitting-bounded values h r = lt-of-lt-of-le (h r) (modulus-most r)
@@ -78,4 +78,4 @@ module _ (d : Design) (keeps : DesignKeeps d) where
   reset-fitting r =
       rw
       (List·getD-map (λ (x : Register). x .reset) (d .registers) r noRegister)
-      (each-register (λ x. x .reset < 2 ^ x .width) (omega arith) (λ s l. keeps .registers s l .reset) r)
+      (each-register (λ x. x .reset < 2 ^ x .width) (omega arith) (λ s l. keeps .structure .registers s l .reset) r)
