@@ -1,5 +1,7 @@
 // The checker: the passes in the order of the table, to a verdict. Each function judges from its
 // pass on, and knows what the passes before it have established.
+mod flow;
+
 use design::Design;
 use model::Answer;
 use model::Found;
@@ -254,7 +256,7 @@ pub fn verdict(image: &[u8]) -> Answer
         Answer::Refused(refusal, place) => Answer::Refused(refusal, place),
         Answer::Accepted(_) => {
             let design = Design::read(image);
-            checker_bodies::flow::faults(image, design)
+            flow::flow_faults(image, design)
         }
     }
 }

@@ -6,7 +6,7 @@ use mathlib.Core.List.{List, [], _∷_, _++_, map}
 use native.Mathlib.Omega.{arith}
 use lib.Bits.{bitAnd}
 use lib.Dec.{eqb}
-use lib.ListN.{length}
+use lib.ListN.{length, getD}
 use borrow.Author.Tests.{lt-ltb, le-ltb}
 use Rattle.model.specs.declared.Refusal.{Refusal}
 use Rattle.model.specs.declared.Refusal.the-variants.{AssignFlow, GotoFlow, FallFlow}
@@ -17,6 +17,7 @@ use Rattle.model.specs.Limits.{commandsMax}
 use Rattle.model.specs.Lattice.{allFlowTo, registerLabel, stateLabel}
 use Rattle.model.specs.Kinds.{Operation, commandKind, expressionKind}
 use Rattle.model.specs.Trees.{Expr, constant, register, binary, exprOf, cmdOf, registersRead}
+use Rattle.model.specs.Labelling.{relabelled}
 use Rattle.model.specs.Flow.{refusedUnless, labelsRead, assignFlows, flowFaults, firstOf, flowRefusal}
 use Rattle.model.specs.Verdict.{_before_}
 use Rattle.model.proofs.Laws.Kinds.{expressionKinds, kind-constants, no-expression-kind}
@@ -24,15 +25,15 @@ use Rattle.model.proofs.Laws.Firsts.{AreRefusals, first-append}
 use Rattle.model.proofs.Laws.Trees.{expr-constant, expr-register, expr-binary, cmd-assign}
 use Rattle.model.proofs.Exact.Records.{state-iff}
 use Rattle.design.specs.declared.Design.{Design}
-use Rattle.design.specs.Records.{nodeIn, registerIn, stateIn, registerEnd}
+use Rattle.design.specs.Records.{nodeIn, stateIn}
 use Rattle.design.specs.Describes.{Describes}
-use Rattle.design.proofs.Laws.{labels-count, labels-most, registers-count, states-count, commands-count, expressions-count, register-inside, state-in, command-in}
+use Rattle.design.proofs.Laws.{labels-count, labels-most, states-count, commands-count, expressions-count, state-in, command-in}
 use Rattle.design.proofs.FieldRules.{label-is as state-label, command-below, same-command, item-is, a-is, assigned-register, assigned-expression, expression-at, expression-place-inside, expression-kind-is, read-is, first-is, second-is, expression-holds, read-register, operation, operand-a-below, operand-b-below, lower-expression}
 use Rattle.design.specs.Kept.{RecordsKept}
 use Rattle.checker_bodies.specs.Places.{placeUnless}
 use Rattle.checker_bodies.specs.Flows.{MaskOf, Labelled, Naming, Gathering, Assigning, answerAmong, FirstAt}
 use Rattle.checker_bodies.proofs.PlaceRules.{commands-few}
-use Rattle.checker_bodies.proofs.Masks.{mask-both, mask-none, label-is, register-label}
+use Rattle.checker_bodies.proofs.Masks.{mask-both, mask-none, label-entry-inside, entry-is, entry-below}
 
 -- ---- what a place says
 module _ (d : Table) where
@@ -116,31 +117,29 @@ labels-constant : (d : Table) (v : ℕ) → labelsRead d (constant v) ≡ []
 unfolding labelsRead registersRead
 labels-constant d v = refl
 
-module _ {image : List ℕ} {registersAt place e : ℕ} (here : Gathering image registersAt place e) where
-  pub gathered-register : {k r : ℕ} → k ≡ 1 → k ≡ nodeIn image place e .kind → r ≡ nodeIn image place e .item → Labelled image registersAt r
+module _ {image labels : List ℕ} {place e : ℕ} (here : Gathering image labels place e) where
+  pub gathered-register : {k r : ℕ} → k ≡ 1 → k ≡ nodeIn image place e .kind → r ≡ nodeIn image place e .item → Labelled image labels r
   gathered-register q p f =
-      let below = read-register (here .expression) q p f in
-      let count = registers-count (here .known .describes) in
-      record { design = here .design; known = here .known; register = omega arith; begins = here .registers-begin }
+      record { design = here .design; known = here .known; labelling = here .labelling; register = read-register (here .expression) q p f }
 
-  lower-gathering : (m : ℕ) → m < e → Gathering image registersAt place m
+  lower-gathering : (m : ℕ) → m < e → Gathering image labels place m
   lower-gathering m l =
-      record { design = here .design; known = here .known; expression = lower-expression (here .expression) (here .known .expressions) l; registers-begin = here .registers-begin }
+      record { design = here .design; known = here .known; labelling = here .labelling; expression = lower-expression (here .expression) (here .known .expressions) l }
 
-  pub operand-a-gathering : {k a : ℕ} → k < expressionKinds → 1 ≤ k → (k ≡ 1 → ⊥) → k ≡ nodeIn image place e .kind → a ≡ nodeIn image place e .a → Gathering image registersAt place a
+  pub operand-a-gathering : {k a : ℕ} → k < expressionKinds → 1 ≤ k → (k ≡ 1 → ⊥) → k ≡ nodeIn image place e .kind → a ≡ nodeIn image place e .a → Gathering image labels place a
   operand-a-gathering {a = a} u l other p f = lower-gathering a (operand-a-below (here .expression) u l other p f)
 
-  pub operand-b-gathering : {k b : ℕ} → k < expressionKinds → 1 ≤ k → (k ≡ 1 → ⊥) → k ≡ nodeIn image place e .kind → b ≡ nodeIn image place e .b → Gathering image registersAt place b
+  pub operand-b-gathering : {k b : ℕ} → k < expressionKinds → 1 ≤ k → (k ≡ 1 → ⊥) → k ≡ nodeIn image place e .kind → b ≡ nodeIn image place e .b → Gathering image labels place b
   operand-b-gathering {b = b} u l other p f = lower-gathering b (operand-b-below (here .expression) u l other p f)
 
   -- ---- what is read
-  pub gathers-register : {k r m : ℕ} → k ≡ 1 → k ≡ nodeIn image place e .kind → r ≡ nodeIn image place e .item → MaskOf (designOf image .rows) (registerLabel (designOf image) r ∷ []) m
-      → MaskOf (designOf image .rows) (labelsRead (designOf image) (exprOf (designOf image) e)) m
+  pub gathers-register : {k r m : ℕ} → k ≡ 1 → k ≡ nodeIn image place e .kind → r ≡ nodeIn image place e .item → MaskOf (designOf image .rows) (registerLabel (relabelled (designOf image) labels) r ∷ []) m
+      → MaskOf (designOf image .rows) (labelsRead (relabelled (designOf image) labels) (exprOf (designOf image) e)) m
   unfolding expressionKind
   gathers-register q p f mask =
       let d = designOf image in
       rw
-      (expr-register d e (ap expressionKind (expression-kind-is (here .expression) p ∙ q)), labels-register d (expressionAt d e .item))
+      (expr-register d e (ap expressionKind (expression-kind-is (here .expression) p ∙ q)), labels-register (relabelled (designOf image) labels) (expressionAt d e .item))
       (rw (read-is (here .expression) f) at mask)
 
   pub gathers-operation :
@@ -151,9 +150,9 @@ module _ {image : List ℕ} {registersAt place e : ℕ} (here : Gathering image 
       → k ≡ nodeIn image place e .kind
       → a ≡ nodeIn image place e .a
       → b ≡ nodeIn image place e .b
-      → MaskOf (designOf image .rows) (labelsRead (designOf image) (exprOf (designOf image) a)) m
-      → MaskOf (designOf image .rows) (labelsRead (designOf image) (exprOf (designOf image) b)) n
-      → MaskOf (designOf image .rows) (labelsRead (designOf image) (exprOf (designOf image) e)) (bitAnd m n)
+      → MaskOf (designOf image .rows) (labelsRead (relabelled (designOf image) labels) (exprOf (designOf image) a)) m
+      → MaskOf (designOf image .rows) (labelsRead (relabelled (designOf image) labels) (exprOf (designOf image) b)) n
+      → MaskOf (designOf image .rows) (labelsRead (relabelled (designOf image) labels) (exprOf (designOf image) e)) (bitAnd m n)
   gathers-operation {a = a} {b = b} u l other p f g mask mask′ =
       let d = designOf image in
       let o = operation (here .expression) u l other p in
@@ -162,16 +161,16 @@ module _ {image : List ℕ} {registersAt place e : ℕ} (here : Gathering image 
       let lower = rw first at (operand-a-below (here .expression) u l other p f) in
       let lower′ = rw second at (operand-b-below (here .expression) u l other p g) in
       let tree = expr-binary d e (o .1) lower lower′ in
-      rw (tree, labels-binary d (o .0) (exprOf d (expressionAt d e .a)) (exprOf d (expressionAt d e .b))) (mask-both (rw first at mask) (rw second at mask′))
+      rw (tree, labels-binary (relabelled (designOf image) labels) (o .0) (exprOf d (expressionAt d e .a)) (exprOf d (expressionAt d e .b))) (mask-both (rw first at mask) (rw second at mask′))
 
-  pub gathers-low : {k : ℕ} → k < 1 → k ≡ nodeIn image place e .kind → MaskOf (designOf image .rows) (labelsRead (designOf image) (exprOf (designOf image) e)) 65535
+  pub gathers-low : {k : ℕ} → k < 1 → k ≡ nodeIn image place e .kind → MaskOf (designOf image .rows) (labelsRead (relabelled (designOf image) labels) (exprOf (designOf image) e)) 65535
   gathers-low l p =
       let d = designOf image in
       let none = expression-kind-is (here .expression) p in
-      rw (expr-constant d e (kind-constants (omega arith)), labels-constant d _) (mask-none (here .known .describes))
+      rw (expr-constant d e (kind-constants (omega arith)), labels-constant (relabelled (designOf image) labels) _) (mask-none (here .known .describes))
 
   -- no number from here on is a kind
-  pub gathers-high : {k : ℕ} → expressionKinds ≤ k → k ≡ nodeIn image place e .kind → MaskOf (designOf image .rows) (labelsRead (designOf image) (exprOf (designOf image) e)) 65535
+  pub gathers-high : {k : ℕ} → expressionKinds ≤ k → k ≡ nodeIn image place e .kind → MaskOf (designOf image .rows) (labelsRead (relabelled (designOf image) labels) (exprOf (designOf image) e)) 65535
   gathers-high l p = absurd (rw (no-expression-kind l) at (expression-holds (here .expression) p))
 
 pub ruleset reads-laws = (expression-place-inside, gathered-register, gathers-register, gathers-operation, gathers-low, gathers-high)
@@ -196,65 +195,61 @@ module _ {image : List ℕ} {place s : ℕ} (here : Naming image place s) where
       omega arith
 
   pub state-bit :
-      {l m : ℕ} {b : Bool} {labels : List ℕ}
+      {l m : ℕ} {b : Bool} {from : List ℕ}
       → l ≡ stateIn image place s .label
       → b ≡ eqb (m / 2 ^ l % 2) 1
-      → MaskOf (designOf image .rows) labels m
-      → b ≡ allFlowTo (designOf image .rows) labels (stateLabel (designOf image) s)
+      → MaskOf (designOf image .rows) from m
+      → b ≡ allFlowTo (designOf image .rows) from (stateLabel (designOf image) s)
   state-bit e f mask = f ∙ rw (state-label (here .state) e) (mask .bits (stateLabel (designOf image) s) (state-label-below (here .known) (here .state .state)))
 
 -- ---- an assignment
-module _ {image : List ℕ} {registersAt place expressionsAt n : ℕ} (a : Assigning image registersAt place expressionsAt n) where
+module _ {image labels : List ℕ} {place expressionsAt n : ℕ} (a : Assigning image labels place expressionsAt n) where
   -- the kind byte
   assigns-byte : nodeIn image place n .kind ≡ 1
   assigns-byte = ap (λ (y : Node). y .kind) (same-command (a .command)) ∙ a .kind
 
-  assigned : {r : ℕ} → r ≡ nodeIn image place n .item → r < a .design .registers
-  assigned f =
-      let count = registers-count (a .known .describes) in
-      let below = assigned-register (a .command) assigns-byte refl f in
-      omega arith
+  assigned : {r : ℕ} → r ≡ nodeIn image place n .item → Labelled image labels r
+  assigned f = record { design = a .design; known = a .known; labelling = a .labelling; register = assigned-register (a .command) assigns-byte refl f }
 
-  pub assigned-inside : {r : ℕ} → r ≡ nodeIn image place n .item → registerEnd registersAt r ≤ length image
-  assigned-inside f = rw (a .registers-begin) (register-inside (a .known .describes) (assigned f))
+  pub assigned-inside : {r : ℕ} → r ≡ nodeIn image place n .item → r < length labels
+  assigned-inside f = label-entry-inside (assigned f)
 
-  pub assigned-gathering : {e : ℕ} → e ≡ nodeIn image place n .a → Gathering image registersAt expressionsAt e
+  pub assigned-gathering : {e : ℕ} → e ≡ nodeIn image place n .a → Gathering image labels expressionsAt e
   assigned-gathering f =
       let count = expressions-count (a .known .describes) in
       let below = assigned-expression (a .command) assigns-byte refl f in
       record {
         design = a .design;
         known = a .known;
+        labelling = a .labelling;
         expression = expression-at (a .known .describes) (a .known .expressions) (omega arith) (a .expressions-begin);
-        registers-begin = a .registers-begin;
       }
 
-  assigned-label : {r l : ℕ} → r ≡ nodeIn image place n .item → l ≡ registerIn image registersAt r .label → l ≡ registerLabel (designOf image) (commandAt (designOf image) n .item)
-  assigned-label f g = label-is (a .known) (assigned f) (rw (a .registers-begin) at g) ∙ ap (registerLabel (designOf image)) (item-is (a .command) f)
+  assigned-label : {r l : ℕ} → r ≡ nodeIn image place n .item → l ≡ getD labels r 0 → l ≡ registerLabel (relabelled (designOf image) labels) (commandAt (designOf image) n .item)
+  assigned-label f g = entry-is (assigned f) g ∙ ap (registerLabel (relabelled (designOf image) labels)) (item-is (a .command) f)
 
-  assigned-below : registerLabel (designOf image) (commandAt (designOf image) n .item) < a .design .labels
-  assigned-below = register-label (a .known) (assigned (sym (ap (λ (y : Node). y .item) (same-command (a .command)))))
+  assigned-below : registerLabel (relabelled (designOf image) labels) (commandAt (designOf image) n .item) < length (designOf image .rows)
+  assigned-below = entry-below (assigned (sym (ap (λ (y : Node). y .item) (same-command (a .command)))))
 
-  pub assigned-label-small : {r l : ℕ} → r ≡ nodeIn image place n .item → l ≡ registerIn image registersAt r .label → l < 64
-  assigned-label-small f g = let few = labels-most (a .known .describes) in let below = assigned-below in let is = assigned-label f g in omega arith
+  pub assigned-label-small : {r l : ℕ} → r ≡ nodeIn image place n .item → l ≡ getD labels r 0 → l < 64
+  assigned-label-small f g = let count = labels-count (a .known .describes) in let few = labels-most (a .known .describes) in let below = assigned-below in let is = assigned-label f g in omega arith
 
   pub assign-rule :
-      {r e l m context : ℕ} {b : Bool} {answer : ℕ} {labels : List ℕ} (s : ℕ)
+      {r e l m context : ℕ} {b : Bool} {answer : ℕ} {from : List ℕ} (s : ℕ)
       → r ≡ nodeIn image place n .item
       → e ≡ nodeIn image place n .a
-      → MaskOf (designOf image .rows) (labelsRead (designOf image) (exprOf (designOf image) e)) m
-      → l ≡ registerIn image registersAt r .label
+      → MaskOf (designOf image .rows) (labelsRead (relabelled (designOf image) labels) (exprOf (designOf image) e)) m
+      → l ≡ getD labels r 0
       → b ≡ eqb (bitAnd context m / 2 ^ l % 2) 1
       → answer ≡ placeUnless b n
-      → MaskOf (designOf image .rows) labels context
-      → FirstAt (designOf image) answer (flowFaults (designOf image) s labels (cmdOf (designOf image) n))
+      → MaskOf (designOf image .rows) from context
+      → FirstAt (designOf image) answer (flowFaults (relabelled (designOf image) labels) s from (cmdOf (designOf image) n))
   unfolding commandKind flowFaults flowRefusal
-  assign-rule {e = e} {b = b} {labels = context} s fr fe read-mask fl fb fa mask =
+  assign-rule {e = e} {b = b} {from = from} s fr fe read-mask fl fb fa mask =
       let d = designOf image in
+      let under = relabelled d labels in
       let tree = cmd-assign d n (ap commandKind (a .kind)) in
       let both = mask-both mask (rw (a-is (a .command) fe) at read-mask) in
-      let labels = labels-count (a .known .describes) in
-      let below = assigned-below in
       let charged = first-charged d b (command-below (a .command)) (commands-few (a .known .describes)) (ap (λ (k : ℕ). flowRefusal (commandKind k)) (a .kind)) in
-      let same : b ≡ assignFlows d context (commandAt d n .item) (exprOf d (commandAt d n .a)) = fb ∙ rw (assigned-label fr fl) (both .bits (registerLabel d (commandAt d n .item)) (omega arith)) in
+      let same : b ≡ assignFlows under from (commandAt d n .item) (exprOf d (commandAt d n .a)) = fb ∙ rw (assigned-label fr fl) (both .bits (registerLabel under (commandAt d n .item)) assigned-below) in
       rw (fa, tree, ← same) charged

@@ -10,15 +10,15 @@ use Rattle.model.proofs.Laws.Bits.{bit-and}
 use lib.Dec.{eqb}
 use lib.ListN.{length, getD}
 use Rattle.model.specs.Indices.{allBelow}
-use Rattle.model.specs.Image.{Register, designOf}
+use Rattle.model.specs.Image.{designOf}
 use Rattle.model.specs.Lattice.{flowsTo, allFlowTo, registerLabel}
+use Rattle.model.specs.Labelling.{relabelled}
 use Rattle.model.proofs.Laws.Indices.{all-at}
+use Rattle.model.proofs.Laws.Labelling.{relabelled-label}
 use Rattle.design.specs.declared.Design.{Design}
-use Rattle.design.specs.Records.{rowIn, registerIn, registerEnd, rowEnd}
+use Rattle.design.specs.Records.{rowIn, rowEnd}
 use Rattle.design.specs.Describes.{Describes}
-use Rattle.design.proofs.Laws.{labels-count, labels-most, registers-count, row-inside, register-inside, row-in, register-in}
-use Rattle.design.specs.Kept.{RecordsKept}
-use Rattle.model.proofs.Exact.Records.{register-iff}
+use Rattle.design.proofs.Laws.{labels-count, labels-most, row-inside, row-in}
 use Rattle.checker_bodies.specs.Flows.{MaskOf, Labelled}
 
 -- ---- contexts
@@ -62,26 +62,24 @@ unfolding allFlowTo flowsTo
 mask-row {rows} {l} row small = record { small = small; bits = λ b h. rw row (and-true (eqb (getD rows l 0 / 2 ^ b % 2) 1)) }
 
 -- ---- a register
-module _ {image : List ℕ} {x : Design} (known : RecordsKept image x) where
-  pub label-is : {r k : ℕ} → r < x .registers → k ≡ registerIn image (x .«registers_at») r .label → k ≡ registerLabel (designOf image) r
-  label-is l e = e ∙ ap (λ (y : Register). y .label) (register-in (known .describes) l)
+module _ {image labels : List ℕ} {r : ℕ} (here : Labelled image labels r) where
+  pub label-entry-inside : r < length labels
+  label-entry-inside = let enough = here .labelling .enough in let below = here .register in omega arith
 
-  pub register-label : {r : ℕ} → r < x .registers → registerLabel (designOf image) r < x .labels
-  register-label {r} l =
-      let registers = registers-count (known .describes) in
-      let labels = labels-count (known .describes) in
-      let kept = register-iff (designOf image) r .0 (known .registers .kept r (omega arith)) .label in
+  pub entry-is : {k : ℕ} → k ≡ getD labels r 0 → k ≡ registerLabel (relabelled (designOf image) labels) r
+  entry-is e = e ∙ sym (relabelled-label (designOf image) labels r (here .register) label-entry-inside)
+
+  pub entry-below : registerLabel (relabelled (designOf image) labels) r < length (designOf image .rows)
+  entry-below = rw (← (entry-is refl)) (here .labelling .inside r (here .register))
+
+  entry-label : {k : ℕ} → k ≡ getD labels r 0 → k < here .design .labels
+  entry-label e =
+      let count = labels-count (here .known .describes) in
+      let below = here .labelling .inside r (here .register) in
       omega arith
 
-module _ {image : List ℕ} {place r : ℕ} (here : Labelled image place r) where
-  pub register-place-inside : registerEnd place r ≤ length image
-  register-place-inside = rw (here .begins) (register-inside (here .known .describes) (here .register))
+  pub label-inside : {k : ℕ} → k ≡ getD labels r 0 → rowEnd k ≤ length image
+  label-inside e = row-inside (here .known .describes) (entry-label e)
 
-  label-at : {k : ℕ} → k ≡ registerIn image place r .label → k ≡ registerLabel (designOf image) r
-  label-at e = label-is (here .known) (here .register) (rw (here .begins) at e)
-
-  pub label-inside : {k : ℕ} → k ≡ registerIn image place r .label → rowEnd k ≤ length image
-  label-inside e = row-inside (here .known .describes) (rw (label-at e) (register-label (here .known) (here .register)))
-
-  pub register-mask-rule : {k m : ℕ} → k ≡ registerIn image place r .label → m ≡ rowIn image k → m < 65536 → MaskOf (designOf image .rows) (registerLabel (designOf image) r ∷ []) m
-  register-mask-rule e f small = mask-row (f ∙ rw (label-at e) (row-in (here .known .describes) (register-label (here .known) (here .register)))) small
+  pub register-mask-rule : {k m : ℕ} → k ≡ getD labels r 0 → m ≡ rowIn image k → m < 65536 → MaskOf (designOf image .rows) (registerLabel (relabelled (designOf image) labels) r ∷ []) m
+  register-mask-rule e f small = mask-row (f ∙ row-in (here .known .describes) (entry-label e) ∙ ap (λ (k : ℕ). getD (designOf image .rows) k 0) (entry-is e)) small

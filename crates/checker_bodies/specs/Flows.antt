@@ -15,6 +15,7 @@ use Rattle.model.specs.Flow.{flowRefusal, firstOf}
 use Rattle.design.specs.declared.Design.{Design}
 use Rattle.design.specs.Kept.{RecordsKept}
 use Rattle.design.specs.RecordsAt.{StateAt, CommandAt, ExpressionAt}
+use Rattle.design.specs.Labels.{LabelsKept}
 
 -- bit l of a mask is set where the whole context flows to label l
 pub record MaskOf (rows context : List ℕ) (mask : ℕ) : Type 0 where
@@ -30,38 +31,38 @@ pub record FirstAt (d : Table) (place : ℕ) (faults : List Answer) : Type 0 whe
   pub says : answerAmong d place ≡ firstOf faults
   pub command : place < commandsMax → place < length (d .commands)
 
--- where the recursion has the places of a design instead of the design: the label of register r and of state s is asked for, and the labels that expression e reads are gathered
-pub record Labelled (image : List ℕ) (registersAt r : ℕ) : Type 0 where
+-- where the recursion has the places of a design instead of the design, and a table of labels: the label of register r and of state s is asked for, and the labels that expression e reads are gathered
+pub record Labelled (image labels : List ℕ) (r : ℕ) : Type 0 where
   pub design : Design
   pub known : RecordsKept image design
-  pub register : r < design .registers
-  pub begins : registersAt ≡ design .«registers_at»
+  pub labelling : LabelsKept (designOf image) labels
+  pub register : r < length (designOf image .registers)
 
 pub record Naming (image : List ℕ) (statesAt s : ℕ) : Type 0 where
   pub design : Design
   pub known : RecordsKept image design
   pub state : StateAt image design statesAt s
 
-pub record Gathering (image : List ℕ) (registersAt expressionsAt e : ℕ) : Type 0 where
+pub record Gathering (image labels : List ℕ) (expressionsAt e : ℕ) : Type 0 where
   pub design : Design
   pub known : RecordsKept image design
+  pub labelling : LabelsKept (designOf image) labels
   pub expression : ExpressionAt image design expressionsAt e
-  pub registers-begin : registersAt ≡ design .«registers_at»
 
 -- an assignment n is judged, and a command n of state s
-pub record Assigning (image : List ℕ) (registersAt commandsAt expressionsAt n : ℕ) : Type 0 where
+pub record Assigning (image labels : List ℕ) (commandsAt expressionsAt n : ℕ) : Type 0 where
   pub design : Design
   pub known : RecordsKept image design
+  pub labelling : LabelsKept (designOf image) labels
   pub command : CommandAt image design commandsAt n
   pub kind : commandAt (designOf image) n .kind ≡ 1
-  pub registers-begin : registersAt ≡ design .«registers_at»
   pub expressions-begin : expressionsAt ≡ design .«expressions_at»
 
-pub record Flowing (image : List ℕ) (registersAt statesAt commandsAt expressionsAt s n : ℕ) : Type 0 where
+pub record Flowing (image labels : List ℕ) (statesAt commandsAt expressionsAt s n : ℕ) : Type 0 where
   pub design : Design
   pub known : RecordsKept image design
+  pub labelling : LabelsKept (designOf image) labels
   pub state : s < design .states
   pub command : CommandAt image design commandsAt n
-  pub registers-begin : registersAt ≡ design .«registers_at»
   pub states-begin : statesAt ≡ design .«states_at»
   pub expressions-begin : expressionsAt ≡ design .«expressions_at»

@@ -1,12 +1,13 @@
-// Refusals 10 to 12: the flow rules, by recursion over parts. A context is a mask of labels: bit l
-// is set where all of the context flows to label l. The recursion has the places where sections
-// begin, since a whole design would be copied at every call, and answers a place; which rule is
-// broken there, the command's kind tells. It stops at the first fault in the order in which a body is
-// written.
+// Refusals 10 to 12: the flow rules, by recursion over parts, under the labels of a table, in which
+// entry r is the label of register r. A context is a mask of labels: bit l is set where all of the
+// context flows to label l. The recursion has the places where sections begin, since a whole design
+// would be copied at every call, and answers a place; which rule is broken there, the command's kind
+// tells. It stops at the first fault in the order in which a body is written.
 use crate::places::NOWHERE;
 use crate::places::charged_unless;
 use design::Design;
 use design::rows::bit;
+use design::wide;
 use model::Answer;
 use model::Refusal;
 ghost use Prim.Native.Nat.{ℕ, _<_};
@@ -15,37 +16,39 @@ ghost use mathlib.Core.List.{List, [], _∷_};
 ghost use Rattle.model.specs.Image.{designOf};
 ghost use Rattle.model.specs.Lattice.{allFlowTo, registerLabel, stateLabel};
 ghost use Rattle.model.specs.Trees.{exprOf, cmdOf};
+ghost use Rattle.model.specs.Labelling.{relabelled};
 ghost use Rattle.model.specs.Flow.{labelsRead, flowFaults, stateFlowFaults, flowAnswer};
 ghost use Rattle.design.specs.Describes.{Describes};
 ghost use Rattle.design.specs.Kept.{RecordsKept};
+ghost use Rattle.design.specs.Labels.{LabelsKept};
 ghost use Rattle.checker_bodies.specs.Flows.{MaskOf, Gathering, Assigning, Flowing, Labelled, Naming, answerAmong, FirstAt};
 
-// The mask of register r, where the registers begin at a place: its label's row.
-fn register_mask(image: &[u8], at: usize, r: usize) -> usize
-    requires { ⌜ Labelled (now image) at r ⌝ }
-    ensures { λ m. ⌜ MaskOf (designOf (now (image .entry)) .rows) (registerLabel (designOf (now (image .entry))) r ∷ []) m ⌝ }
+// The mask of register r: its label's row.
+fn register_mask(image: &[u8], labels: &[u8], r: usize) -> usize
+    requires { ⌜ Labelled (now image) (now labels) r ⌝ }
+    ensures { λ m. ⌜ MaskOf (designOf (now (image .entry)) .rows) (registerLabel (relabelled (designOf (now (image .entry))) (now (labels .entry))) r ∷ []) m ⌝ }
 {
-    let label = Design::register_label(image, at, r);
+    let label = wide(labels[r]);
     Design::row(image, label)
 }
 
 // The mask of the labels of all registers that an expression reads.
 // A reborrow keeps the slice in registers of the processor; image itself would go through memory.
-fn reads(image: &[u8], registers_at: usize, expressions_at: usize, e: usize) -> usize
-    requires { ⌜ Gathering (now image) «registers_at» «expressions_at» e ⌝ }
-    ensures { λ m. ⌜ MaskOf (designOf (now (image .entry)) .rows) (labelsRead (designOf (now (image .entry))) (exprOf (designOf (now (image .entry))) e)) m ⌝ }
+pub fn reads(image: &[u8], labels: &[u8], expressions_at: usize, e: usize) -> usize
+    requires { ⌜ Gathering (now image) (now labels) «expressions_at» e ⌝ }
+    ensures { λ m. ⌜ MaskOf (designOf (now (image .entry)) .rows) (labelsRead (relabelled (designOf (now (image .entry))) (now (labels .entry))) (exprOf (designOf (now (image .entry))) e)) m ⌝ }
 {
     let kind = Design::kind(image, expressions_at, e);
     match kind {
         1 => {
             let r = Design::item(image, expressions_at, e);
-            register_mask(image, registers_at, r)
+            register_mask(image, labels, r)
         }
         2..=11 => {
             let a = Design::part_a(image, expressions_at, e);
             let b = Design::part_b(image, expressions_at, e);
-            let p = reads(&*image, registers_at, expressions_at, a);
-            let q = reads(&*image, registers_at, expressions_at, b);
+            let p = reads(&*image, &*labels, expressions_at, a);
+            let q = reads(&*image, &*labels, expressions_at, b);
             p & q
         }
         _ => 65535,
@@ -55,26 +58,26 @@ fn reads(image: &[u8], registers_at: usize, expressions_at: usize, e: usize) -> 
 // The place of assignment n, unless its context and what it reads flow to the register written.
 fn assign_flow(
     image: &[u8],
-    registers_at: usize,
+    labels: &[u8],
     commands_at: usize,
     expressions_at: usize,
     context: usize,
     n: usize,
 ) -> usize
-    requires { ⌜ Assigning (now image) «registers_at» «commands_at» «expressions_at» n × (context < 65536) ⌝ }
-    ensures { λ p. ⌜ ((s : ℕ) (labels : List ℕ) → MaskOf (designOf (now (image .entry)) .rows) labels context → FirstAt (designOf (now (image .entry))) p (flowFaults (designOf (now (image .entry))) s labels (cmdOf (designOf (now (image .entry))) n))) ⌝ }
+    requires { ⌜ Assigning (now image) (now labels) «commands_at» «expressions_at» n × (context < 65536) ⌝ }
+    ensures { λ p. ⌜ ((s : ℕ) (from : List ℕ) → MaskOf (designOf (now (image .entry)) .rows) from context → FirstAt (designOf (now (image .entry))) p (flowFaults (relabelled (designOf (now (image .entry))) (now (labels .entry))) s from (cmdOf (designOf (now (image .entry))) n))) ⌝ }
 {
     let r = Design::item(image, commands_at, n);
     let e = Design::part_a(image, commands_at, n);
-    let mask = context & reads(&*image, registers_at, expressions_at, e);
-    let label = Design::register_label(image, registers_at, r);
+    let mask = context & reads(&*image, &*labels, expressions_at, e);
+    let label = wide(labels[r]);
     charged_unless(bit(mask, label), n)
 }
 
 // A context flows to the label of state s, where the states begin at a place.
 fn flows_to_state(image: &[u8], at: usize, context: usize, s: usize) -> bool
     requires { ⌜ Naming (now image) at s ⌝ }
-    ensures { λ b. ⌜ ((labels : List ℕ) → MaskOf (designOf (now (image .entry)) .rows) labels context → b ≡ allFlowTo (designOf (now (image .entry)) .rows) labels (stateLabel (designOf (now (image .entry))) s)) ⌝ }
+    ensures { λ b. ⌜ ((from : List ℕ) → MaskOf (designOf (now (image .entry)) .rows) from context → b ≡ allFlowTo (designOf (now (image .entry)) .rows) from (stateLabel (designOf (now (image .entry))) s)) ⌝ }
 {
     let label = Design::state_label(image, at, s);
     bit(context, label)
@@ -83,7 +86,7 @@ fn flows_to_state(image: &[u8], at: usize, context: usize, s: usize) -> bool
 // The place of the first flow fault of command n of state s, in a context.
 fn flow(
     image: &[u8],
-    registers_at: usize,
+    labels: &[u8],
     states_at: usize,
     commands_at: usize,
     expressions_at: usize,
@@ -91,18 +94,18 @@ fn flow(
     context: usize,
     n: usize,
 ) -> usize
-    requires { ⌜ Flowing (now image) «registers_at» «states_at» «commands_at» «expressions_at» s n × (context < 65536) ⌝ }
-    ensures { λ p. ⌜ ((labels : List ℕ) → MaskOf (designOf (now (image .entry)) .rows) labels context → FirstAt (designOf (now (image .entry))) p (flowFaults (designOf (now (image .entry))) s labels (cmdOf (designOf (now (image .entry))) n))) ⌝ }
+    requires { ⌜ Flowing (now image) (now labels) «states_at» «commands_at» «expressions_at» s n × (context < 65536) ⌝ }
+    ensures { λ p. ⌜ ((from : List ℕ) → MaskOf (designOf (now (image .entry)) .rows) from context → FirstAt (designOf (now (image .entry))) p (flowFaults (relabelled (designOf (now (image .entry))) (now (labels .entry))) s from (cmdOf (designOf (now (image .entry))) n))) ⌝ }
 {
     let kind = Design::kind(image, commands_at, n);
     match kind {
-        1 => assign_flow(image, registers_at, commands_at, expressions_at, context, n),
+        1 => assign_flow(image, labels, commands_at, expressions_at, context, n),
         2 => {
             let a = Design::part_a(image, commands_at, n);
             let b = Design::part_b(image, commands_at, n);
             let p = flow(
                 &*image,
-                registers_at,
+                &*labels,
                 states_at,
                 commands_at,
                 expressions_at,
@@ -115,7 +118,7 @@ fn flow(
             }
             flow(
                 &*image,
-                registers_at,
+                &*labels,
                 states_at,
                 commands_at,
                 expressions_at,
@@ -137,10 +140,10 @@ fn flow(
             let e = Design::part_a(image, commands_at, n);
             let b = Design::part_b(image, commands_at, n);
             let c = Design::part_c(image, commands_at, n);
-            let inner = context & reads(&*image, registers_at, expressions_at, e);
+            let inner = context & reads(&*image, &*labels, expressions_at, e);
             let p = flow(
                 &*image,
-                registers_at,
+                &*labels,
                 states_at,
                 commands_at,
                 expressions_at,
@@ -153,7 +156,7 @@ fn flow(
             }
             flow(
                 &*image,
-                registers_at,
+                &*labels,
                 states_at,
                 commands_at,
                 expressions_at,
@@ -167,9 +170,9 @@ fn flow(
 }
 
 // The place of the first flow fault of state s, whose context is its label.
-fn state_flow(image: &[u8], design: Design, s: usize) -> usize
-    requires { ⌜ RecordsKept (now image) design × (s < design .states) ⌝ }
-    ensures { λ p. ⌜ FirstAt (designOf (now (image .entry))) p (stateFlowFaults (designOf (now (image .entry))) s) ⌝ }
+fn state_flow(image: &[u8], design: Design, labels: &[u8], s: usize) -> usize
+    requires { ⌜ RecordsKept (now image) design × LabelsKept (designOf (now image)) (now labels) × (s < design .states) ⌝ }
+    ensures { λ p. ⌜ FirstAt (designOf (now (image .entry))) p (stateFlowFaults (relabelled (designOf (now (image .entry))) (now (labels .entry))) s) ⌝ }
 {
     let at = design.states_at;
     let label = Design::state_label(image, at, s);
@@ -177,7 +180,7 @@ fn state_flow(image: &[u8], design: Design, s: usize) -> usize
     let context = Design::row(image, label);
     flow(
         image,
-        design.registers_at,
+        labels,
         design.states_at,
         design.commands_at,
         design.expressions_at,
@@ -203,13 +206,13 @@ fn answer(image: &[u8], design: Design, place: usize) -> Answer
 }
 
 // Refusals 10 to 12, in the lowest state that has one; the states behind it are not looked at.
-pub fn faults(image: &[u8], design: Design) -> Answer
-    requires { ⌜ RecordsKept (now image) design ⌝ }
-    ensures { λ a. ⌜ a ≡ flowAnswer (designOf (now (image .entry))) ⌝ }
+pub fn faults(image: &[u8], design: Design, labels: &[u8]) -> Answer
+    requires { ⌜ RecordsKept (now image) design × LabelsKept (designOf (now image)) (now labels) ⌝ }
+    ensures { λ a. ⌜ a ≡ flowAnswer (relabelled (designOf (now (image .entry))) (now (labels .entry))) ⌝ }
 {
     let mut s = 0;
     while s < design.states {
-        let place = state_flow(image, design, s);
+        let place = state_flow(image, design, labels, s);
         if place < NOWHERE {
             return answer(image, design, place);
         }

@@ -6,3 +6,4 @@ pub mod ShiftRules
 pub mod WordRules
 pub mod WidthRules
 pub mod ResetRules
+pub mod LabelRules

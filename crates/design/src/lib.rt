@@ -1,5 +1,6 @@
 // The design table in bytes: its limits, its directory, and one accessor for each field. No code of
 // another crate knows where a byte stands.
+pub mod labels;
 pub mod reset;
 pub mod rows;
 pub mod states;

@@ -21,3 +21,4 @@ pub mod Faults
 pub mod Kinds
 pub mod Signed
 pub mod Trees
+pub mod Labelling

@@ -19,8 +19,8 @@ returns c = search (structure-refuses, structure-passes, needs)
 read-requires : tie.Need-read-requires
 read-requires c κs = search (structured-directory, needs)
 
-faults-requires : tie.Need-faults-requires
-faults-requires c κs = search (structured-keeps, structure-known, needs)
+flow-faults-requires : tie.Need-flow-faults-requires
+flow-faults-requires c κs = search (structured-keeps, structure-known, needs)
 
 returns-2 : tie.Need-returns-2
 returns-2 c = search (structure-refuses, structure-passes, needs)
@@ -28,4 +28,4 @@ returns-2 c = search (structure-refuses, structure-passes, needs)
 pub verdict-spec : {M : Type 1} → statement M
 verdict-spec =
     tie.close
-    (tie.spec structure-requires enum-known-structure enum-told read-requires faults-requires returns returns-2)
+    (tie.spec structure-requires enum-known-structure enum-told read-requires flow-faults-requires returns returns-2)

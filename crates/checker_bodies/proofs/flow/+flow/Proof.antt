@@ -19,14 +19,14 @@ use Rattle.checker_bodies.proofs.places.charged_unless.Reads as charged
 use Rattle.checker_bodies.proofs.flow.+flow.{statement}
 use Rattle.checker_bodies.proofs.flow.+flow.Tie.{close}
 
-abbrev μ-flow : Measures 1 flow-kinds.ps ℕ
+abbrev μ-flow : Measures 2 flow-kinds.ps ℕ
 μ-flow κs a = a .1 .1 .1 .1 .1 .1 .1 .0
 
-abbrev flow-at : ℕ → In 1 flow-kinds.ps
-flow-at t = and 1 flow-kinds.ps (is 1 flow-kinds.ps μ-flow t) flow.Pre
+abbrev flow-at : ℕ → In 2 flow-kinds.ps
+flow-at t = and 2 flow-kinds.ps (is 2 flow-kinds.ps μ-flow t) flow.Pre
 
-abbrev flow-below : ℕ → In 1 flow-kinds.ps
-flow-below t = and 1 flow-kinds.ps (falls 1 flow-kinds.ps _<_ μ-flow t) flow.Pre
+abbrev flow-below : ℕ → In 2 flow-kinds.ps
+flow-below t = and 2 flow-kinds.ps (falls 2 flow-kinds.ps _<_ μ-flow t) flow.Pre
 
 -- what the callees ask and tell
 abbrev flow-calls : ℕ → flow-lts.Claims
@@ -90,7 +90,7 @@ flow-returns-2 : (t : ℕ) → flow-lts.Need-returns-2 (flow-calls t) (flow-at t
 flow-returns-2 t c = search (flow-laws, needs)
 
 flow-returns-3 : (t : ℕ) → flow-lts.Need-returns-3 (flow-calls t) (flow-at t) flow.Post
-flow-returns-3 t c = λ labels mask. c .assign-flow .ensures _ labels mask
+flow-returns-3 t c = λ from mask. c .assign-flow .ensures _ from mask
 
 flow-returns-4 : (t : ℕ) → flow-lts.Need-returns-4 (flow-calls t) (flow-at t) flow.Post
 flow-returns-4 t c = search (flow-laws, needs)

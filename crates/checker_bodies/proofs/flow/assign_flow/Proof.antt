@@ -7,7 +7,7 @@ use Rattle.checker_bodies.proofs.flow.assign_flow.Reads as reads
 use Rattle.checker_bodies.proofs.flow.assign_flow.Lts as lts
 use Rattle.design.proofs.Design.item.Reads as item-reads
 use Rattle.design.proofs.Design.part_a.Reads as part-a-reads
-use Rattle.design.proofs.Design.register_label.Reads as register-label-reads
+use Rattle.design.proofs.wide.Reads as wide-reads
 use Rattle.design.proofs.rows.bit.Reads as bit-reads
 use Rattle.checker_bodies.proofs.flow.reads.Reads as reads-reads
 use Rattle.checker_bodies.proofs.places.charged_unless.Reads as charged-unless-reads
@@ -21,8 +21,11 @@ part-a-requires c κs = search (command-place-inside, assigned-inside, assigned-
 reads-requires : tie.Need-reads-requires
 reads-requires c κs = search (command-place-inside, assigned-inside, assigned-gathering, assigned-label-small, assign-rule, needs)
 
-register-label-requires : tie.Need-register-label-requires
-register-label-requires c κs = search (command-place-inside, assigned-inside, assigned-gathering, assigned-label-small, assign-rule, needs)
+shared-slice-read-wide : tie.Need-shared-slice-read-wide
+shared-slice-read-wide c = search (assigned-inside, needs)
+
+wide-requires : tie.Need-wide-requires
+wide-requires c κs = search needs
 
 bit-requires : tie.Need-bit-requires
 bit-requires c κs = search (command-place-inside, assigned-inside, assigned-gathering, assigned-label-small, assign-rule, needs)
@@ -40,7 +43,8 @@ assign-flow-spec =
     item-requires
     part-a-requires
     reads-requires
-    register-label-requires
+    shared-slice-read-wide
+    wide-requires
     bit-requires
     charged-unless-requires
     returns)

@@ -10,10 +10,10 @@ use Rattle.checker_bodies.proofs.flow.answer.Reads as answer-reads
 use Rattle.checker_bodies.proofs.flow.state_flow.Reads as state-flow-reads
 
 abbrev Inv-loop : tie.InvT-loop
-Inv-loop image design s₀ s = NoneSo (designOf image) s × (s ≤ design .states)
+Inv-loop image design labels s₀ s = NoneSo (designOf image) labels s × (s ≤ design .states)
 
 abbrev μ-loop : tie.MeasureT-loop
-μ-loop image design s₀ s = design .states - s
+μ-loop image design labels s₀ s = design .states - s
 
 loop-holds : tie.Need-loop-holds Inv-loop μ-loop
 loop-holds c = search (faults-laws, needs)
