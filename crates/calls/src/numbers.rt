@@ -25,5 +25,6 @@ pub fn number(refusal: Refusal) -> u32
         Refusal::CycleCount => 15,
         Refusal::PortAssigned => 16,
         Refusal::PortValue => 17,
+        Refusal::NoRaising => 18,
     }
 }

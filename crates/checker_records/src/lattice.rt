@@ -119,7 +119,7 @@ fn least_full(image: &[u8], design: Design, i: usize) -> bool
 }
 
 // Label k is one of a mask's labels, and flows to each of them.
-fn least_in(image: &[u8], design: Design, among: usize, k: usize) -> bool
+pub fn least_in(image: &[u8], design: Design, among: usize, k: usize) -> bool
     requires { ⌜ Describes (now image) design × (k < design .labels) ⌝ }
     ensures { λ x. ⌜ x ≡ leastIn (designOf (now (image .entry)) .rows) among k ⌝ }
 {

@@ -11,7 +11,7 @@ ghost use Prim.Native.Nat.{_+_, _*_, _/_, _%_, _<_, _≤_};
 ghost use mathlib.Core.Bool.{_&&_};
 ghost use lib.Dec.{eqb, leb};
 ghost use mathlib.Core.Path.{_≡_};
-ghost use lib.ListN.{length};
+ghost use lib.ListN.{length, set};
 ghost use Rattle.model.specs.Image.{word16At, word32At, offsetsKept, directoryKept, designOf};
 ghost use Rattle.model.specs.Limits.{directoryLength, labelLength, registerLength, stateLength, nodeLength, labelsMax, registersMax, statesMax, commandsMax, expressionsMax, depthMax, expressionPlace, widthMax, wordLength, largestImage};
 ghost use Rattle.model.specs.Rules.{DirectoryKeeps};
@@ -177,6 +177,14 @@ impl Design {
         ensures { λ x. ⌜ (x ≡ registerIn (now (image .entry)) at r .label) × (x < 256) ⌝ }
     {
         wide(image[at + Self::REGISTER_LENGTH * r])
+    }
+
+    // Another label for register r.
+    pub fn put_register_label(image: &mut [u8], at: usize, r: usize, label: u8)
+        requires { ⌜ registerEnd at r ≤ length (now image) ⌝ }
+        ensures { λ _. ⌜ now (image .exit) ≡ set (now (image .entry)) (at + registerLength * r) label ⌝ }
+    {
+        image[at + Self::REGISTER_LENGTH * r] = label;
     }
 
     pub fn register_kind(image: &[u8], at: usize, r: usize) -> usize

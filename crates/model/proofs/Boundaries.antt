@@ -10,6 +10,7 @@ pub mod Ports
 pub mod Falls
 pub mod Widths
 pub mod Flows
+pub mod Raising
 pub mod Cycles
 pub mod Signed
 pub mod Calls

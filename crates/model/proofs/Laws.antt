@@ -21,4 +21,8 @@ pub mod Faults
 pub mod Kinds
 pub mod Signed
 pub mod Trees
+pub mod Joins
 pub mod Labelling
+pub mod Relabelling
+pub mod LabelBytes
+pub mod LabelImages

@@ -9,7 +9,9 @@ pub mod Writing
 pub mod Ports
 pub mod Widths
 pub mod Signed
+pub mod Raising
 pub mod Promises
+pub mod RaisingPromises
 pub mod Designs
 pub mod Opened
 pub mod Cases

@@ -1,4 +1,4 @@
--- What the table of cases is written with: two names that open the definitions of specs/ (each stands for all that its `unfolding` line names), and
+-- What the table of cases is written with: names that open the definitions of specs/ (each stands for all that its `unfolding` line names), and
 -- short ways to put a case.
 use Prim.Native.Nat.{ℕ}
 use mathlib.Core.List.{List, [], _∷_, map}
@@ -17,6 +17,8 @@ use Rattle.model.specs.Ports.{sparesPorts, namesNoPort}
 use Rattle.model.specs.Flow.{labelsRead, flowFaults, stateFlowFaults, firstOf, flowAnswer}
 use Rattle.model.specs.Answers.{Numbers, numbersOf}
 use Rattle.model.specs.Verdict.{_before_, refusedAt, lowestNode, designStructure, structure, verdict}
+use Rattle.model.specs.Labelling.{labelsOf}
+use Rattle.model.specs.Raising.{leastAboveAll, joinOf, labelsReadBy, raisedBy, raisedByStates, raisedOnce, raisedTimes, raisedLabels, putLabels, raisedImage, LeftOut, raiseAnswer, raise}
 use Rattle.model.specs.Signed.{signedValue, wordOf, belowSigned, shiftedRight, dividedSigned}
 use Rattle.model.specs.Values.{apply, wordsOf, bytesOf}
 use Rattle.model.specs.Machine.{Areas, Cycle, eval, exec, resetAreas, targetSound, cleared, goneTo, afterBody, runFrom, cycle, cycles, afterLast, afterCycles}
@@ -34,6 +36,11 @@ unfoldable pub everything : ℕ
 unfolding checks signedValue wordOf belowSigned shiftedRight dividedSigned apply wordsOf bytesOf eval exec resetAreas targetSound cleared goneTo afterBody runFrom cycle cycles afterLast afterCycles registerAreaAnswer lengthAnswer contentKept contentsAnswer targetsAnswer isWritable portAnswer valueAnswer areasOf lentOf cyclesAnswer check registersLength targetsLength resetAnswer reset runAnswer run writePortAnswer writePort bytesOfText decimal spaced header line lines refusalLine listed listing perform eventsOf events atEnd
 everything = 0
 
+-- every definition of the image checks and of raising
+unfoldable pub raising : ℕ
+unfolding checks labelsOf leastAboveAll joinOf labelsReadBy raisedBy raisedByStates raisedOnce raisedTimes raisedLabels putLabels raisedImage raiseAnswer raise
+raising = 0
+
 -- Short ways to put a case.
 
 -- an acceptance with its count, and a refusal with its number and place, as the host is told
@@ -50,6 +57,10 @@ judged image = numbersOf (verdict image)
 -- all that a call leaves: what the host is told, and every lent byte
 abbrev pub told : Left → Numbers × Lent
 told left = (numbersOf (left .answer), left .lent)
+
+-- the same of a call that writes a second area
+abbrev pub leftOut : LeftOut → Numbers × List ℕ
+leftOut left = (numbersOf (left .answer), left .out)
 
 abbrev pub lent : List ℕ → List ℕ → Lent
 lent registers targets = record { registers = registers; targets = targets }

@@ -17,7 +17,7 @@ use Rattle.model.specs.Limits.{wordLength}
 use Rattle.model.specs.Image.{Design, Node, AreBytes, byteAt, registerAt, stateAt, commandAt, noNode, designOf}
 use Rattle.model.specs.Kinds.{CommandKind, skips, assigns, sequences, falls, goes, branches, unknownCommand, commandKind}
 use Rattle.model.specs.Trees.{Expr, Cmd, skip, assign, sequence, fall, goto, branch, cmdOfKind, cmdStep, cmdOf, bodyOf}
-use Rattle.model.specs.Rules.{NamesNoPort, DesignKeeps}
+use Rattle.model.specs.Rules.{NamesNoPort, StructureKeeps}
 use Rattle.model.specs.Values.{wordsOf, bytesOf}
 use Rattle.model.specs.Machine.{exec, Executed, Areas, Cycle, afterBody, runFrom, cycle, afterCycles}
 use Rattle.model.specs.Calls.{Lent, areasOf, lentOf, runAnswer, run}
@@ -32,7 +32,7 @@ use Rattle.model.proofs.Grouping.{Ready, Refuses, ready-or-refuses}
 
 module _ (d : Design) where
   -- ---- bodies: no assignment in a command names a port
-  abbrev SparesPorts : Cmd → Type 0
+  abbrev pub SparesPorts : Cmd → Type 0
   SparesPorts (skip n) = Unit {0}
   SparesPorts (assign n r e) = registerAt d r .kind ≡ 1 → ⊥
   SparesPorts (sequence n p q) = SparesPorts p × SparesPorts q
@@ -53,20 +53,20 @@ module _ (d : Design) where
   spares-kind branches n x e p q r own f g h = (g, h)
   spares-kind unknownCommand n x e p q r own f g h = tt
 
-  module _ (keeps : DesignKeeps d) where
+  module _ (keeps : StructureKeeps d) where
     -- past the last command there is only the node of zeros, which skips
     every-command : (n : ℕ) → NamesNoPort d n
     every-command n is = go (decLt n (length (d .commands)))
       where
         go : Dec (n < length (d .commands)) → registerAt d (commandAt d n .item) .kind ≡ 1 → ⊥
-        go (yes l) = keeps .structure .ports n l is
+        go (yes l) = keeps .ports n l is
         go (no l) =
             let none : commandAt d n ≡ noNode = List·getD-eq-default (d .commands) noNode (omega arith) in
             let skipped : commandKind (commandAt d n .kind) ≡ skips = kind-skips (ap (λ (x : Node). x .kind) none) in
             let number = ap commandNumber (sym skipped ∙ is) in
             absurd (omega arith)
 
-    body-spares : (s : ℕ) → SparesPorts (bodyOf d s)
+    pub body-spares : (s : ℕ) → SparesPorts (bodyOf d s)
     unfolding bodyOf cmdOf cmdStep
     body-spares s =
         recursively-all
@@ -120,7 +120,7 @@ module _ (image : List ℕ) (lent : Lent) (bytes : AreBytes (lent .registers)) w
   cycles-keep-ports ready n r port k l =
       let d = designOf image in
       let words = wordsOf (length (d .registers)) (lent .registers) in
-      let same = after-keeps d (verdict-exact image .0 (ready .accepted) .design) r port n (areasOf d lent) in
+      let same = after-keeps d (verdict-exact image .0 (ready .accepted) .design .structure) r port n (areasOf d lent) in
       value-bytes (afterCycles d n (areasOf d lent) .registers) r k l
       ∙ ap (λ (v : ℕ). byteAt (bytesOf (v ∷ [])) k) same
       ∙ sym (value-bytes words r k l)

@@ -117,7 +117,7 @@ module _ (image : List ℕ) where
       (decides-none n)))))
 
 -- ---- the same through the numbers that the host is given
-answers-by : {a : Answer} {n : ℕ} {passes : List Pass} → Decides a n passes → AnswersBy passes n (numbersOf a)
+pub answers-by : {a : Answer} {n : ℕ} {passes : List Pass} → Decides a n passes → AnswersBy passes n (numbersOf a)
 answers-by {a} {n} d =
     record { accepted = Iff·trans (told-accepted a n) (d .accepts); refused = λ refusal place. Iff·trans (told-refused a refusal place) (d .refuses refusal place) }
 

@@ -1,7 +1,7 @@
 -- The number and the values that document 01 gives to each case of an answer. The promises about answers go through these definitions.
 use Prim.Native.Nat.{ℕ}
 use Rattle.model.specs.declared.Refusal.{Refusal}
-use Rattle.model.specs.declared.Refusal.the-variants.{Directory, LabelRow, RegisterRecord, StateRecord, NodeRecord, NodeUse, Depth, Shape, ChildLabel, AssignFlow, GotoFlow, FallFlow, NoPort, Area, CycleCount, PortAssigned, PortValue}
+use Rattle.model.specs.declared.Refusal.the-variants.{Directory, LabelRow, RegisterRecord, StateRecord, NodeRecord, NodeUse, Depth, Shape, ChildLabel, AssignFlow, GotoFlow, FallFlow, NoPort, Area, CycleCount, PortAssigned, PortValue, NoRaising}
 use Rattle.model.specs.declared.Answer.{Answer}
 use Rattle.model.specs.declared.Answer.the-variants.{Accepted, Refused}
 
@@ -26,6 +26,8 @@ numberOf CycleCount = 15
 numberOf PortAssigned = 16
 -- 02, E2
 numberOf PortValue = 17
+-- 02, E6
+numberOf NoRaising = 18
 
 -- what the host is given
 pub record Numbers : Type 0 where

@@ -1,6 +1,6 @@
 -- All that a reader has to believe, in the order of document 01, as document 02 changes it. Every definition here computes, but for
--- the propositions of `Rules`, `Standing` and `Refusals`, and what is promised of ports (`Ports`), of rounding (`Rounding`) and of
--- parties (`Parties`, demand 3).
+-- the propositions of `Rules`, `Standing` and `Refusals`, and what is promised of ports (`Ports`), of rounding (`Rounding`), of
+-- parties (`Parties`, demand 3) and of raisings (`Raising`).
 -- 'The image'
 pub mod Limits
 pub mod Indices
@@ -29,6 +29,7 @@ pub mod Rules
 pub mod Standing
 pub mod Verdict
 pub mod Calls
+pub mod Raising
 pub mod Refusals
 -- 'The lease design'
 pub mod Listing

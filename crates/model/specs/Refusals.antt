@@ -6,7 +6,7 @@ use mathlib.Core.Logic.{_↔_, _⊎_}
 use mathlib.Core.List.{List, [], _∷_, _++_}
 use lib.ListN.{length, getD}
 use Rattle.model.specs.declared.Refusal.{Refusal}
-use Rattle.model.specs.declared.Refusal.the-variants.{Directory, LabelRow, RegisterRecord, StateRecord, NodeRecord, NodeUse, Depth, Shape, ChildLabel, AssignFlow, GotoFlow, FallFlow, NoPort, Area, CycleCount, PortAssigned, PortValue}
+use Rattle.model.specs.declared.Refusal.the-variants.{Directory, LabelRow, RegisterRecord, StateRecord, NodeRecord, NodeUse, Depth, Shape, ChildLabel, AssignFlow, GotoFlow, FallFlow, NoPort, Area, CycleCount, PortAssigned, PortValue, NoRaising}
 use Rattle.model.specs.Limits.{expressionPlace, cyclesMax, wordLength}
 use Rattle.model.specs.Image.{Design, designOf, registerAt}
 use Rattle.model.specs.Lattice.{registerLabel, stateLabel}
@@ -17,6 +17,7 @@ use Rattle.model.specs.Standing.{ChildOf, ShapeKeeps, AllFlow}
 use Rattle.model.specs.Values.{wordsOf}
 use Rattle.model.specs.Answers.{Numbers, numberOf}
 use Rattle.model.specs.Calls.{Lent}
+use Rattle.model.specs.Raising.{AcceptedRaising}
 use Rattle.model.specs.Parties.{RightLengths, Call, resets, writes, runs}
 
 -- ---- what it is to be the first rule that is broken
@@ -145,6 +146,14 @@ module _ (image : List ℕ) where
       ∷ (Area asks each (length (designOf image .states)) (TargetKeeps (designOf image) (lent .targets)) ∷ [])
       ∷ (CycleCount asks at 0 (n ≤ cyclesMax) ∷ [])
       ∷ [])
+
+-- 02, E6, raising: 10 to 12 are not asked of the image; 14 "judged after the image checks"; "18, place 0 and after 14, exactly if no accepted raising exists"
+abbrev pub raiseTable : List ℕ → List ℕ → List Pass
+raiseTable image out =
+    structureTable image
+    ++ ((Area asks at 0 (length out ≡ length image) ∷ [])
+    ∷ (NoRaising asks at 0 ((raised : List ℕ) × AcceptedRaising image raised) ∷ [])
+    ∷ [])
 
 -- the table of a call of a list, and the count that it answers where it is accepted
 abbrev pub callTable : List ℕ → Lent → Call → List Pass

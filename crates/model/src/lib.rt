@@ -38,6 +38,7 @@ pub enum Refusal {
     CycleCount,
     PortAssigned,
     PortValue,
+    NoRaising,
 }
 
 // What a call answers: an acceptance with its count (a run's cycles, else 0), or a refusal with its place.

@@ -20,7 +20,8 @@ use Rattle.model.specs.Values.{apply, stored}
 use Rattle.model.specs.Machine.{eval, Executed, unlessTransferred, exec}
 use Rattle.model.specs.Parties.{registerSeen, stateSeen}
 use Rattle.model.proofs.Laws.Booleans.{decide, and-first, and-second, and-both, true-or-false, false-unless-true}
-use Rattle.model.proofs.Independence.Labels.{AreLabels, labels-append, all-flow-append, all-flow-first, all-flow-second, context-unseen, register-label, state-label, labels-read}
+use Rattle.model.proofs.Laws.Joins.{AreLabels, labels-append, all-flow-append, all-flow-first, all-flow-second}
+use Rattle.model.proofs.Independence.Labels.{context-unseen, register-label, state-label, labels-read}
 use Rattle.model.proofs.Independence.Agreement.{Agree, agree-self, agree-sym, agree-trans, agree-unseen, agree-set}
 use Rattle.model.proofs.Independence.Endings.{Ended, exec-ends}
 

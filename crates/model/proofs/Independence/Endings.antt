@@ -17,7 +17,7 @@ use Rattle.model.specs.Flow.{labelsRead}
 use Rattle.model.specs.Rules.{Shaped, Flows}
 use Rattle.model.specs.Machine.{eval, Executed, unlessTransferred, exec}
 use Rattle.model.proofs.Laws.Booleans.{and-both, and-false, or-first, or-second, true-or-false}
-use Rattle.model.proofs.Independence.Labels.{all-flow-first}
+use Rattle.model.proofs.Laws.Joins.{all-flow-first}
 
 module _ (d : Design) (s : ℕ) where
   -- what a command's outcome tells: whether it transfers; that a goto is to a sibling or to s itself, and the context flows there; that a fall is held,

@@ -3,7 +3,7 @@
 use Prim.Native.Nat.{ℕ, _<_}
 use mathlib.Core.Path.{_≡_, refl, ap}
 use mathlib.Core.Bool.{true, false}
-use mathlib.Core.List.{List, [], _∷_, _++_, map}
+use mathlib.Core.List.{List, [], _∷_, map}
 use native.Mathlib.Omega.{arith}
 use native.Mathlib.Decide.{decLt}
 use lib.ListN.{length, List·getD-eq-default}
@@ -13,15 +13,7 @@ use Rattle.model.specs.Trees.{Expr, registersRead}
 use Rattle.model.specs.Flow.{labelsRead}
 use Rattle.model.specs.Rules.{FlowsTo, DesignKeeps}
 use Rattle.model.proofs.Laws.Booleans.{and-first, and-second, and-both, false-unless-true, true-or-false}
-
--- every label of a list is one of the labels
-abbrev pub AreLabels : List ℕ → List ℕ → Type 0
-AreLabels rows [] = Unit {0}
-AreLabels rows (l ∷ more) = (l < length rows) × AreLabels rows more
-
-pub labels-append : (rows xs ys : List ℕ) → AreLabels rows xs → AreLabels rows ys → AreLabels rows (xs ++ ys)
-labels-append rows [] ys h k = k
-labels-append rows (x ∷ xs) ys h k = (h .0, labels-append rows xs ys (h .1) k)
+use Rattle.model.proofs.Laws.Joins.{AreLabels}
 
 -- ---- a level
 module _ (d : Design) (level : ℕ) (keeps : DesignKeeps d) (isLabel : level < length (d .rows)) where
@@ -79,29 +71,3 @@ module _ (d : Design) (level : ℕ) (keeps : DesignKeeps d) (isLabel : level < l
   pub labels-read : (e : Expr) → AreLabels (d .rows) (labelsRead d e)
   unfolding labelsRead
   labels-read e = labels-of (registersRead e)
-
--- ---- the labels of a list all flow to a label
-pub all-flow-append : (rows xs ys : List ℕ) (l : ℕ) → allFlowTo rows xs l ≡ true → allFlowTo rows ys l ≡ true → allFlowTo rows (xs ++ ys) l ≡ true
-unfolding allFlowTo
-all-flow-append rows [] ys l h k = k
-all-flow-append rows (x ∷ xs) ys l h k =
-    and-both
-    (flowsTo rows x l)
-    (allFlowTo rows (xs ++ ys) l)
-    (and-first (flowsTo rows x l) (allFlowTo rows xs l) h)
-    (all-flow-append rows xs ys l (and-second (flowsTo rows x l) (allFlowTo rows xs l) h) k)
-
-pub all-flow-first : (rows xs ys : List ℕ) (l : ℕ) → allFlowTo rows (xs ++ ys) l ≡ true → allFlowTo rows xs l ≡ true
-unfolding allFlowTo
-all-flow-first rows [] ys l h = refl
-all-flow-first rows (x ∷ xs) ys l h =
-    and-both
-    (flowsTo rows x l)
-    (allFlowTo rows xs l)
-    (and-first (flowsTo rows x l) (allFlowTo rows (xs ++ ys) l) h)
-    (all-flow-first rows xs ys l (and-second (flowsTo rows x l) (allFlowTo rows (xs ++ ys) l) h))
-
-pub all-flow-second : (rows xs ys : List ℕ) (l : ℕ) → allFlowTo rows (xs ++ ys) l ≡ true → allFlowTo rows ys l ≡ true
-unfolding allFlowTo
-all-flow-second rows [] ys l h = h
-all-flow-second rows (x ∷ xs) ys l h = all-flow-second rows xs ys l (and-second (flowsTo rows x l) (allFlowTo rows (xs ++ ys) l) h)

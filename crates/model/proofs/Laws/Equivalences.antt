@@ -1,6 +1,6 @@
 -- What a test says, both ways at once: each law gives, for a way to build a test, the statement that the test is true exactly when it holds.
 use Prim.Native.Nat.{ℕ, _≤_, _<_}
-use mathlib.Core.Path.{_≡_}
+use mathlib.Core.Path.{_≡_, refl, sym}
 use mathlib.Core.Logic.{_↔_, _⊎_, inl, inr, ⊎-elim}
 use mathlib.Core.Bool.{Bool, true, false, _&&_, _||_, not, Bool·beq}
 use lib.Dec.{ltb, leb, eqb}
@@ -28,6 +28,12 @@ refutes-iff {a} f = (λ e p. true-or-false a (f .1 p) (not-true a e), λ h. fals
 
 pub same-iff : {a b : Bool} → (Bool·beq a b ≡ true) ↔ (a ≡ b)
 same-iff {a} {b} = (beq-same a b, beq-make a b)
+
+-- tests that say the same are the same
+pub same-tests : {a b : Bool} → ((a ≡ true) ↔ (b ≡ true)) → a ≡ b
+same-tests {a = true} {b} f = sym (f .0 refl)
+same-tests {a = false} {b = true} f = f .1 refl
+same-tests {a = false} {b = false} f = refl
 
 -- a conjunction of two, three and four tests
 pub and-iff : {a b : Bool} {P Q : Type 0} → ((a ≡ true) ↔ P) → ((b ≡ true) ↔ Q) → ((a && b) ≡ true) ↔ (P × Q)

@@ -6,7 +6,7 @@ use mathlib.Core.List.{[], _∷_}
 use native.Mathlib.Omega.{arith}
 use lib.ListN.{getD}
 use Rattle.model.specs.declared.Refusal.{Refusal}
-use Rattle.model.specs.declared.Refusal.the-variants.{Directory, LabelRow, RegisterRecord, StateRecord, NodeRecord, NodeUse, Depth, Shape, ChildLabel, AssignFlow, GotoFlow, FallFlow, NoPort, Area, CycleCount, PortAssigned, PortValue}
+use Rattle.model.specs.declared.Refusal.the-variants.{Directory, LabelRow, RegisterRecord, StateRecord, NodeRecord, NodeUse, Depth, Shape, ChildLabel, AssignFlow, GotoFlow, FallFlow, NoPort, Area, CycleCount, PortAssigned, PortValue, NoRaising}
 use Rattle.model.specs.declared.Answer.{Answer}
 use Rattle.model.specs.declared.Answer.the-variants.{Accepted, Refused}
 use Rattle.model.specs.Answers.{Numbers, numberOf, numbersOf}
@@ -32,6 +32,7 @@ numbered n =
     ∷ CycleCount
     ∷ PortAssigned
     ∷ PortValue
+    ∷ NoRaising
     ∷ [])
     n
     Directory
@@ -54,6 +55,7 @@ numbered-back Area = refl
 numbered-back CycleCount = refl
 numbered-back PortAssigned = refl
 numbered-back PortValue = refl
+numbered-back NoRaising = refl
 
 -- two refusals of one number are one
 pub same-number : (r q : Refusal) → numberOf r ≡ numberOf q → r ≡ q

@@ -1,0 +1,121 @@
+-- The call answers by its table: its last rule asks for an accepted raising, and the raised image is accepted exactly where there is one. What it leaves follows.
+use Prim.Native.Nat.{ℕ}
+use mathlib.Core.Path.{_≡_, refl, sym, _∙_, ap}
+use mathlib.Core.Logic.{_⊎_, inl, inr}
+use mathlib.Core.Bool.{true}
+use mathlib.Core.List.{List}
+use lib.ListN.{length}
+use lib.Dec.{eqb}
+use Rattle.model.specs.declared.Refusal.{Refusal}
+use Rattle.model.specs.declared.Refusal.the-variants.{Area, NoRaising}
+use Rattle.model.specs.declared.Answer.{Answer}
+use Rattle.model.specs.declared.Answer.the-variants.{Accepted, Refused}
+use Rattle.model.specs.Answers.{numbersOf}
+use Rattle.model.specs.Raising.{LeastRaising, accepts, raisedImage, LeftOut, leavesOut, raiseAnswer, raise}
+use Rattle.model.specs.Refusals.{raiseTable, AnswersBy}
+use Rattle.model.specs.Verdict.{_before_, refusedAt, atZeroUnless, structure, verdict}
+use Rattle.model.proofs.Laws.Equivalences.{equal-iff}
+use Rattle.model.proofs.Laws.Found.{zero-unless-iff}
+use Rattle.model.proofs.Laws.Verdict.{first-accepts, later-accepts, found-nothing}
+use Rattle.model.proofs.Laws.Numbers.{no-number-zero}
+use Rattle.model.proofs.Laws.Broken.{Decides, decides-one, decides-before}
+use Rattle.model.proofs.Laws.Finds.{finds-zero}
+use Rattle.model.proofs.Exact.{structure-exact, structure-counts-nothing, verdict-exact}
+use Rattle.model.proofs.Refused.{structure-decides, answers-by}
+use Rattle.model.proofs.Raising.Theorem.{accepts-exact, least, exists-exactly, comes-back}
+
+-- a call leaves its answer
+left-out-answer : (a : Answer) (out made : List ℕ) → leavesOut a out made .answer ≡ a
+left-out-answer (Accepted n) out made = refl
+left-out-answer (Refused r p) out made = refl
+
+left-out : (a : Answer) (out made : List ℕ) → (numbersOf (leavesOut a out made .answer) .number ≡ 0 → ⊥) → leavesOut a out made .out ≡ out
+left-out (Accepted n) out made refused = absurd (refused refl)
+left-out (Refused r p) out made refused = refl
+
+module _ (image out : List ℕ) where
+  -- ---- the answer
+  pub raise-decides : Decides (raiseAnswer image out) 0 (raiseTable image out)
+  unfolding raiseAnswer
+  raise-decides =
+      decides-before
+      (structure-decides image)
+      (λ structured. decides-before
+      (decides-one (finds-zero equal-iff))
+      (λ long. decides-one (finds-zero (exists-exactly image (structure-decides image .accepts .1 structured)))))
+
+  raise-answer : raise image out .answer ≡ raiseAnswer image out
+  unfolding raise
+  raise-answer = left-out-answer (raiseAnswer image out) out (raisedImage image)
+
+  pub raise-answers : AnswersBy (raiseTable image out) 0 (numbersOf (raise image out .answer))
+  raise-answers = rw raise-answer (answers-by raise-decides)
+
+  -- ---- a refusal leaves the second area
+  pub raise-refused : (numbersOf (raise image out .answer) .number ≡ 0 → ⊥) → raise image out .out ≡ out
+  unfolding raise
+  raise-refused refused = left-out (raiseAnswer image out) out (raisedImage image) refused
+
+  -- ---- an acceptance, through its number
+  accepted-answer : numbersOf (raise image out .answer) .number ≡ 0 → raiseAnswer image out ≡ Accepted 0
+  accepted-answer e = go (raise-decides .either)
+    where
+      go : (raiseAnswer image out ≡ Accepted 0) ⊎ ((refusal : Refusal) × (place : ℕ) × (raiseAnswer image out ≡ Refused refusal place)) → raiseAnswer image out ≡ Accepted 0
+      go (inl h) = h
+      go (inr (refusal, place, h)) = absurd (no-number-zero refusal (ap (λ (a : Answer). numbersOf a .number) (sym (raise-answer ∙ h)) ∙ e))
+
+  -- it leaves the raised image
+  leaves-raised : raiseAnswer image out ≡ Accepted 0 → raise image out ≡ record { answer = Accepted 0; out = raisedImage image }
+  unfolding raise
+  leaves-raised accepted = rw accepted
+
+  accepted-structure : raiseAnswer image out ≡ Accepted 0 → structure image ≡ Accepted 0
+  unfolding raiseAnswer
+  accepted-structure accepted =
+      let (n, e) = first-accepts (structure image) _ accepted in
+      e ∙ ap Accepted (structure-counts-nothing image n e)
+
+  accepted-raising : raiseAnswer image out ≡ Accepted 0 → accepts (verdict (raisedImage image)) ≡ true
+  unfolding raiseAnswer
+  accepted-raising accepted =
+      zero-unless-iff .0
+      (found-nothing NoRaising (atZeroUnless (accepts (verdict (raisedImage image))))
+      (later-accepts (refusedAt Area (atZeroUnless (eqb (length out) (length image)))) _ (later-accepts (structure image) _ accepted)))
+
+  accepted-length : raiseAnswer image out ≡ Accepted 0 → length out ≡ length image
+  unfolding raiseAnswer
+  accepted-length accepted =
+      let (n, e) = first-accepts (refusedAt Area (atZeroUnless (eqb (length out) (length image)))) _ (later-accepts (structure image) _ accepted) in
+      equal-iff .0 (zero-unless-iff .0 (found-nothing Area (atZeroUnless (eqb (length out) (length image))) e))
+
+  pub raise-accepts : structure image ≡ Accepted 0 → length out ≡ length image → accepts (verdict (raisedImage image)) ≡ true → raiseAnswer image out ≡ Accepted 0
+  unfolding raiseAnswer _before_ refusedAt
+  raise-accepts structured long accepted = rw (structured, equal-iff {a = length out} {b = length image} .1 long, accepted)
+
+  -- "The result is the least"
+  pub raise-least : numbersOf (raise image out .answer) .number ≡ 0 → LeastRaising image (raise image out .out)
+  raise-least e =
+      let accepted = accepted-answer e in
+      rw (ap (λ (left : LeftOut). left .out) (leaves-raised accepted)) (least image (accepted-structure accepted) (accepted-raising accepted))
+
+  -- "An accepted image comes back unchanged."
+  pub raise-comes-back : verdict image ≡ Accepted 0 → length out ≡ length image → raise image out ≡ record { answer = Accepted 0; out = image }
+  raise-comes-back accepted long =
+      let good = verdict-exact image .0 accepted in
+      let same = comes-back image accepted in
+      let structured = structure-exact image .1 (good .directory, good .design .structure) in
+      leaves-raised (raise-accepts structured long (ap (λ (x : List ℕ). accepts (verdict x)) same ∙ accepts-exact image .1 good)) ∙ rw same
+
+-- raised twice is raised once
+pub raise-twice : (image out again : List ℕ) → numbersOf (raise image out .answer) .number ≡ 0 → length again ≡ length image
+    → raise (raise image out .out) again ≡ record { answer = Accepted 0; out = raise image out .out }
+raise-twice image out again e long =
+    let least = raise-least image out e .accepted in
+    raise-comes-back (raise image out .out) again (verdict-exact (raise image out .out) .1 (least .keeps)) (long ∙ sym (least .raises .same-length))
+
+-- what the second area held does not matter: only its length does
+pub raise-whatever-held : (image out other : List ℕ) → length other ≡ length out → numbersOf (raise image out .answer) .number ≡ 0 → raise image other ≡ raise image out
+raise-whatever-held image out other long e =
+    let accepted = accepted-answer image out e in
+    let also = raise-accepts image other (accepted-structure image out accepted) (long ∙ accepted-length image out accepted) (accepted-raising image out accepted) in
+    leaves-raised image other also ∙ sym (leaves-raised image out accepted)

@@ -1,0 +1,47 @@
+-- What is promised about 02, E6, "Raise the labels for me", each promise restated in full and closed by one citation, as in `Promises`. That ports and states keep
+-- their labels, and that nothing but labels of inner registers changes, is inside `Raises` (specs/Raising.antt).
+use Prim.Native.Nat.{ℕ}
+use mathlib.Core.Path.{_≡_}
+use mathlib.Core.Logic.{_↔_}
+use mathlib.Core.Bool.{true}
+use mathlib.Core.List.{List}
+use lib.ListN.{length}
+use Rattle.model.specs.declared.Answer.the-variants.{Accepted}
+use Rattle.model.specs.Answers.{numbersOf}
+use Rattle.model.specs.Raising.{AcceptedRaising, LeastRaising, accepts, raisedImage, raise}
+use Rattle.model.specs.Refusals.{raiseTable, AnswersBy}
+use Rattle.model.specs.Verdict.{structure, verdict}
+use Rattle.model.proofs.Raising.Theorem.{exists-exactly}
+use Rattle.model.proofs.Raising.Calls.{raise-answers, raise-refused, raise-least, raise-comes-back, raise-twice, raise-whatever-held}
+
+-- "Given an image that passes all checks up to 9, 16 included"; "An output area not as long as the image is refusal 14, judged after the image checks. It refuses
+-- with 18, place 0 and after 14, exactly if no accepted raising exists." The call is accepted exactly when every rule of its table is kept, and refused exactly by
+-- the first that is broken.
+pub raise-exactly : (image out : List ℕ) → AnswersBy (raiseTable image out) 0 (numbersOf (raise image out .answer))
+raise-exactly = raise-answers
+
+-- The same without the call: where the image passes the checks up to 9, its raising is accepted exactly when some raising is.
+pub raising-exists-exactly : (image : List ℕ) → structure image ≡ Accepted 0 → (accepts (verdict (raisedImage image)) ≡ true) ↔ ((raised : List ℕ) × AcceptedRaising image raised)
+raising-exists-exactly = exists-exactly
+
+-- "write into a second area the same image with inner register labels raised, never lowered, so that the whole is accepted. Port and state labels are fixed. The
+-- result is the least: every accepted raising gives each register a label at or above ours."
+pub raised-least : (image out : List ℕ) → numbersOf (raise image out .answer) .number ≡ 0 → LeastRaising image (raise image out .out)
+raised-least = raise-least
+
+-- "An accepted image comes back unchanged."
+pub accepted-comes-back : (image out : List ℕ) → verdict image ≡ Accepted 0 → length out ≡ length image → raise image out ≡ record { answer = Accepted 0; out = image }
+accepted-comes-back = raise-comes-back
+
+-- So what was raised comes back from a second call as it is.
+pub raised-twice : (image out again : List ℕ) → numbersOf (raise image out .answer) .number ≡ 0 → length again ≡ length image
+    → raise (raise image out .out) again ≡ record { answer = Accepted 0; out = raise image out .out }
+raised-twice = raise-twice
+
+-- 01, demand 1: "No lent byte changes" on a refusal.
+pub raise-refused-leaves : (image out : List ℕ) → (numbersOf (raise image out .answer) .number ≡ 0 → ⊥) → raise image out .out ≡ out
+raise-refused-leaves = raise-refused
+
+-- What the second area held before does not matter: where the call is accepted, any other of the same length is left the same.
+pub raised-whatever-held : (image out other : List ℕ) → length other ≡ length out → numbersOf (raise image out .answer) .number ≡ 0 → raise image other ≡ raise image out
+raised-whatever-held = raise-whatever-held
