@@ -8,9 +8,11 @@ use Rattle.model.specs.declared.Answer.the-variants.{Accepted, Refused}
 use Rattle.model.specs.Answers.{Numbers, numberOf, numbersOf}
 use Rattle.model.specs.Calls.{Left, LeftRegisters}
 use Rattle.design.specs.Resets.{lends}
+use Rattle.model.specs.Raising.{LeftOut}
 use Rattle.calls.specs.Stages.{leftAs, leftRegistersAs}
+use Rattle.raising.specs.Stages.{leftOutAs}
 use Rattle.caisson.specs.declared.HostAnswer.{HostAnswer}
-use Rattle.caisson.specs.Told.{told, toldLeft, inNumbers, toldLeftRegisters, registersInNumbers}
+use Rattle.caisson.specs.Told.{told, toldLeft, inNumbers, toldLeftRegisters, registersInNumbers, toldLeftOut, outInNumbers}
 
 pub accepted-numbers : {a : Answer} {n : ℕ} → a ≡ Accepted n → record { number = 0; place = 0; count = n } ≡ numbersOf a
 accepted-numbers h = rw h
@@ -29,3 +31,6 @@ left-told h a registers targets p q =
 pub registers-told : (h : HostAnswer) (a : Answer) (registers : List ℕ) {left : LeftRegisters} → told h ≡ numbersOf a → leftRegistersAs a registers ≡ left → toldLeftRegisters h registers ≡ registersInNumbers left
 registers-told h a registers p q =
     ap (λ (n : Numbers). record { numbers = n; registers = registers }) p ∙ ap registersInNumbers q
+
+pub out-told : (h : HostAnswer) (a : Answer) (out : List ℕ) {left : LeftOut} → told h ≡ numbersOf a → leftOutAs a out ≡ left → toldLeftOut h out ≡ outInNumbers left
+out-told h a out p q = ap (λ (n : Numbers). record { numbers = n; out = out }) p ∙ ap outInNumbers q

@@ -96,7 +96,7 @@ pub record Slices : Type 0 where
   pub targets : Gone
 
 -- a slice with these bytes
-abbrev holds : Gone → List ℕ → RefT (List ℕ)
+abbrev pub holds : Gone → List ℕ → RefT (List ℕ)
 holds slice bytes = record { ptr = slice .ptr; name = slice .name; now = bytes }
 
 -- the arguments of each function, at its entry and at its exit

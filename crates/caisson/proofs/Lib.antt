@@ -2,3 +2,5 @@
 pub mod Answered
 pub mod Contracts
 pub mod Promises
+pub mod RaiseContracts
+pub mod RaisePromises

@@ -4,6 +4,7 @@ use mathlib.Core.List.{List}
 use Rattle.caisson.specs.declared.HostAnswer.{HostAnswer}
 use Rattle.model.specs.Answers.{Numbers, numbersOf}
 use Rattle.model.specs.Calls.{Lent, Left, LeftRegisters}
+use Rattle.model.specs.Raising.{LeftOut}
 use Rattle.design.specs.Resets.{lends}
 
 abbrev pub told : HostAnswer → Numbers
@@ -30,3 +31,14 @@ registersInNumbers left = record { numbers = numbersOf (left .answer); registers
 
 abbrev pub toldLeftRegisters : HostAnswer → List ℕ → NumbersLeftRegisters
 toldLeftRegisters answer registers = record { numbers = told answer; registers = registers }
+
+-- and a call that writes a second area, and changes nothing of what else it is lent
+pub record NumbersLeftOut : Type 0 where
+  pub numbers : Numbers
+  pub out : List ℕ
+
+abbrev pub outInNumbers : LeftOut → NumbersLeftOut
+outInNumbers left = record { numbers = numbersOf (left .answer); out = left .out }
+
+abbrev pub toldLeftOut : HostAnswer → List ℕ → NumbersLeftOut
+toldLeftOut answer out = record { numbers = told answer; out = out }

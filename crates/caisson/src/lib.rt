@@ -5,8 +5,9 @@ use model::Answer;
 ghost use mathlib.Core.Path.{_≡_};
 ghost use Rattle.model.specs.Answers.{numbersOf};
 ghost use Rattle.model.specs.Calls.{check, registersLength, targetsLength, reset, writePort, run};
+ghost use Rattle.model.specs.Raising.{raise};
 ghost use Rattle.design.specs.Resets.{lends};
-ghost use Rattle.caisson.specs.Told.{told, toldLeft, inNumbers, toldLeftRegisters, registersInNumbers};
+ghost use Rattle.caisson.specs.Told.{told, toldLeft, inNumbers, toldLeftRegisters, registersInNumbers, toldLeftOut, outInNumbers};
 
 // An answer as the host is given it: caisson_answer in the header.
 #[repr(C)]
@@ -99,5 +100,14 @@ pub extern "C" fn caisson_run(
     ensures { λ r. ⌜ toldLeft r (now (registers .exit)) (now (targets .exit)) ≡ inNumbers (run (now (image .entry)) (lends (now (registers .entry)) (now (targets .entry))) cycles) ⌝ }
 {
     let answer = calls::run(image, registers, targets, cycles);
+    in_numbers(answer)
+}
+
+// The image with the labels of its inner registers raised, into a second area.
+#[no_mangle]
+pub extern "C" fn caisson_raise(image: &[u8], out: &mut [u8]) -> HostAnswer
+    ensures { λ r. ⌜ toldLeftOut r (now (out .exit)) ≡ outInNumbers (raise (now (image .entry)) (now (out .entry))) ⌝ }
+{
+    let answer = raising::raise(image, out);
     in_numbers(answer)
 }

@@ -1,0 +1,225 @@
+-- A command hands the table on to its parts as the meaning has it: a sequence in its own context, an if with what its condition reads besides. And so do the
+-- bodies of the states, one after the other, and the passes.
+use Prim.Native.Nat.{ℕ, zero, suc, _+_, _-_, _*_, _≤_, _<_}
+use mathlib.Core.Path.{_≡_, refl, sym, _∙_, ap}
+use mathlib.Core.Bool.{Bool, true, false, _||_, not}
+use mathlib.Core.List.{List, [], _∷_, _++_}
+use native.Mathlib.Omega.{arith}
+use native.Mathlib.Nat.{mul-le-mul-right}
+use native.Mathlib.Numerals.{add-one}
+use lib.Bits.{bitAnd}
+use lib.ListN.{length}
+use mir.Syntax.{w64}
+use mir.Val.{Fits}
+use Rattle.model.specs.Image.{Design as Table, Node, designOf, commandAt}
+use Rattle.model.specs.Lattice.{stateLabel}
+use Rattle.model.specs.Kinds.{CommandKind, skips, sequences, falls, goes, branches, commandKind}
+use Rattle.model.specs.Trees.{exprOf, cmdOf, bodyOf}
+use Rattle.model.specs.Flow.{labelsRead}
+use Rattle.model.specs.Labelling.{relabelled}
+use Rattle.model.specs.Rules.{CommandHolds}
+use Rattle.model.specs.Raising.{labelsReadBy, raisedBy, raisedByStates, raisedOnce, raisedTimes}
+use Rattle.model.proofs.Laws.Booleans.{not-true}
+use Rattle.model.proofs.Laws.Trees.{cmd-skip, cmd-sequence, cmd-fall, cmd-goto, cmd-branch}
+use Rattle.design.specs.declared.Design.{Design}
+use Rattle.design.specs.Records.{nodeIn, rowIn, stateIn, rowEnd}
+use Rattle.design.specs.RecordsAt.{CommandAt}
+use Rattle.design.proofs.Laws.{labels-count, labels-most, registers-count, states-count, row-in}
+use Rattle.design.proofs.LabelRules.{registers-few}
+use Rattle.design.proofs.FieldRules.{body-is, same-command, command-kind-is, command-kind-of, a-is, b-is, c-is, command-holds, condition, sequence-a-below, sequence-b-below, branch-b-below, branch-c-below}
+use Rattle.checker_bodies.specs.Flows.{MaskOf, Gathering}
+use Rattle.checker_bodies.proofs.Masks.{mask-both, mask-row}
+use Rattle.checker_bodies.proofs.FlowRules.{state-label-is, state-label-below}
+use Rattle.raising.specs.Passes.{Labelling, Raising, Assigns, Moved, RaisedAt, RaisedTo}
+use Rattle.raising.proofs.PassRules.{command-here, gathering, read-mask, moved-none, moved-both}
+
+module _ {image labels : List ℕ} {x : Design} {n : ℕ} (here : Raising image x labels) (l : n < x .commands) where
+  at : CommandAt image x (x .«commands_at») n
+  at = command-here here l
+
+  pub assigns-here : {k : ℕ} → k ≡ 1 → k ≡ nodeIn image (x .«commands_at») n .kind → Assigns image x n
+  assigns-here q p = record { command = l; kind = command-kind-is at q p }
+
+  pub condition-gathers : {k e : ℕ} → k ≡ 5 → k ≡ nodeIn image (x .«commands_at») n .kind → e ≡ nodeIn image (x .«commands_at») n .a → Gathering image labels (x .«expressions_at») e
+  condition-gathers q p f = gathering here (condition at q p f)
+
+  -- parts are commands, of lower numbers
+  pub sequence-a-here : {k a : ℕ} → k ≡ 2 → k ≡ nodeIn image (x .«commands_at») n .kind → a ≡ nodeIn image (x .«commands_at») n .a → a < x .commands
+  sequence-a-here q p f = let below = sequence-a-below at q p f in omega arith
+
+  pub sequence-b-here : {k b : ℕ} → k ≡ 2 → k ≡ nodeIn image (x .«commands_at») n .kind → b ≡ nodeIn image (x .«commands_at») n .b → b < x .commands
+  sequence-b-here q p f = let below = sequence-b-below at q p f in omega arith
+
+  pub branch-b-here : {k b : ℕ} → k ≡ 5 → k ≡ nodeIn image (x .«commands_at») n .kind → b ≡ nodeIn image (x .«commands_at») n .b → b < x .commands
+  branch-b-here q p f = let below = branch-b-below at q p f in omega arith
+
+  pub branch-c-here : {k c : ℕ} → k ≡ 5 → k ≡ nodeIn image (x .«commands_at») n .kind → c ≡ nodeIn image (x .«commands_at») n .c → c < x .commands
+  branch-c-here q p f = let below = branch-c-below at q p f in omega arith
+
+  pub sequence-a-lower : {k a t : ℕ} → k ≡ 2 → k ≡ nodeIn image (x .«commands_at») n .kind → a ≡ nodeIn image (x .«commands_at») n .a → n ≡ t → a < t
+  sequence-a-lower q p f e = rw (← e) (sequence-a-below at q p f)
+
+  pub sequence-b-lower : {k b t : ℕ} → k ≡ 2 → k ≡ nodeIn image (x .«commands_at») n .kind → b ≡ nodeIn image (x .«commands_at») n .b → n ≡ t → b < t
+  sequence-b-lower q p f e = rw (← e) (sequence-b-below at q p f)
+
+  pub branch-b-lower : {k b t : ℕ} → k ≡ 5 → k ≡ nodeIn image (x .«commands_at») n .kind → b ≡ nodeIn image (x .«commands_at») n .b → n ≡ t → b < t
+  branch-b-lower q p f e = rw (← e) (branch-b-below at q p f)
+
+  pub branch-c-lower : {k c t : ℕ} → k ≡ 5 → k ≡ nodeIn image (x .«commands_at») n .kind → c ≡ nodeIn image (x .«commands_at») n .c → n ≡ t → c < t
+  branch-c-lower q p f e = rw (← e) (branch-c-below at q p f)
+
+  -- ---- what a command makes of the table
+  pub sequence-raises :
+      {k a b mask : ℕ} {middle after : List ℕ} {p q : Bool}
+      → k ≡ 2
+      → k ≡ nodeIn image (x .«commands_at») n .kind
+      → a ≡ nodeIn image (x .«commands_at») n .a
+      → b ≡ nodeIn image (x .«commands_at») n .b
+      → RaisedAt (designOf image) mask a labels middle p
+      → RaisedAt (designOf image) mask b middle after q
+      → RaisedAt (designOf image) mask n labels after (p || q)
+  unfolding commandKind raisedBy
+  sequence-raises kind byte fa fb first second =
+      let tree = cmd-sequence (designOf image) n (command-kind-of at sequences kind byte refl) (command-holds at kind byte .1) (command-holds at kind byte .2) in
+      record {
+        change = moved-both (first .change) (second .change);
+        is = λ context around. second .is context around ∙ rw (tree, ← (a-is at fa), ← (b-is at fb), first .is context around) refl;
+      }
+
+  pub branch-raises :
+      {k e b c m mask : ℕ} {middle after : List ℕ} {p q : Bool}
+      → k ≡ 5
+      → k ≡ nodeIn image (x .«commands_at») n .kind
+      → e ≡ nodeIn image (x .«commands_at») n .a
+      → b ≡ nodeIn image (x .«commands_at») n .b
+      → c ≡ nodeIn image (x .«commands_at») n .c
+      → MaskOf (designOf image .rows) (labelsRead (relabelled (designOf image) labels) (exprOf (designOf image) e)) m
+      → RaisedAt (designOf image) (bitAnd mask m) b labels middle p
+      → RaisedAt (designOf image) (bitAnd mask m) c middle after q
+      → RaisedAt (designOf image) mask n labels after (p || q)
+  unfolding commandKind raisedBy
+  branch-raises {e = e} kind byte fe fb fc read first second =
+      let tree = cmd-branch (designOf image) n (command-kind-of at branches kind byte refl) (command-holds at kind byte .2) (command-holds at kind byte .3) in
+      record {
+        change = moved-both (first .change) (second .change);
+        is = λ context around.
+            let inner = context ++ labelsReadBy labels (exprOf (designOf image) e) in
+            let inside = mask-both around (read-mask here e read) in
+            second .is inner inside ∙ rw (tree, ← (a-is at fe), ← (b-is at fb), ← (c-is at fc), first .is inner inside) refl;
+      }
+
+  -- a command that is no assignment, sequence or if raises nothing
+  unmoved : (context : List ℕ) (k : ℕ) → k ≡ commandAt (designOf image) n .kind → (k ≡ 1 → ⊥) → (k ≡ 2 → ⊥) → (k ≡ 5 → ⊥) → CommandHolds (designOf image) n (commandKind k) (commandAt (designOf image) n)
+      → labels ≡ raisedBy (designOf image) context (cmdOf (designOf image) n) labels
+  unfolding commandKind raisedBy
+  unmoved context zero e a b c h = rw (cmd-skip (designOf image) n (ap commandKind (sym e))) refl
+  unmoved context (suc zero) e a b c h = absurd (a refl)
+  unmoved context (suc (suc zero)) e a b c h = absurd (b refl)
+  unmoved context (suc (suc (suc zero))) e a b c h = rw (cmd-fall (designOf image) n (ap commandKind (sym e))) refl
+  unmoved context (suc (suc (suc (suc zero)))) e a b c h = rw (cmd-goto (designOf image) n (ap commandKind (sym e))) refl
+  unmoved context (suc (suc (suc (suc (suc zero))))) e a b c h = absurd (c refl)
+  unmoved context (suc (suc (suc (suc (suc (suc k)))))) e a b c h = absurd h
+
+  pub other-still : {k mask : ℕ} → (k ≡ 1 → ⊥) → (k ≡ 2 → ⊥) → (k ≡ 5 → ⊥) → k ≡ nodeIn image (x .«commands_at») n .kind → RaisedAt (designOf image) mask n labels labels false
+  other-still {k} a b c p =
+      record {
+        change = moved-none (here .labelling);
+        is = λ context around. unmoved context k (sym (command-kind-is at refl p)) a b c (command-holds at refl p);
+      }
+
+pub ruleset command-laws = (assigns-here, condition-gathers, sequence-raises, branch-raises, other-still)
+
+-- ---- the body of a state, whose context is its label
+pub state-raises :
+    {image labels after : List ℕ} {x : Design} {s n label mask : ℕ} {moved : Bool}
+    → RaisedAt (designOf image) mask n labels after moved
+    → mask ≡ rowIn image label
+    → mask < 65536
+    → label ≡ stateIn image (x .«states_at») s .label
+    → n ≡ stateIn image (x .«states_at») s .command
+    → s < x .states
+    → Raising image x labels
+    → RaisedTo (designOf image) (raisedBy (designOf image) (stateLabel (designOf image) s ∷ []) (bodyOf (designOf image) s) labels) labels after moved
+unfolding bodyOf
+state-raises {image} {x = x} {s} {label = label} raised row small fl fn l here =
+    let known = here .known in
+    let is = state-label-is known l fl in
+    let count = labels-count (known .describes) in
+    let below = state-label-below known l in
+    let mask = mask-row {rows = designOf image .rows} {l = label} (row ∙ row-in (known .describes) (omega arith)) small in
+    record { change = raised .change; is = rw (← (body-is (known .describes) l fn)) (raised .is (stateLabel (designOf image) s ∷ []) (rw is at mask)) }
+
+-- ---- one pass: the bodies of the first s states
+pub record OnceSo (d : Table) (start : List ℕ) (s : ℕ) (now : List ℕ) (moved : Bool) : Type 0 where
+  pub change : Moved d start now moved
+  pub is : now ≡ raisedByStates d s start
+
+module _ {d : Table} {start : List ℕ} where
+  pub once-none : Labelling d start → OnceSo d start 0 start false
+  unfolding raisedByStates
+  once-none own = record { change = moved-none own; is = refl }
+
+  pub once-more : {s : ℕ} {now after : List ℕ} {p q : Bool} → RaisedTo d (raisedBy d (stateLabel d s ∷ []) (bodyOf d s) now) now after q → OnceSo d start s now p → OnceSo d start (s + 1) after (p || q)
+  unfolding raisedByStates
+  once-more {s} to so = record { change = moved-both (so .change) (to .change); is = to .is ∙ rw (add-one s, ← (so .is)) refl }
+
+  pub once-all : {s m : ℕ} {now : List ℕ} {p : Bool} → OnceSo d start s now p → s ≤ m → m ≤ s → m ≡ length (d .states) → RaisedTo d (raisedOnce d start) start now p
+  unfolding raisedOnce
+  once-all {s} {m} so l h e = let same : s ≡ length (d .states) = omega arith in record { change = so .change; is = rw (← same) (so .is) }
+
+-- what is known after the bodies so far
+pub raising-so : {image start now : List ℕ} {x : Design} {s : ℕ} {moved : Bool} → OnceSo (designOf image) start s now moved → Raising image x start → Raising image x now
+raising-so so here = record { known = here .known; lattice = here .lattice; labelling = so .change .labelling }
+
+-- ---- passes: with those that are left the whole comes out
+pub record TimesSo (d : Table) (start : List ℕ) (most i : ℕ) (now : List ℕ) : Type 0 where
+  pub labelling : Labelling d now
+  pub left : raisedTimes d (most - i) now ≡ raisedTimes d most start
+
+-- where a pass moves nothing, none does
+pub times-stay : (d : Table) (labels : List ℕ) → raisedOnce d labels ≡ labels → (n : ℕ) → raisedTimes d n labels ≡ labels
+unfolding raisedTimes
+times-stay d labels e zero = refl
+times-stay d labels e (suc n) = rw e (times-stay d labels e n)
+
+module _ {d : Table} {start : List ℕ} {most : ℕ} where
+  pub times-none : Labelling d start → TimesSo d start most 0 start
+  times-none own = record { labelling = own; left = let all : most - 0 ≡ most = omega arith in rw all refl }
+
+  pub times-more : {i : ℕ} {now after : List ℕ} {moved : Bool} → RaisedTo d (raisedOnce d now) now after moved → TimesSo d start most i now → i < most → TimesSo d start most (i + 1) after
+  unfolding raisedTimes
+  times-more {i} to so l =
+      let one : most - i ≡ suc (most - (i + 1)) = omega arith in
+      record { labelling = to .change .labelling; left = rw (to .is) (rw one at (so .left)) }
+
+  pub times-still : {i n : ℕ} {now after : List ℕ} {moved : Bool} → RaisedTo d (raisedOnce d now) now after moved → not moved ≡ true → TimesSo d start most i now → most ≡ n → after ≡ raisedTimes d n start
+  times-still {i} {now = now} {moved = moved} to h so e =
+      let still = to .change .still (not-true moved h) in
+      still ∙ sym (times-stay d now (sym (to .is) ∙ still) (most - i)) ∙ so .left ∙ ap (λ (n : ℕ). raisedTimes d n start) e
+
+  pub times-all : {i n : ℕ} {now : List ℕ} → TimesSo d start most i now → most ≤ i → most ≡ n → now ≡ raisedTimes d n start
+  unfolding raisedTimes
+  times-all {i} so l e = let none : most - i ≡ 0 = omega arith in rw none at (so .left) ∙ ap (λ (n : ℕ). raisedTimes d n start) e
+
+-- as many as the meaning has
+pub most-passes : {image labels : List ℕ} {x : Design} {n : ℕ} → n ≡ x .registers * x .labels → Raising image x labels → n ≡ length (designOf image .registers) * length (designOf image .rows)
+most-passes e here = e ∙ rw (registers-count (here .known .describes), labels-count (here .known .describes)) refl
+
+-- what is known after the passes so far
+pub raising-times : {image start now : List ℕ} {x : Design} {most i : ℕ} → TimesSo (designOf image) start most i now → Raising image x start → Raising image x now
+raising-times so here = record { known = here .known; lattice = here .lattice; labelling = so .labelling }
+
+-- they can be counted
+pub most-fits : {image labels : List ℕ} {x : Design} → Raising image x labels → Fits w64 (x .registers * x .labels)
+most-fits {x = x} here =
+    let registers = registers-few (here .known .describes) in
+    let labels = labels-most (here .known .describes) in
+    let product = mul-le-mul-right (x .labels) registers in
+    record { fits = omega arith }
+
+pub pass-fits : {image labels : List ℕ} {x : Design} {i n : ℕ} → i < n → n ≡ x .registers * x .labels → Raising image x labels → Fits w64 (i + 1)
+pass-fits l e here = let product = most-fits here .fits in record { fits = omega arith }
+
+-- what a pass leaves is a table of labels
+pub labelling-to : {d : Table} {raised before after : List ℕ} {moved : Bool} → RaisedTo d raised before after moved → Labelling d after
+labelling-to to = to .change .labelling

@@ -1,0 +1,83 @@
+-- The least label of a mask is the join of the labels whose mask it is: one label is the least of both by the same two tests, bit by bit.
+use Prim.Native.Nat.{ℕ, zero, suc, _/_, _%_, _^_, _≤_, _<_}
+use mathlib.Core.Path.{_≡_, refl, sym, _∙_, ap, ap₂}
+use mathlib.Core.Bool.{Bool, true, false, _&&_}
+use mathlib.Core.List.{List}
+use native.Mathlib.Omega.{arith}
+use lib.Bits.{bitAnd}
+use lib.Dec.{eqb}
+use lib.ListN.{length, getD}
+use Rattle.model.specs.declared.Found.{Found}
+use Rattle.model.specs.declared.Found.the-variants.{At, Nowhere}
+use Rattle.model.specs.Indices.{orAt, lowest, allBelow}
+use Rattle.model.specs.Lattice.{flowsTo, implies, allFlowTo}
+use Rattle.model.specs.States.{foundOr}
+use Rattle.model.specs.Raising.{leastAboveAll, joinOf}
+use Rattle.model.proofs.Laws.Booleans.{true-or-false}
+use Rattle.model.proofs.Laws.Indices.{lowest-none, lowest-nowhere, lowest-at}
+use Rattle.model.proofs.Laws.Passes.{Missed}
+use Rattle.design.specs.declared.Design.{Design}
+use Rattle.design.specs.Describes.{Describes}
+use Rattle.design.proofs.Laws.{labels-most}
+use Rattle.checker_records.specs.LabelTests.{leastIn}
+use Rattle.checker_records.proofs.Subsets.{bitOf, inside}
+use Rattle.checker_bodies.specs.Flows.{MaskOf}
+use Rattle.raising.specs.Passes.{leastOf}
+
+-- tests that agree below n find the same there
+lowest-same : (p q : ℕ → Bool) (n : ℕ) → ((k : ℕ) → k < n → p k ≡ q k) → lowest p n ≡ lowest q n
+unfolding lowest
+lowest-same p q zero h = refl
+lowest-same p q (suc n) h = rw (lowest-same p q n (λ k l. h k (omega arith)), h n (omega arith))
+
+all-same : (p q : ℕ → Bool) (n : ℕ) → ((k : ℕ) → k < n → p k ≡ q k) → allBelow p n ≡ allBelow q n
+unfolding allBelow
+all-same p q zero h = refl
+all-same p q (suc n) h = rw (all-same p q n (λ k l. h k (omega arith)), h n (omega arith))
+
+module _ (rows labels : List ℕ) (among : ℕ) (mask : MaskOf rows labels among) (small : among < 2 ^ length rows) where
+  least-same : (k : ℕ) → k < length rows → leastIn rows among k ≡ leastAboveAll rows labels k
+  unfolding leastIn leastAboveAll flowsTo
+  least-same k l =
+      ap₂
+      (λ (c d : Bool). c && d)
+      (mask .bits k l)
+      (inside among (getD rows k 0) (length rows) small
+      ∙ all-same _ _ (length rows) (λ m h. ap (λ (c : Bool). implies c (bitOf (getD rows k 0) m)) (mask .bits m h)))
+
+  pub least-is-join : leastOf rows among ≡ joinOf rows labels
+  unfolding leastOf joinOf
+  least-is-join = ap (foundOr 0) (lowest-same (leastIn rows among) (leastAboveAll rows labels) (length rows) least-same)
+
+-- ---- the loop that looks for it
+module _ (rows : List ℕ) (among : ℕ) where
+  pub least-found : {m k : ℕ} {b : Bool} → Missed (leastIn rows among) k → k < m → m ≡ length rows → b ≡ leastIn rows among k → b ≡ true → k ≡ leastOf rows among
+  unfolding leastOf
+  least-found {m} {k} missed l e f h = go (lowest (leastIn rows among) (length rows)) refl
+    where
+      go : (found : Found) → lowest (leastIn rows among) (length rows) ≡ found → k ≡ foundOr 0 (lowest (leastIn rows among) (length rows))
+      go (At i) is =
+          let at = lowest-at (leastIn rows among) (length rows) i is in
+          let same : k ≡ i = between k i (λ b. true-or-false (leastIn rows among k) (sym f ∙ h) (at .none-lower k b)) (λ b. true-or-false (leastIn rows among i) (at .passes) (missed .fails i b)) in
+          rw is same
+        where
+          between : (i j : ℕ) → (i < j → ⊥) → (j < i → ⊥) → i ≡ j
+          between i j p q = omega arith
+      go Nowhere is = absurd (true-or-false (leastIn rows among k) (sym f ∙ h) (lowest-none (leastIn rows among) (length rows) is k (omega arith)))
+
+  pub least-none : {m k : ℕ} → Missed (leastIn rows among) k → m ≤ k → m ≡ length rows → 0 ≡ leastOf rows among
+  unfolding leastOf
+  least-none missed l e = sym (ap (foundOr 0) (lowest-nowhere (leastIn rows among) (length rows) (λ k b. missed .fails k (omega arith))))
+
+  -- it is a label, where there are any
+  pub least-label : 0 < length rows → leastOf rows among < length rows
+  unfolding leastOf
+  least-label some = go (lowest (leastIn rows among) (length rows)) refl
+    where
+      go : (found : Found) → lowest (leastIn rows among) (length rows) ≡ found → foundOr 0 (lowest (leastIn rows among) (length rows)) < length rows
+      go (At i) is = rw is (lowest-at (leastIn rows among) (length rows) i is .below)
+      go Nowhere is = rw is some
+
+-- a label is a byte
+pub label-fits : {image : List ℕ} {x : Design} {k : ℕ} → Describes image x → k < x .labels → k < 256
+label-fits d l = let most = labels-most d in omega arith

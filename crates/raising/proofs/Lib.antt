@@ -1,0 +1,6 @@
+-- Laws of this crate.
+pub mod ByteRules
+pub mod JoinRules
+pub mod PassRules
+pub mod CommandRules
+pub mod StageRules

@@ -1,0 +1,170 @@
+-- What a pass leaves of a table of labels, command by command as the meaning has it: a sequence hands the table on, an if adds what its condition reads to the
+-- mask, and an assignment whose flow is kept leaves the register's label, which is then the join.
+use Prim.Native.Nat.{ℕ, zero, suc, _+_, _-_, _*_, _/_, _%_, _^_, _≤_, _<_}
+use mathlib.Core.Path.{_≡_, refl, sym, _∙_, ap}
+use mathlib.Core.Bool.{Bool, true, false, _||_, not}
+use mathlib.Core.List.{List, [], _∷_, _++_}
+use native.Mathlib.Omega.{arith}
+use native.Mathlib.Nat.{lt-of-le-of-lt}
+use native.Mathlib.Numerals.{add-one}
+use native.Mathlib.Decide.{ℕ-discrete}
+use lib.Bits.{bitAnd, and-le-l}
+use lib.Dec.{eqb}
+use lib.ListN.{length, getD, set, length-set}
+use lib.Seq.{getD-set-same, getD-set-other, set-getD}
+use Rattle.model.specs.Image.{Design as Table, Node, designOf, commandAt}
+use Rattle.model.specs.Lattice.{allFlowTo, stateLabel}
+use Rattle.model.specs.Kinds.{skips, assigns, sequences, falls, goes, branches, commandKind}
+use Rattle.model.specs.Trees.{exprOf, cmdOf, bodyOf}
+use Rattle.model.specs.Flow.{labelsRead}
+use Rattle.model.specs.Labelling.{relabelled}
+use Rattle.model.specs.Rules.{CommandHolds}
+use Rattle.model.specs.Raising.{joinOf, labelsReadBy, raisedBy, raisedByStates, raisedOnce, raisedTimes}
+use Rattle.model.proofs.Laws.Booleans.{not-true, not-false}
+use Rattle.model.proofs.Laws.Joins.{flow-tail, join-stays}
+use Rattle.model.proofs.Laws.Relabelling.{labels-read}
+use Rattle.model.proofs.Laws.Trees.{cmd-skip, cmd-assign, cmd-sequence, cmd-fall, cmd-goto, cmd-branch}
+use Rattle.design.specs.declared.Design.{Design}
+use Rattle.design.specs.Records.{nodeIn, rowIn, stateIn, rowEnd}
+use Rattle.design.specs.Describes.{Describes}
+use Rattle.design.specs.RecordsAt.{CommandAt}
+use Rattle.design.specs.Labels.{LabelsKept}
+use Rattle.design.proofs.Laws.{labels-count, labels-most, registers-count, states-count, commands-count, expressions-count, row-inside, row-in, state-in}
+use Rattle.design.proofs.FieldRules.{body-is, command-at, same-command, command-kind-of, item-is, a-is, b-is, c-is, command-holds, assigned-register, assigned-expression, condition, sequence-a-below, sequence-b-below, branch-b-below, branch-c-below, expression-at}
+use Rattle.checker_bodies.specs.Flows.{MaskOf, Gathering}
+use Rattle.checker_bodies.proofs.Masks.{mask-both, mask-row}
+use Rattle.checker_bodies.proofs.FlowKinds.{mask-small, state-row-inside}
+use Rattle.raising.specs.Passes.{leastOf, Labelling, Raising, Assigns, Moved, RaisedAt, RaisedTo}
+use Rattle.raising.proofs.JoinRules.{least-is-join, least-label}
+
+-- ---- tables that move
+-- nothing is done
+pub moved-none : {d : Table} {labels : List ℕ} → Labelling d labels → Moved d labels labels false
+moved-none own = record { labelling = own; still = λ e. refl }
+
+-- one change after another
+still-both : (p q : Bool) {a b c : List ℕ} → (p ≡ false → b ≡ a) → (q ≡ false → c ≡ b) → (p || q) ≡ false → c ≡ a
+still-both true q f g e = absurd (true-is-not-false e)
+  where
+    true-is-not-false : true ≡ false → ⊥
+    true-is-not-false e = let z : _≡_ {A = ℕ} 0 1 = cc in omega arith
+still-both false q f g e = g e ∙ f refl
+
+pub moved-both : {d : Table} {a b c : List ℕ} {p q : Bool} → Moved d a b p → Moved d b c q → Moved d a c (p || q)
+moved-both {p = p} {q = q} first second = record { labelling = second .labelling; still = still-both p q (first .still) (second .still) }
+
+-- what is known stays known
+pub raising-on : {image before after : List ℕ} {x : Design} {mask n : ℕ} {moved : Bool} → RaisedAt (designOf image) mask n before after moved → Raising image x before → Raising image x after
+raising-on raised here = record { known = here .known; lattice = here .lattice; labelling = raised .change .labelling }
+
+pub raising-to : {image before after raised : List ℕ} {x : Design} {moved : Bool} → RaisedTo (designOf image) raised before after moved → Raising image x before → Raising image x after
+raising-to to here = record { known = here .known; lattice = here .lattice; labelling = to .change .labelling }
+
+module _ {image labels : List ℕ} {x : Design} (here : Raising image x labels) where
+  pub command-here : {n : ℕ} → n < x .commands → CommandAt image x (x .«commands_at») n
+  command-here l = command-at (here .known .describes) (here .known .commands) l refl
+
+  pub gathering : {e : ℕ} → e < length (designOf image .expressions) → Gathering image labels (x .«expressions_at») e
+  gathering l =
+      let count = expressions-count (here .known .describes) in
+      record {
+        design = x;
+        known = here .known;
+        labelling = here .labelling .kept;
+        expression = expression-at (here .known .describes) (here .known .expressions) (omega arith) refl;
+      }
+
+  -- the labels read, under the table
+  pub read-mask : (e : ℕ) {m : ℕ} → MaskOf (designOf image .rows) (labelsRead (relabelled (designOf image) labels) (exprOf (designOf image) e)) m
+      → MaskOf (designOf image .rows) (labelsReadBy labels (exprOf (designOf image) e)) m
+  read-mask e mask = rw (labels-read (designOf image) labels (here .labelling .exact) (exprOf (designOf image) e)) at mask
+
+  -- ---- an assignment
+  module _ {n : ℕ} (a : Assigns image x n) where
+    byte : nodeIn image (x .«commands_at») n .kind ≡ 1
+    byte = ap (λ (y : Node). y .kind) (same-command (command-here (a .command))) ∙ a .kind
+
+    register-below : {r : ℕ} → r ≡ nodeIn image (x .«commands_at») n .item → r < length (designOf image .registers)
+    register-below f = assigned-register (command-here (a .command)) byte refl f
+
+    pub entry-inside : {r : ℕ} → r ≡ nodeIn image (x .«commands_at») n .item → r < length labels
+    entry-inside f = let below = register-below f in let same = here .labelling .exact in omega arith
+
+    entry-below : {r l : ℕ} → r ≡ nodeIn image (x .«commands_at») n .item → l ≡ getD labels r 0 → l < length (designOf image .rows)
+    entry-below {r} f e = rw e (here .labelling .kept .inside r (register-below f))
+
+    pub entry-row-inside : {r l : ℕ} → r ≡ nodeIn image (x .«commands_at») n .item → l ≡ getD labels r 0 → rowEnd l ≤ length image
+    entry-row-inside f e = let count = labels-count (here .known .describes) in let below = entry-below f e in row-inside (here .known .describes) (omega arith)
+
+    pub entry-small : {r l : ℕ} → r ≡ nodeIn image (x .«commands_at») n .item → l ≡ getD labels r 0 → l < 64
+    entry-small f e =
+        let count = labels-count (here .known .describes) in
+        let most = labels-most (here .known .describes) in
+        let below = entry-below f e in
+        omega arith
+
+    pub assigned-gathers : {e : ℕ} → e ≡ nodeIn image (x .«commands_at») n .a → Gathering image labels (x .«expressions_at») e
+    assigned-gathers f = gathering (assigned-expression (command-here (a .command)) byte refl f)
+
+    -- what the assignment makes of the table
+    module _ {r e l own m : ℕ}
+        (fr : r ≡ nodeIn image (x .«commands_at») n .item)
+        (fe : e ≡ nodeIn image (x .«commands_at») n .a)
+        (fl : l ≡ getD labels r 0)
+        (fo : own ≡ rowIn image l)
+        (small : own < 65536)
+        (read : MaskOf (designOf image .rows) (labelsRead (relabelled (designOf image) labels) (exprOf (designOf image) e)) m)
+      where
+        raised-is : (context : List ℕ) → raisedBy (designOf image) context (cmdOf (designOf image) n) labels ≡ set labels r (joinOf (designOf image .rows) (l ∷ (context ++ labelsReadBy labels (exprOf (designOf image) e))))
+        unfolding commandKind raisedBy
+        raised-is context =
+            let at = command-here (a .command) in
+            rw (cmd-assign (designOf image) n (ap commandKind (a .kind)), ← (item-is at fr), ← (a-is at fe), fl)
+
+        own-row : own ≡ getD (designOf image .rows) l 0
+        own-row = let count = labels-count (here .known .describes) in let below = entry-below fr fl in fo ∙ row-in (here .known .describes) (omega arith)
+
+        above-mask : {context : List ℕ} {mask : ℕ} → MaskOf (designOf image .rows) context mask
+            → MaskOf (designOf image .rows) (l ∷ (context ++ labelsReadBy labels (exprOf (designOf image) e))) (bitAnd own (bitAnd mask m))
+        above-mask around = mask-both (mask-row own-row small) (mask-both around (read-mask e read))
+
+        pub assignment-still : {mask : ℕ} {b : Bool} → b ≡ eqb (bitAnd own (bitAnd mask m) / 2 ^ l % 2) 1 → b ≡ true → RaisedAt (designOf image) mask n labels labels false
+        assignment-still fb h =
+            record {
+              change = moved-none (here .labelling);
+              is = λ context around.
+                  let below = entry-below fr fl in
+                  let flows = sym (above-mask around .bits l below) ∙ sym fb ∙ h in
+                  let stays = join-stays (designOf image .rows) (here .lattice) _ l below (flow-tail (designOf image .rows) l _ l flows) in
+                  sym (raised-is context ∙ rw (stays, fl) (set-getD labels r 0));
+            }
+
+        pub assignment-raises : {mask v : ℕ} → v ≡ leastOf (designOf image .rows) (bitAnd own (bitAnd mask m)) → RaisedAt (designOf image) mask n labels (set labels r v) true
+        assignment-raises {mask} {v} fv =
+            let rows = designOf image .rows in
+            let below = entry-below fr fl in
+            let label : v < length rows = rw fv (least-label rows (bitAnd own (bitAnd mask m)) (omega arith)) in
+            let long = length-set labels r v in
+            let inside = register-below fr in
+            let exact = here .labelling .exact in
+            record {
+              change =
+                  record {
+                    labelling =
+                        record {
+                          kept = record { enough = omega arith; inside = λ k l. entry k l label inside (ℕ-discrete k r) };
+                          exact = long ∙ exact;
+                        };
+                    still = λ e. absurd (let z : _≡_ {A = ℕ} 0 1 = cc in omega arith);
+                  };
+              is = λ context around.
+                  let row : own < 2 ^ length rows = rw own-row (here .lattice .inside l below) in
+                  let join = least-is-join rows _ (bitAnd own (bitAnd mask m)) (above-mask around) (lt-of-le-of-lt (and-le-l own (bitAnd mask m)) row) in
+                  sym (raised-is context ∙ ap (set labels r) (sym (fv ∙ join)));
+            }
+          where
+            entry : (k : ℕ) → k < length (designOf image .registers) → v < length (designOf image .rows) → r < length (designOf image .registers) → Dec (k ≡ r) → getD (set labels r v) k 0 < length (designOf image .rows)
+            entry k l label inside (yes same) = let exact = here .labelling .exact in rw (same, getD-set-same labels r v 0 (omega arith)) label
+            entry k l label inside (no other) = rw (getD-set-other labels r k v 0 (λ same. other same)) (here .labelling .kept .inside k l)
+
+pub ruleset assignment-laws = (entry-inside, entry-row-inside, entry-small, assigned-gathers, assignment-still, assignment-raises)

@@ -1,0 +1,62 @@
+use Prim.Native.Nat.{_-_, _≤_}
+use Rattle.model.specs.Image.{designOf}
+use Rattle.raising.proofs.CommandRules.{TimesSo, times-none, times-more, times-still, times-all, most-passes, raising-times, most-fits, pass-fits, labelling-to}
+use borrow.Author.Needs.{needs}
+use Rattle.raising.proofs.passes.raise_labels.Statement.{statement}
+use Rattle.raising.proofs.passes.raise_labels.Tie as tie
+use Rattle.raising.proofs.passes.raise_labels.Reads as reads
+use Rattle.raising.proofs.passes.raise_labels.Lts as lts
+use Rattle.raising.proofs.passes.raise_once.Reads as raise-once-reads
+
+abbrev Inv-loop : tie.InvT-loop
+Inv-loop image design labels₀ most passes₀ labels passes = TimesSo (designOf image) labels₀ most passes labels × (passes ≤ most)
+
+abbrev μ-loop : tie.MeasureT-loop
+μ-loop image design labels₀ most passes₀ labels passes = most - passes
+
+mul-most : tie.Need-mul-most Inv-loop μ-loop
+mul-most c = search (most-fits, needs)
+
+loop-holds : tie.Need-loop-holds Inv-loop μ-loop
+loop-holds c = search (times-none, needs)
+
+raise-once-requires : tie.Need-raise-once-requires Inv-loop μ-loop
+raise-once-requires c κs = search (raising-times, needs)
+
+same-length : tie.Need-same-length Inv-loop μ-loop
+same-length c = search needs
+
+returns : tie.Need-returns Inv-loop μ-loop
+returns c = (search (times-still, most-passes, needs), search (labelling-to, needs))
+
+add-passes : tie.Need-add-passes Inv-loop μ-loop
+add-passes c = search (pass-fits, needs)
+
+loop-less : tie.Need-loop-less Inv-loop μ-loop
+loop-less c = search needs
+
+loop-again : tie.Need-loop-again Inv-loop μ-loop
+loop-again c = search (times-more, needs)
+
+same-length-2 : tie.Need-same-length-2 Inv-loop μ-loop
+same-length-2 c = search needs
+
+returns-2 : tie.Need-returns-2 Inv-loop μ-loop
+returns-2 c = (search (times-all, most-passes, needs), search needs)
+
+pub raise-labels-spec : {M : Type 1} → statement M
+raise-labels-spec =
+    tie.close
+    (tie.spec
+    Inv-loop
+    μ-loop
+    mul-most
+    loop-holds
+    raise-once-requires
+    same-length
+    returns
+    add-passes
+    loop-less
+    loop-again
+    same-length-2
+    returns-2)
