@@ -3,8 +3,8 @@
  *
  * A design is a binary image of at most CAISSON_LARGEST_IMAGE bytes. The library keeps no state and
  * allocates nothing: a call works on the slices that it is lent and on its own stack, ends, and
- * relies on no earlier call. Every image check is made again by every call. The stack that a call
- * takes is measured, not proved: `make stack` shows less than 32 KB on the deepest design.
+ * relies on no earlier call. Each call makes its image checks again. The stack that a call takes is
+ * measured, not proved: `make stack` shows less than 32 KB on the deepest design.
  *
  * A slice is a pointer and a length in bytes. The pointer may be NULL where the length is 0. The
  * slices of one call must not overlap. Nothing is read or written outside them.
@@ -13,7 +13,8 @@
  * the caisson_refusal values below: of those that apply, the one judged first. Every call begins with
  * the image checks, in this order: 1 to 8, then 16, then 9, then 10 to 12 in one pass in reading order:
  * state by state from number 0 on, and in each the commands as they are written, an if's first branch
- * before its second. What it judges after them stands at the call. `place` says where:
+ * before its second. caisson_raise alone leaves out 10 to 12, the flow, which it is there to put right.
+ * What a call judges after them stands at the call. `place` says where:
  *
  *   a label, register or state   its number, from 0
  *   a command                    its node number, from 0
@@ -23,7 +24,7 @@
  * It is the lowest that breaks the rule; of 10 to 12 it is the first in reading order that breaks one
  * of them, whatever its number. Whether that of 14 is a register or a state, its words below say.
  * `count` is the cycles that were run or the length that was asked for, and 0 on every refusal. A
- * refusal changes no byte of the areas.
+ * refusal changes no byte of the areas, nor of the one that caisson_raise writes.
  *
  * The state of a design is two areas that the host owns and lends to each call: registers,
  * CAISSON_WORD bytes each, least significant byte first, and targets, one byte for each state. Their
@@ -60,7 +61,7 @@ extern "C" {
 
 /* The version of the library and the number of the image's format. CHANGELOG.md says when each moves;
    docs/FORMAT.md has the format byte by byte. */
-#define CAISSON_VERSION "2.3.0"
+#define CAISSON_VERSION "2.4.0"
 #define CAISSON_FORMAT 2
 
 /* Limits of a design table. */
@@ -147,8 +148,8 @@ enum caisson_refusal {
        that takes an area, values by a port write and a run, targets by a run. So where the lengths
        are right, the place is a register if some register holds a value too large, and a state if
        none does. The target of a state with children is one of its children, that of any other
-       state is its own number. Place: 0 for a length; the lowest register for a value; the lowest
-       state for a target. */
+       state is its own number. The area for a raised image is exactly as long as the image. Place:
+       0 for a length; the lowest register for a value; the lowest state for a target. */
     CAISSON_AREA = 14,
     /* A run asks for more than 1,000,000 cycles. Place: 0. */
     CAISSON_CYCLE_COUNT = 15,
@@ -159,7 +160,11 @@ enum caisson_refusal {
     /* A port write has a value that is too large for the width of its port. A port of width w takes
        values below 2 to the power of w. It is judged after 14 and 13. Place: the register number
        given. */
-    CAISSON_PORT_VALUE = 17
+    CAISSON_PORT_VALUE = 17,
+    /* No raising of the image is accepted. A raising is the same image with labels of inner
+       registers raised, never lowered; the labels of ports and states are fixed. It is judged after
+       the image checks up to 9, 16 included, and after 14. Place: 0. */
+    CAISSON_NO_RAISING = 18
 };
 
 /* What a call answers. */
@@ -239,6 +244,28 @@ caisson_answer caisson_run(const uint8_t *image, size_t image_len,
                            uint8_t *registers, size_t registers_len,
                            uint8_t *targets, size_t targets_len,
                            uint32_t cycles); /* how many */
+
+/*
+ * Writes the same image with labels of inner registers raised, never lowered, so that the whole is
+ * accepted: for a designer who knows the labels of ports and states and leaves the rest to the library.
+ *
+ * A raising of an image has its length and its bytes, except labels of inner registers, each of which
+ * is at or above the old one. The labels of ports and states are fixed. On acceptance `out` holds the
+ * least accepted raising: caisson_check accepts it, and every accepted raising gives each register a
+ * label at or above the one in `out`. So an accepted image comes back unchanged, byte for byte, and
+ * raising the result again changes nothing more. 18 is answered exactly if no accepted raising exists:
+ * then the design itself, or a label of a port or a state, has to change.
+ *
+ * The image may break 10 to 12, the flow; everything else it must keep. `out` is exactly as long as the
+ * image and does not overlap it. What it held before does not matter: on acceptance every byte of it is
+ * written, on a refusal none. The call goes over the bodies at most CAISSON_REGISTERS * CAISSON_LABELS =
+ * 1,024 times, again only where some label has risen, which on most designs is a few times. It takes
+ * below 10 kB of stack, measured as above (TODO-STACK). Refusals: the image checks 1 to 8, 16 and 9,
+ * then 14 for the length of `out`, then 18, both with place 0.
+ */
+CAISSON_LOOK_AT_ANSWER
+caisson_answer caisson_raise(const uint8_t *image, size_t image_len, /* the image to raise */
+                             uint8_t *out, size_t out_len);          /* where the raised one goes */
 
 #ifdef __cplusplus
 }

@@ -35,6 +35,7 @@ extern "C" {
         targets_len: usize,
         cycles: u32,
     ) -> Answer;
+    fn caisson_raise(image: *const u8, image_len: usize, out: *mut u8, out_len: usize) -> Answer;
 }
 
 // The wrappers are sound because a slice is what each pair of pointer and length asks for:
@@ -101,6 +102,15 @@ pub fn run(image: &[u8], registers: &mut [u8], targets: &mut [u8], cycles: u32) 
             cycles,
         )
     }
+}
+
+pub fn raise(image: &[u8], out: &mut [u8]) -> Answer {
+    unsafe { caisson_raise(image.as_ptr(), image.len(), lend(out), out.len()) }
+}
+
+/// Its answer about the empty image as a C host may lend it, and no area.
+pub fn raise_null() -> Answer {
+    unsafe { caisson_raise(ptr::null(), 0, ptr::null_mut(), 0) }
 }
 
 /// An empty area is lent as null, the harder case of the two.

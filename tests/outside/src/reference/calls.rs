@@ -8,8 +8,22 @@ use super::refusal::Refusal;
 use super::{nodes, records, rules};
 use crate::answer::Answer;
 
-/// The image checks, 1 to 12 and 16, which every call makes first.
+/// The image checks, 1 to 12 and 16, which every call but raising makes first.
 pub fn judge(bytes: &[u8]) -> Result<Image<'_>, Refusal> {
+    let (image, labels) = judge_nodes(bytes)?;
+    rules::judge(&image, &labels)?;
+    Ok(image)
+}
+
+/// Those up to 9, 16 included, which raising asks for.
+pub fn judge_before_flow(bytes: &[u8]) -> Result<(Image<'_>, Labels), Refusal> {
+    let (image, labels) = judge_nodes(bytes)?;
+    rules::judge_before_flow(&image, &labels)?;
+    Ok((image, labels))
+}
+
+/// Refusals 1 to 7.
+fn judge_nodes(bytes: &[u8]) -> Result<(Image<'_>, Labels), Refusal> {
     let image = Image::open(bytes)?;
     let labels = Labels::judge(&image)?;
     records::judge_registers(&image, &labels)?;
@@ -18,8 +32,7 @@ pub fn judge(bytes: &[u8]) -> Result<Image<'_>, Refusal> {
     let survey = nodes::Survey::of(&image);
     survey.judge_uses()?;
     survey.judge_depth()?;
-    rules::judge(&image, &labels)?;
-    Ok(image)
+    Ok((image, labels))
 }
 
 pub fn check(image: &[u8]) -> Answer {
@@ -58,7 +71,7 @@ pub fn walk(image: &[u8], registers: &[u8], targets: &[u8]) -> Result<Vec<u8>, R
     Ok(walk)
 }
 
-fn answer(result: Result<usize, Refusal>) -> Answer {
+pub fn answer(result: Result<usize, Refusal>) -> Answer {
     result.map_or_else(Answer::from, Answer::accepted)
 }
 

@@ -47,6 +47,13 @@ impl Labels {
     pub fn flow(&self, set: LabelSet, to: u8) -> bool {
         set & !self.below[usize::from(to)] == 0
     }
+
+    /// The least label that every label of the set flows to.
+    pub fn join(&self, set: LabelSet) -> u8 {
+        let above = || (0..self.count as u8).filter(|&label| self.flow(set, label));
+        let least = |&label: &u8| above().all(|other| self.flow(only(label), other));
+        above().find(least).expect("a lattice")
+    }
 }
 
 fn members(set: LabelSet) -> impl Iterator<Item = usize> {

@@ -1,20 +1,23 @@
-//! Document 01 with requests E1 to E4 and E7 of document 02, implemented for clarity: tables and passes
+//! Document 01 with requests E1 to E4, E6 and E7 of document 02, implemented for clarity: tables and passes
 //! over node numbers, no recursion in the checker, so that it shares as little as possible with the
 //! proved library.
 
 pub mod calls;
 mod flow;
 pub mod image;
+pub mod labelings;
 pub mod labels;
 pub mod limits;
 mod listing;
 pub mod machine;
 mod nodes;
 mod operations;
+mod raise;
 mod records;
 pub mod refusal;
 mod rules;
 
 pub use calls::{check, registers_length, reset, run, targets_length, walk, write_port};
 pub use listing::listing;
+pub use raise::raise;
 pub use rules::flow_faults;

@@ -23,12 +23,21 @@ pub struct States {
 }
 
 pub fn judge(image: &Image, labels: &Labels) -> Result<(), Refusal> {
+    let (states, around) = judge_before_flow(image, labels)?;
+    Flow::of(image, &states, &around, labels).judge(image)
+}
+
+/// Refusals 8, 16 and 9. Gives what the flow is judged by.
+pub fn judge_before_flow(
+    image: &Image,
+    labels: &Labels,
+) -> Result<(States, Surroundings), Refusal> {
     let states = States::of(image);
     let around = Surroundings::of(image);
     judge_shape(image, &states, &around)?;
     judge_ports(image)?;
     judge_children(image, &states, &around, labels)?;
-    Flow::of(image, &states, &around, labels).judge(image)
+    Ok((states, around))
 }
 
 /// Every fault of refusals 10 to 12, in the order of the nodes. Expects an image that passes the checks
