@@ -1,17 +1,18 @@
-//! Compares the library with the reference on random images and on random lists of calls, for a
-//! bounded time: one half for each.
+//! Compares the library with the reference on random images, on random lists of calls and on random
+//! raisings, for a bounded time: one third for each.
 
 use caisson_tests::compare::arguments::Arguments;
 use caisson_tests::compare::check;
 use caisson_tests::compare::difference::Difference;
 use caisson_tests::compare::lists;
+use caisson_tests::compare::raising;
 use std::process::ExitCode;
 use std::time::{Duration, Instant};
 
 fn main() -> ExitCode {
     let arguments = Arguments::read(40);
     println!("first seed {}", arguments.seed);
-    if compare_checks(&arguments) && compare_lists(&arguments) {
+    if compare_checks(&arguments) && compare_lists(&arguments) && compare_raisings(&arguments) {
         println!("no difference");
         ExitCode::SUCCESS
     } else {
@@ -25,7 +26,7 @@ fn each_seed(
     arguments: &Arguments,
     mut compare: impl FnMut(u64) -> Result<(), Difference>,
 ) -> bool {
-    let end = Instant::now() + Duration::from_secs(arguments.seconds) / 2;
+    let end = Instant::now() + Duration::from_secs(arguments.seconds) / 3;
     let mut seed = arguments.seed;
     loop {
         if let Err(difference) = compare(seed) {
@@ -48,11 +49,7 @@ fn compare_checks(arguments: &Arguments) -> bool {
     }
     let equal = each_seed(arguments, |seed| check::images_of_seed(seed, &mut tallies));
     tallies.print();
-    let missing = tallies.missing();
-    if !missing.is_empty() {
-        println!("never met: {missing:?}");
-    }
-    equal && missing.is_empty()
+    equal && all_met(tallies.missing())
 }
 
 fn compare_lists(arguments: &Arguments) -> bool {
@@ -68,9 +65,25 @@ fn compare_lists(arguments: &Arguments) -> bool {
     }
     let equal = each_seed(arguments, |seed| lists::lists_of_seed(seed, &mut tallies));
     tallies.print();
-    let missing = tallies.missing();
+    equal && all_met(tallies.missing())
+}
+
+fn compare_raisings(arguments: &Arguments) -> bool {
+    let mut tallies = raising::Tallies::default();
+    if let Err(difference) = raising::fixed_images(&mut tallies) {
+        difference.report("the fixed raisings");
+        return false;
+    }
+    let equal = each_seed(arguments, |seed| {
+        raising::raisings_of_seed(seed, &mut tallies)
+    });
+    tallies.print();
+    equal && all_met(tallies.missing())
+}
+
+fn all_met(missing: Vec<String>) -> bool {
     if !missing.is_empty() {
         println!("never met: {missing:?}");
     }
-    equal && missing.is_empty()
+    missing.is_empty()
 }

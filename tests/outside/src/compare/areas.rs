@@ -1,4 +1,4 @@
-//! The two lent areas, each between guard bytes.
+//! Lent areas, each between guard bytes.
 
 use crate::generate::random::Random;
 use crate::table::Table;
@@ -14,7 +14,7 @@ pub struct Area {
 
 impl Area {
     /// Any contents, guards included.
-    fn new(length: usize, random: &mut Random) -> Area {
+    pub fn new(length: usize, random: &mut Random) -> Area {
         let bytes = (0..length + 2 * GUARD).map(|_| random.bits() as u8);
         Area {
             bytes: bytes.collect(),

@@ -35,9 +35,9 @@ impl Tallies {
     pub fn missing(&self) -> Vec<String> {
         let mut missing = Vec::new();
         for (name, tally, never) in [
-            ("reset", &self.reset, &[13, 15, 17][..]),
-            ("port write", &self.write_port, &[15]),
-            ("run", &self.run, &[13, 17]),
+            ("reset", &self.reset, &[13, 15, 17, 18][..]),
+            ("port write", &self.write_port, &[15, 18]),
+            ("run", &self.run, &[13, 17, 18]),
         ] {
             for what in tally.missing(never) {
                 missing.push(format!("{name}: {what}"));

@@ -6,6 +6,8 @@ pub mod difference;
 pub mod kinds;
 pub mod listings;
 pub mod operands;
+pub mod passes;
+pub mod raised;
 pub mod reading;
 pub mod tally;
 
@@ -23,6 +25,8 @@ pub mod independence;
 pub mod lists;
 #[cfg(feature = "library")]
 mod matching;
+#[cfg(feature = "library")]
+pub mod raising;
 #[cfg(feature = "library")]
 mod reasons;
 #[cfg(feature = "library")]

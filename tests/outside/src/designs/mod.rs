@@ -1,6 +1,7 @@
 //! The worked designs: document 01's lease design, the one with two groups, a valve for request E2, a
 //! level below zero for E3 and a spare child for E4; and small ones, each for one sentence.
 
+mod chain;
 mod largest;
 mod leaks;
 mod level;
@@ -8,6 +9,7 @@ mod small;
 mod spare;
 mod valve;
 
+pub use chain::longest_chain;
 pub use largest::largest;
 pub use leaks::{fall_before_assignment, two_bodies};
 pub use level::level;

@@ -4,8 +4,10 @@ mod body;
 mod design;
 pub mod faults;
 mod lattice;
+mod raising;
 pub mod random;
 mod size;
 
 pub use design::design;
+pub use raising::{chained, lowered};
 pub use size::Size;

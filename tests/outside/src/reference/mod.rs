@@ -19,5 +19,5 @@ mod rules;
 
 pub use calls::{check, registers_length, reset, run, targets_length, walk, write_port};
 pub use listing::listing;
-pub use raise::raise;
+pub use raise::{raise, with_labels};
 pub use rules::flow_faults;

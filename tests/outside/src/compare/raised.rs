@@ -1,0 +1,132 @@
+//! Why a raising was answered as it was, where the number alone does not tell. Each reason has to be met.
+
+use super::passes::Passes;
+use super::tally::Tally;
+use crate::answer::Answer;
+use crate::reference::image::{Image, INNER};
+use crate::reference::labelings::{try_all, Raisings};
+use crate::reference::labels::{only, Labels};
+use crate::reference::refusal::Refusal;
+use crate::reference::{check, flow_faults, with_labels};
+
+/// So many labelings are tried at most.
+const LABELINGS: usize = 600;
+
+/// The image as it was lent, how long the area was, and what stood in it afterwards.
+pub struct Raised<'a> {
+    pub image: &'a [u8],
+    pub out: &'a [u8],
+}
+
+/// Of an answer of 0, 14 or 18. Fails where trying all labelings tells otherwise.
+pub fn note_raised(tally: &mut Tally, raised: &Raised, answer: Answer) -> Result<(), String> {
+    if !matches!(answer.number, 0 | 14 | 18) {
+        return Ok(());
+    }
+    let image = Image::open(raised.image).expect("an image with good sections");
+    let labels = Labels::judge(&image).expect("a lattice");
+    let (passes, least) = Passes::of(&image, &labels);
+    let after = with_labels(raised.image, &least);
+    match answer.number {
+        14 => note_length(tally, raised, check(&after).number != 0),
+        18 => note_none(tally, &image, &after),
+        _ => {
+            if raised.out != after {
+                return Err("passes in reading order come to other labels".to_string());
+            }
+            note_accepted(tally, &image, &labels, passes, &least);
+        }
+    }
+    if answer.number == 14 {
+        return Ok(());
+    }
+    note_labelings(tally, raised, answer)
+}
+
+fn note_length(tally: &mut Tally, raised: &Raised, hopeless: bool) {
+    let (length, image) = (raised.out.len(), raised.image.len());
+    tally.note("14 by an empty area", length == 0);
+    tally.note("14 by a byte too few", length + 1 == image);
+    tally.note("14 by a byte too many", length == image + 1);
+    tally.note("14 where 18 would follow", hopeless);
+    tally.note(
+        "14, an image that check accepts",
+        check(raised.image).number == 0,
+    );
+}
+
+fn note_accepted(tally: &mut Tally, image: &Image, labels: &Labels, passes: usize, after: &[u8]) {
+    let before: Vec<u8> = image.registers().map(|register| register.label).collect();
+    let own = |label: u8| only(before[usize::from(label)]);
+    tally.note("accepted, unchanged", passes == 0);
+    tally.note("accepted, raised in one pass", passes == 1);
+    tally.note("accepted, raised in two passes", passes == 2);
+    tally.note("accepted, raised in three passes or more", passes > 2);
+    let rose = |register: usize| after[register] != before[register];
+    let risen: Vec<usize> = (0..before.len()).filter(|&r| rose(r)).collect();
+    tally.note(
+        "accepted, some inner register not raised",
+        passes > 0
+            && image
+                .registers()
+                .enumerate()
+                .any(|(r, record)| record.kind == INNER && !rose(r)),
+    );
+    tally.note(
+        "accepted, raised from above the least",
+        risen.iter().any(|&register| before[register] != 0),
+    );
+    // Neither a register nor a state had it: it is the join of two that cannot be compared.
+    let given: u16 = (0..before.len()).fold(0, |set, r| set | own(r as u8));
+    let given = image.states().fold(given, |set, s| set | only(s.label));
+    let is_join = |&&register: &&usize| given & only(after[register]) == 0;
+    tally.note(
+        "accepted, raised to a label that nothing had",
+        risen.iter().find(is_join).is_some(),
+    );
+    let top = labels.join(u16::MAX >> (16 - image.rows().len()));
+    tally.note(
+        "accepted, raised below the top",
+        risen.iter().any(|&register| after[register] != top),
+    );
+}
+
+/// The flow that cannot be met, and whether it could be met with the labels before.
+fn note_none(tally: &mut Tally, image: &Image, after: &[u8]) {
+    let before = flow_faults(image);
+    let raised = Image::open(after).expect("the same sections");
+    let faults = flow_faults(&raised);
+    let new = |number: u32| {
+        let is_new = |fault: &&Refusal| fault.number == number && !before.contains(fault);
+        faults.iter().find(is_new).is_some()
+    };
+    let old = |number: u32| before.iter().any(|fault| fault.number == number);
+    tally.note("18 by a goto at fault before", old(11));
+    tally.note("18 by a fall at fault before", old(12));
+    let assignments = !old(11) && !old(12);
+    tally.note("18 by a goto, no fault before", assignments && new(11));
+    tally.note("18 by a fall, no fault before", assignments && new(12));
+}
+
+/// On small designs all labelings are tried: whether one is accepted, and which is the least.
+fn note_labelings(tally: &mut Tally, raised: &Raised, answer: Answer) -> Result<(), String> {
+    let Some(raisings) = try_all(raised.image, LABELINGS) else {
+        return Ok(());
+    };
+    let met = match &raisings {
+        Raisings::None => (answer.number == 18).then_some("tried all: none is accepted"),
+        Raisings::Least(least, count) => {
+            let several = *count > 1;
+            tally.note("tried all: the least of several", several);
+            (answer.number == 0 && raised.out == least).then_some("tried all: the least")
+        }
+        Raisings::NoLeast => None,
+    };
+    match met {
+        Some(reason) => {
+            tally.note(reason, true);
+            Ok(())
+        }
+        None => Err(format!("trying all labelings comes to {raisings:?}")),
+    }
+}
