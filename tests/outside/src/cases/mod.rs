@@ -7,6 +7,7 @@ mod groups;
 mod lease;
 mod lengths;
 mod ports;
+mod raising;
 mod reading;
 mod signed;
 mod spare;

@@ -9,17 +9,18 @@ pub struct Passes<'a> {
     commands: Vec<Node>,
     expressions: Vec<Node>,
     /// The registers' labels as far as they have risen.
-    pub registers: Vec<u8>,
+    registers: Vec<u8>,
 }
 
 impl<'a> Passes<'a> {
-    /// Expects an image that passes the checks up to 9. Gives how many passes raised some label.
-    pub fn of(image: &Image, labels: &'a Labels) -> (usize, Vec<u8>) {
+    /// From these labels of the registers on. Gives how many passes raised some label, and the labels in
+    /// the end. Expects an image that passes the checks up to 9.
+    pub fn of(image: &Image, labels: &'a Labels, registers: Vec<u8>) -> (usize, Vec<u8>) {
         let mut passes = Passes {
             labels,
             commands: image.commands().collect(),
             expressions: image.expressions().collect(),
-            registers: image.registers().map(|register| register.label).collect(),
+            registers,
         };
         let mut count = 0;
         loop {

@@ -3,10 +3,9 @@
 use super::passes::Passes;
 use super::tally::Tally;
 use crate::answer::Answer;
-use crate::reference::image::{Image, INNER};
+use crate::reference::image::{Image, Register, INNER};
 use crate::reference::labelings::{try_all, Raisings};
 use crate::reference::labels::{only, Labels};
-use crate::reference::refusal::Refusal;
 use crate::reference::{check, flow_faults, with_labels};
 
 /// So many labelings are tried at most.
@@ -25,7 +24,8 @@ pub fn note_raised(tally: &mut Tally, raised: &Raised, answer: Answer) -> Result
     }
     let image = Image::open(raised.image).expect("an image with good sections");
     let labels = Labels::judge(&image).expect("a lattice");
-    let (passes, least) = Passes::of(&image, &labels);
+    let own = image.registers().map(|register| register.label);
+    let (passes, least) = Passes::of(&image, &labels, own.collect());
     let after = with_labels(raised.image, &least);
     match answer.number {
         14 => note_length(tally, raised, check(&after).number != 0),
@@ -57,32 +57,38 @@ fn note_length(tally: &mut Tally, raised: &Raised, hopeless: bool) {
 
 fn note_accepted(tally: &mut Tally, image: &Image, labels: &Labels, passes: usize, after: &[u8]) {
     let before: Vec<u8> = image.registers().map(|register| register.label).collect();
-    let own = |label: u8| only(before[usize::from(label)]);
     tally.note("accepted, unchanged", passes == 0);
     tally.note("accepted, raised in one pass", passes == 1);
     tally.note("accepted, raised in two passes", passes == 2);
     tally.note("accepted, raised in three passes or more", passes > 2);
     let rose = |register: usize| after[register] != before[register];
     let risen: Vec<usize> = (0..before.len()).filter(|&r| rose(r)).collect();
+    let is_inner =
+        |(register, record): (usize, Register)| (record.kind == INNER).then_some(register);
+    let inner: Vec<usize> = image.registers().enumerate().filter_map(is_inner).collect();
     tally.note(
         "accepted, some inner register not raised",
-        passes > 0
-            && image
-                .registers()
-                .enumerate()
-                .any(|(r, record)| record.kind == INNER && !rose(r)),
+        passes > 0 && (inner.iter()).any(|&register| !rose(register)),
     );
     tally.note(
         "accepted, raised from above the least",
         risen.iter().any(|&register| before[register] != 0),
     );
     // Neither a register nor a state had it: it is the join of two that cannot be compared.
-    let given: u16 = (0..before.len()).fold(0, |set, r| set | own(r as u8));
-    let given = image.states().fold(given, |set, s| set | only(s.label));
-    let is_join = |&&register: &&usize| given & only(after[register]) == 0;
+    let of_states = image.states().map(|state| state.label);
+    let given = (before.iter().copied().chain(of_states)).fold(0, |set, label| set | only(label));
     tally.note(
         "accepted, raised to a label that nothing had",
-        risen.iter().find(is_join).is_some(),
+        (risen.iter()).any(|&register| given & only(after[register]) == 0),
+    );
+    let least = image.registers().map(|register| match register.kind {
+        INNER => 0,
+        _ => register.label,
+    });
+    let (_, needed) = Passes::of(image, labels, least.collect());
+    tally.note(
+        "accepted, a label above what is needed kept",
+        (0..before.len()).any(|r| !rose(r) && needed[r] != after[r]),
     );
     let top = labels.join(u16::MAX >> (16 - image.rows().len()));
     tally.note(
@@ -97,8 +103,8 @@ fn note_none(tally: &mut Tally, image: &Image, after: &[u8]) {
     let raised = Image::open(after).expect("the same sections");
     let faults = flow_faults(&raised);
     let new = |number: u32| {
-        let is_new = |fault: &&Refusal| fault.number == number && !before.contains(fault);
-        faults.iter().find(is_new).is_some()
+        let mut of_it = faults.iter().filter(|fault| fault.number == number);
+        of_it.any(|fault| !before.contains(fault))
     };
     let old = |number: u32| before.iter().any(|fault| fault.number == number);
     tally.note("18 by a goto at fault before", old(11));
@@ -113,20 +119,16 @@ fn note_labelings(tally: &mut Tally, raised: &Raised, answer: Answer) -> Result<
     let Some(raisings) = try_all(raised.image, LABELINGS) else {
         return Ok(());
     };
-    let met = match &raisings {
-        Raisings::None => (answer.number == 18).then_some("tried all: none is accepted"),
-        Raisings::Least(least, count) => {
-            let several = *count > 1;
-            tally.note("tried all: the least of several", several);
-            (answer.number == 0 && raised.out == least).then_some("tried all: the least")
-        }
-        Raisings::NoLeast => None,
+    let (right, count) = match &raisings {
+        Raisings::None => (answer.number == 18, 0),
+        Raisings::Least(least, count) => (answer.number == 0 && raised.out == least, *count),
+        Raisings::NoLeast => (false, 0),
     };
-    match met {
-        Some(reason) => {
-            tally.note(reason, true);
-            Ok(())
-        }
-        None => Err(format!("trying all labelings comes to {raisings:?}")),
+    if !right {
+        return Err(format!("trying all labelings comes to {raisings:?}"));
     }
+    tally.note("tried all labelings: none is accepted", count == 0);
+    tally.note("tried all labelings: the only one", count == 1);
+    tally.note("tried all labelings: the least of several", count > 1);
+    Ok(())
 }

@@ -5,6 +5,11 @@ use crate::reference::limits::{
 };
 use crate::table::Table;
 
+/// The root has one command, state 2 three, and in state 1 every assignment takes a sequence, and there is
+/// a goto.
+const ASSIGNMENTS: usize = (MOST_COMMANDS - 5) / 2;
+const SUMS: usize = ASSIGNMENTS - (MOST_REGISTERS - 1);
+
 /// The labels are a chain. In state 1, of label 0, each register takes the value of the one before it,
 /// the last register first, so that a pass in reading order moves every label on by one register. The
 /// labels fall by one from each four registers to the next four, so that each pass raises many of them, by
@@ -26,18 +31,14 @@ pub fn longest_chain() -> Table {
         let before = table.read(register - 1);
         commands.push(table.assign(register, before));
     }
-    // Behind these come as many sequences, a goto, and the four nodes of state 2.
-    while table.commands.len() + commands.len() + 8 < MOST_COMMANDS {
-        let left = MOST_COMMANDS - table.commands.len() - commands.len() - 6;
-        let assignments = left.div_ceil(2);
-        let expressions = MOST_EXPRESSIONS - table.expressions.len() - 1;
-        let reads = (expressions / assignments).div_ceil(2);
+    for left in (1..=SUMS).rev() {
+        // Two reads take three expressions, three take five; state 2 has one more.
+        let room = MOST_EXPRESSIONS - 1 - table.expressions.len();
+        let reads = if room >= 3 * left + 2 { 3 } else { 2 };
         commands.push(sum_of_itself(&mut table, reads));
     }
-    let mut body = table.goto(1);
-    for command in commands.into_iter().rev() {
-        body = table.sequence(command, body);
-    }
+    commands.push(table.goto(1));
+    let body = in_order(&mut table, commands);
     table.state(0, 0, body);
 
     let zero = table.constant(0);
@@ -46,6 +47,18 @@ pub fn longest_chain() -> Table {
     let body = table.sequence(assign, go);
     table.state(0, top, body);
     table
+}
+
+/// All of them, in halves: one behind the other they would nest too deep.
+fn in_order(table: &mut Table, mut commands: Vec<u16>) -> u16 {
+    while commands.len() > 1 {
+        let pairs = commands.chunks(2).map(|pair| match *pair {
+            [first, second] => table.sequence(first, second),
+            _ => pair[0],
+        });
+        commands = pairs.collect();
+    }
+    commands[0]
 }
 
 /// r0 := r0 + .. + r0, with so many reads.

@@ -1,6 +1,6 @@
 //! Images with the verdict that a sentence of document 01 or 02, a decided point or a worked design
-//! gives them, and operations with their values. They are asserted of the reference, and stored for the
-//! proved program.
+//! gives them, operations with their values, and raisings. They are asserted of the reference, and stored
+//! for the proved program.
 
 mod children;
 mod flow;
@@ -8,6 +8,7 @@ mod lattices;
 mod nodes;
 mod operations;
 mod ports;
+pub mod raising;
 mod reading;
 mod records;
 mod shape;

@@ -154,13 +154,7 @@ fn link(table: &mut Table, from: u8, to: u8, path: &[u8], random: &mut Random) -
 }
 
 /// To a group, or down to the child; perhaps by a condition.
-fn ending(
-    table: &mut Table,
-    group: usize,
-    groups: usize,
-    path: &[u8],
-    random: &mut Random,
-) -> u16 {
+fn ending(table: &mut Table, group: usize, groups: usize, path: &[u8], random: &mut Random) -> u16 {
     let leave = |table: &mut Table, random: &mut Random| match random.below(3) {
         0 => table.fall(),
         1 => table.goto(group as u8 + 1),

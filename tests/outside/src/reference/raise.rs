@@ -89,9 +89,8 @@ impl Sources {
         self.close();
         let own: Vec<LabelSet> = image.registers().map(|r| only(r.label)).collect();
         let of_all = |register: usize| {
-            let reaching = (0..own.len()).filter(|&other| {
-                other == register || self.registers[register] >> other & 1 == 1
-            });
+            let reaching = (0..own.len())
+                .filter(|&other| other == register || self.registers[register] >> other & 1 == 1);
             reaching.fold(0, |set, other| set | own[other] | self.states[other])
         };
         (0..own.len())
