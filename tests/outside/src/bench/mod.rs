@@ -4,4 +4,5 @@ mod measure;
 mod subjects;
 
 pub mod check;
+pub mod raise;
 pub mod run;

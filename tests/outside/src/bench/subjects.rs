@@ -1,9 +1,9 @@
 //! The images that are timed.
 
-use crate::designs::lease;
+use crate::designs::{lease, longest_chain};
 use crate::generate::faults::leaking;
 use crate::generate::random::Random;
-use crate::generate::{design, Size};
+use crate::generate::{design, lowered, Size};
 use crate::reference;
 use crate::table::Table;
 
@@ -65,6 +65,35 @@ pub fn by_size() -> Vec<Subject> {
                 .filter(|image| refused_for_flow(image))
                 .take(IMAGES as usize)
                 .collect(),
+        },
+    ]
+}
+
+/// Designs of the largest size that are accepted, the same with lower labels of their inner registers, some
+/// that have no accepted raising, and the one that takes the most passes.
+pub fn for_raising() -> Vec<Subject> {
+    let largest = |change: fn(&Table, &mut Random) -> Table| {
+        (1..).map(move |seed| {
+            let mut random = Random::new(seed);
+            let table = design(&mut random, Size::LARGEST);
+            change(&table, &mut random).image()
+        })
+    };
+    let answers = |image: &Vec<u8>| reference::raise(image, &mut vec![0; image.len()]).number;
+    let subject = |name, images: &mut dyn Iterator<Item = Vec<u8>>| Subject {
+        name,
+        images: images.take(IMAGES as usize).collect(),
+    };
+    vec![
+        subject("accepted", &mut largest(|table, _| table.clone())),
+        subject("lowered", &mut largest(lowered)),
+        subject(
+            "hopeless",
+            &mut largest(leaking).filter(|image| answers(image) == 18),
+        ),
+        Subject {
+            name: "chain",
+            images: vec![longest_chain().image()],
         },
     ]
 }

@@ -3,4 +3,5 @@
 fn main() {
     caisson_tests::bench::check::print();
     caisson_tests::bench::run::print();
+    caisson_tests::bench::raise::print();
 }
