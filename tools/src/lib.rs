@@ -2,10 +2,12 @@
 
 pub mod explain;
 pub mod library;
+mod names;
 mod numbering;
 mod operator;
 mod positions;
 mod print;
+pub mod raise;
 mod table;
 mod text;
 

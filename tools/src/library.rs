@@ -11,9 +11,16 @@ pub struct Answer {
 
 extern "C" {
     fn caisson_check(image: *const u8, image_len: usize) -> Answer;
+    fn caisson_raise(image: *const u8, image_len: usize, out: *mut u8, out_len: usize) -> Answer;
 }
 
 pub fn check(image: &[u8]) -> Answer {
     // Sound: a slice is readable for its length, which is all that the call asks for.
     unsafe { caisson_check(image.as_ptr(), image.len()) }
+}
+
+/// Into an area that has to be as long as the image.
+pub fn raise(image: &[u8], out: &mut [u8]) -> Answer {
+    // Sound: the one slice is readable and the other writable for its length, and they are apart.
+    unsafe { caisson_raise(image.as_ptr(), image.len(), out.as_mut_ptr(), out.len()) }
 }

@@ -1,6 +1,7 @@
 //! caisson: designs as source text, for the table format of document 01.
 
 use caisson_tools::old::{self, Form};
+use caisson_tools::raise::{raise_table, raise_text};
 use caisson_tools::{assemble, assemble_placed, explain, library, print, read};
 use std::io::Write;
 use std::os::unix::fs::MetadataExt;
@@ -11,10 +12,14 @@ const USAGE: &str = "usage: caisson assemble SOURCE TABLE
        caisson print TABLE
        caisson explain TABLE
        caisson explain SOURCE.caisson
+       caisson raise TABLE RAISED
+       caisson raise SOURCE.caisson RAISED
        caisson upgrade OLD NEW";
 
-/// How the name of a text ends. `explain` takes all else for a table.
+/// How the name of a text ends. `explain` and `raise` take all else for a table.
 const TEXT: &str = ".caisson";
+
+const NO_TEXT: &str = "a table is raised to a table; `caisson print` makes a text of that";
 
 /// A table out of the limits may nest 8,191 nodes deep, more than the usual stack takes.
 const STACK: usize = 64 << 20;
@@ -40,6 +45,7 @@ fn command() -> Result<ExitCode, String> {
         ["print", table] => print_file(table),
         ["explain", text] if text.ends_with(TEXT) => explain_text(text),
         ["explain", table] => explain_table(table),
+        ["raise", from, to] => raise_file(from, to),
         ["upgrade", old, new] => upgrade_file(old, new),
         _ => Err(USAGE.to_string()),
     }
@@ -80,6 +86,30 @@ fn explain_text(source: &str) -> Result<ExitCode, String> {
     let answer = library::check(&image);
     show(&explain::explain_text(&text, &image, &positions, answer))?;
     Ok(status(answer))
+}
+
+/// Writes a text where both names are those of texts, else a table; nothing where the design is refused.
+fn raise_file(from: &str, to: &str) -> Result<ExitCode, String> {
+    if same_file(from, to) {
+        return Err(format!("{to}: is the design itself, and would be lost"));
+    }
+    let (raised, text) = if from.ends_with(TEXT) {
+        let source = load_text(from)?;
+        raise_text(&source).map_err(|fault| format!("{from}: {fault}"))?
+    } else if to.ends_with(TEXT) {
+        return Err(format!("{to}: {NO_TEXT}"));
+    } else {
+        (raise_table(&load(from)?), String::new())
+    };
+    if raised.answer.number == 0 {
+        let bytes = match to.ends_with(TEXT) {
+            true => text.into_bytes(),
+            false => raised.image,
+        };
+        fs::write(to, bytes).map_err(|error| format!("{to}: {error}"))?;
+    }
+    show(&raised.words)?;
+    Ok(status(raised.answer))
 }
 
 fn status(answer: library::Answer) -> ExitCode {

@@ -3,12 +3,12 @@
 mod children;
 mod flow;
 mod lattice;
-mod place;
+pub(crate) mod place;
 mod ports;
 mod registers;
-mod rules;
+pub(crate) mod rules;
 mod shape;
-mod source;
+pub(crate) mod source;
 mod uses;
 
 use crate::library::Answer;

@@ -86,7 +86,7 @@ fn child(table: &Table, child: usize) -> String {
     format!("State {child}:\n{text}\n\nIts parent:\n{parent}\n\nBecause:\n{why}")
 }
 
-fn command(table: &Table, number: usize) -> String {
+pub fn command(table: &Table, number: usize) -> String {
     let text = layout::flat(&Reader::new(table).command(number as u16));
     let bytes = body::bytes(table.commands[number]);
     let home = home(table, |reader| reader.has_command(number as u16));
