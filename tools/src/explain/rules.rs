@@ -50,7 +50,7 @@ mod tests {
     #[test]
     fn every_row_has_words() {
         let rows = WORDS.matches("\nCAISSON_REFUSAL(").count() as u32;
-        assert!(rows >= 17);
+        assert!(rows >= 18);
         for number in 1..=rows {
             let words = rule(number);
             assert!(
@@ -76,6 +76,8 @@ mod tests {
         }
         assert_eq!(place(16, 1_023), Some(Place::Command(1_023)));
         assert_eq!(place(5, 1_024), Some(Place::Expression(0)));
-        assert_eq!((place(0, 0), place(1, 0), place(99, 0)), (None, None, None));
+        for nothing in [0, 1, 18, 99] {
+            assert_eq!(place(nothing, 0), None, "{nothing}");
+        }
     }
 }

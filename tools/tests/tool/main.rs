@@ -6,6 +6,8 @@ mod designs;
 mod from_the_end;
 mod known_tables;
 mod odd_tables;
+mod raise;
+mod raise_files;
 mod round_trip;
 mod source_lines;
 mod text_form;
