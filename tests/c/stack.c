@@ -12,7 +12,7 @@
 enum { CYCLES = 1000, STACK = 1 << 20, PAGE = 4096, PAINT = 0xA5 };
 
 /* One byte more than the largest image has, so that a longer file is refused. */
-static uint8_t image[CAISSON_LARGEST_IMAGE + 1u];
+static uint8_t image[CAISSON_LARGEST_IMAGE + 1u], raised[CAISSON_LARGEST_IMAGE + 1u];
 static uint8_t registers[CAISSON_REGISTERS * CAISSON_WORD], targets[CAISSON_STATES];
 static size_t image_len, registers_len, targets_len;
 static uint32_t port;
@@ -47,6 +47,11 @@ static void *write_port(void *unused) {
 
 static void *run(void *unused) {
     answer = caisson_run(image, image_len, registers, registers_len, targets, targets_len, CYCLES);
+    return unused;
+}
+
+static void *raise_labels(void *unused) {
+    answer = caisson_raise(image, image_len, raised, image_len);
     return unused;
 }
 
@@ -110,7 +115,8 @@ int main(int count, char **paths) {
                  {"targets_length", targets_length},
                  {"reset", reset},
                  {"write_port", write_port},
-                 {"run", run}};
+                 {"run", run},
+                 {"raise", raise_labels}};
     for (int i = 1; i < count; i++) {
         read_design(paths[i]);
         size_t without = used(nothing);
