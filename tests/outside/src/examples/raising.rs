@@ -142,7 +142,7 @@ fn met() -> Vec<Raising> {
             &[0, 2],
         ),
         raised(
-            "if r1 then goto 2 else goto 2: what is raised may flow there",
+            "r0 := r1; if r0 then goto 2 else goto 2: label 1 may flow there",
             framed(CHAIN, &[0], &[1], |table| {
                 let condition = table.read(0);
                 let then = table.goto(2);

@@ -5,6 +5,7 @@ mod areas;
 mod images;
 mod lease;
 mod ports;
+mod raising;
 mod record;
 mod runs;
 mod script;
@@ -38,5 +39,6 @@ fn records() -> Vec<Record> {
     ports::add(&mut script);
     widths::add(&mut script);
     areas::add(&mut script);
+    raising::add(&mut script);
     script.end()
 }

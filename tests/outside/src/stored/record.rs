@@ -10,6 +10,11 @@ pub enum Record {
         value: u32,
     },
     Run(u32),
+    /// Raises the image into an area of so many bytes, each of which is this before.
+    Raise {
+        length: u32,
+        fill: u8,
+    },
     /// A record of no kind.
     Bad,
 }
@@ -26,7 +31,8 @@ impl Record {
             Record::Reset => record(3, 0, 0, &[]),
             Record::WritePort { register, value } => record(4, *register, *value, &[]),
             Record::Run(cycles) => record(5, *cycles, 0, &[]),
-            Record::Bad => record(6, 0, 0, &[]),
+            Record::Raise { length, fill } => record(6, *length, (*fill).into(), &[]),
+            Record::Bad => record(7, 0, 0, &[]),
         }
     }
 }

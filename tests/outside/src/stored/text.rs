@@ -44,6 +44,11 @@ impl Lent {
                 let answer = reference::run(&self.image, registers, targets, *cycles);
                 answered(&format!("run {cycles}"), answer) + &self.areas()
             }
+            Record::Raise { length, fill } => {
+                let mut out = vec![*fill; *length as usize];
+                let answer = reference::raise(&self.image, &mut out);
+                answered(&format!("raise {length}"), answer) + &line("out", &out)
+            }
             Record::Bad => "bad record\n".to_string(),
         }
     }
