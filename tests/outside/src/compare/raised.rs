@@ -3,15 +3,16 @@
 use super::passes::Passes;
 use super::tally::Tally;
 use crate::answer::Answer;
-use crate::reference::image::{Image, Register, INNER};
+use crate::reference::image::{Image, INNER};
 use crate::reference::labelings::{try_all, Raisings};
 use crate::reference::labels::{only, Labels};
+use crate::reference::limits::MOST_LABELS;
 use crate::reference::{check, flow_faults, with_labels};
 
 /// So many labelings are tried at most.
 const LABELINGS: usize = 600;
 
-/// The image as it was lent, how long the area was, and what stood in it afterwards.
+/// The image as it was lent, and the area afterwards.
 pub struct Raised<'a> {
     pub image: &'a [u8],
     pub out: &'a [u8],
@@ -28,17 +29,15 @@ pub fn note_raised(tally: &mut Tally, raised: &Raised, answer: Answer) -> Result
     let (passes, least) = Passes::of(&image, &labels, own.collect());
     let after = with_labels(raised.image, &least);
     match answer.number {
-        14 => note_length(tally, raised, check(&after).number != 0),
-        18 => note_none(tally, &image, &after),
-        _ => {
-            if raised.out != after {
-                return Err("passes in reading order come to other labels".to_string());
-            }
-            note_accepted(tally, &image, &labels, passes, &least);
+        14 => {
+            note_length(tally, raised, check(&after).number != 0);
+            return Ok(());
         }
-    }
-    if answer.number == 14 {
-        return Ok(());
+        18 => note_none(tally, &image, &after),
+        _ if raised.out != after => {
+            return Err("passes in reading order come to other labels".to_string());
+        }
+        _ => note_accepted(tally, &image, &labels, passes, &least),
     }
     note_labelings(tally, raised, answer)
 }
@@ -56,31 +55,12 @@ fn note_length(tally: &mut Tally, raised: &Raised, hopeless: bool) {
 }
 
 fn note_accepted(tally: &mut Tally, image: &Image, labels: &Labels, passes: usize, after: &[u8]) {
-    let before: Vec<u8> = image.registers().map(|register| register.label).collect();
     tally.note("accepted, unchanged", passes == 0);
     tally.note("accepted, raised in one pass", passes == 1);
     tally.note("accepted, raised in two passes", passes == 2);
     tally.note("accepted, raised in three passes or more", passes > 2);
-    let rose = |register: usize| after[register] != before[register];
-    let risen: Vec<usize> = (0..before.len()).filter(|&r| rose(r)).collect();
-    let is_inner =
-        |(register, record): (usize, Register)| (record.kind == INNER).then_some(register);
-    let inner: Vec<usize> = image.registers().enumerate().filter_map(is_inner).collect();
-    tally.note(
-        "accepted, some inner register not raised",
-        passes > 0 && (inner.iter()).any(|&register| !rose(register)),
-    );
-    tally.note(
-        "accepted, raised from above the least",
-        risen.iter().any(|&register| before[register] != 0),
-    );
-    // Neither a register nor a state had it: it is the join of two that cannot be compared.
-    let of_states = image.states().map(|state| state.label);
-    let given = (before.iter().copied().chain(of_states)).fold(0, |set, label| set | only(label));
-    tally.note(
-        "accepted, raised to a label that nothing had",
-        (risen.iter()).any(|&register| given & only(after[register]) == 0),
-    );
+    note_labels(tally, image, labels, after);
+    // What the labels would be if the design had given the inner registers none.
     let least = image.registers().map(|register| match register.kind {
         INNER => 0,
         _ => register.label,
@@ -88,13 +68,40 @@ fn note_accepted(tally: &mut Tally, image: &Image, labels: &Labels, passes: usiz
     let (_, needed) = Passes::of(image, labels, least.collect());
     tally.note(
         "accepted, a label above what is needed kept",
-        (0..before.len()).any(|r| !rose(r) && needed[r] != after[r]),
+        needed != after,
     );
-    let top = labels.join(u16::MAX >> (16 - image.rows().len()));
+}
+
+/// Which registers rose, and to what.
+fn note_labels(tally: &mut Tally, image: &Image, labels: &Labels, after: &[u8]) {
+    let (mut rose, mut stayed): (Vec<u8>, Vec<u8>) = Default::default();
+    let mut given = image.states().fold(0, |set, state| set | only(state.label));
+    let mut from_above_the_least = false;
+    for (register, &label) in image.registers().zip(after) {
+        given |= only(register.label);
+        if register.label != label {
+            rose.push(label);
+            from_above_the_least |= register.label != 0;
+        } else if register.kind == INNER {
+            stayed.push(label);
+        }
+    }
+    let some_stayed = !rose.is_empty() && !stayed.is_empty();
+    tally.note("accepted, some inner registers raised", some_stayed);
     tally.note(
-        "accepted, raised below the top",
-        risen.iter().any(|&register| after[register] != top),
+        "accepted, raised from above the least",
+        from_above_the_least,
     );
+    // Neither a register nor a state had it: it is the join of two that cannot be compared.
+    let is_new = |&label: &u8| given & only(label) == 0;
+    tally.note(
+        "accepted, raised to a label that nothing had",
+        rose.iter().any(is_new),
+    );
+    let all = u16::MAX >> (MOST_LABELS - image.rows().len());
+    let top = labels.join(all);
+    let below = rose.iter().any(|&label| label != top);
+    tally.note("accepted, raised below the top", below);
 }
 
 /// The flow that cannot be met, and whether it could be met with the labels before.

@@ -33,27 +33,33 @@ pub fn chained(random: &mut Random) -> Table {
     let mut table = Table::new(&lattice(random, most));
     let path = registers(&mut table, random);
     let groups = random.between(1, 3);
-    let labels = group_labels(&table, groups, random);
-    let fall = table.fall();
-    table.state(0, 0, fall);
     let mut links: Vec<Vec<(u8, u8)>> = vec![Vec::new(); groups];
     for pair in path.windows(2) {
         links[random.below(groups)].push((pair[0], pair[1]));
     }
+    let labels: Vec<u8> = (0..groups).map(|_| low_or_any(&table, random)).collect();
+    let fall = table.fall();
+    table.state(0, 0, fall);
     for (group, mut links) in links.into_iter().enumerate() {
         match random.below(5) {
             0 => {}
             1 => random.shuffle(&mut links),
             _ => links.reverse(),
         }
-        let body = body(&mut table, &links, group, groups, &path, random);
+        let own = group as u8 + 1;
+        let body = Body {
+            table: &mut table,
+            random,
+            own,
+            groups: groups as u8,
+        }
+        .write(&links);
         table.state(0, labels[group], body);
     }
     // A child for each, so that it may fall.
-    for group in 0..groups {
-        let number = table.states.len() as u8;
-        let body = table.goto(number);
-        table.state(group as u8 + 1, labels[group], body);
+    for (group, &label) in labels.iter().enumerate() {
+        let body = table.goto(table.states.len() as u8);
+        table.state(group as u8 + 1, label, body);
     }
     table.renumber(random);
     table
@@ -75,11 +81,7 @@ fn registers(table: &mut Table, random: &mut Random) -> Vec<u8> {
         if is_port {
             begin = table.port(random.below(labels) as u8, 0, WIDEST);
         } else {
-            let label = if random.percent(75) {
-                0
-            } else {
-                random.below(labels) as u8
-            };
+            let label = low_or_any(table, random);
             path.push(table.inner(label, 0, WIDEST));
         }
     }
@@ -88,83 +90,94 @@ fn registers(table: &mut Table, random: &mut Random) -> Vec<u8> {
     path
 }
 
-/// Low ones often, so that a label that comes along matters.
-fn group_labels(table: &Table, groups: usize, random: &mut Random) -> Vec<u8> {
-    let any = |random: &mut Random| random.below(table.rows.len()) as u8;
-    let label = |random: &mut Random| {
-        if random.percent(60) {
-            0
-        } else {
-            any(random)
-        }
-    };
-    (0..groups).map(|_| label(random)).collect()
-}
-
-fn body(
-    table: &mut Table,
-    links: &[(u8, u8)],
-    group: usize,
-    groups: usize,
-    path: &[u8],
-    random: &mut Random,
-) -> u16 {
-    let mut commands: Vec<u16> = Vec::new();
-    for &(from, to) in links {
-        commands.push(link(table, from, to, path, random));
-    }
-    let mut body = ending(table, group, groups, path, random);
-    for command in commands.into_iter().rev() {
-        body = table.sequence(command, body);
-    }
-    body
-}
-
-/// The label of one register comes to another by a value or by a condition.
-fn link(table: &mut Table, from: u8, to: u8, path: &[u8], random: &mut Random) -> u16 {
-    let read = table.read(from);
-    match random.below(6) {
-        0 | 1 => table.assign(to, read),
-        2 => {
-            let other = table.read(*random.pick(path));
-            let sum = table.add(read, other);
-            table.assign(to, sum)
-        }
-        3 => {
-            let one = table.constant(1);
-            let then = table.assign(to, one);
-            let otherwise = table.skip();
-            table.branch(read, then, otherwise)
-        }
-        4 => {
-            let then = table.skip();
-            let zero = table.constant(0);
-            let otherwise = table.assign(to, zero);
-            table.branch(read, then, otherwise)
-        }
-        _ => {
-            let one = table.constant(1);
-            let then = table.assign(to, one);
-            let skips = [table.skip(), table.skip()];
-            let inner = table.constant(7);
-            let inner = table.branch(inner, then, skips[0]);
-            table.branch(read, inner, skips[1])
-        }
+/// The least label often, so that one that comes along matters.
+fn low_or_any(table: &Table, random: &mut Random) -> u8 {
+    if random.percent(70) {
+        0
+    } else {
+        random.below(table.rows.len()) as u8
     }
 }
 
-/// To a group, or down to the child; perhaps by a condition.
-fn ending(table: &mut Table, group: usize, groups: usize, path: &[u8], random: &mut Random) -> u16 {
-    let leave = |table: &mut Table, random: &mut Random| match random.below(3) {
-        0 => table.fall(),
-        1 => table.goto(group as u8 + 1),
-        _ => table.goto(random.between(1, groups) as u8),
-    };
-    if random.percent(50) {
-        return leave(table, random);
+/// The body of a state below the root.
+struct Body<'a> {
+    table: &'a mut Table,
+    random: &'a mut Random,
+    own: u8,
+    /// The states below the root are 1 to this.
+    groups: u8,
+}
+
+impl Body<'_> {
+    fn write(&mut self, links: &[(u8, u8)]) -> u16 {
+        let mut commands = Vec::new();
+        for &(from, to) in links {
+            commands.push(self.link(from, to));
+        }
+        let mut body = self.ending();
+        for command in commands.into_iter().rev() {
+            body = self.table.sequence(command, body);
+        }
+        body
     }
-    let then = leave(table, random);
-    let otherwise = leave(table, random);
-    let condition = table.read(*random.pick(path));
-    table.branch(condition, then, otherwise)
+
+    /// The label of one register comes to another by a value or by a condition.
+    fn link(&mut self, from: u8, to: u8) -> u16 {
+        let table = &mut self.table;
+        let read = table.read(from);
+        match self.random.below(6) {
+            0 | 1 => table.assign(to, read),
+            2 => {
+                let other = self.random.below(table.registers.len()) as u8;
+                let other = table.read(other);
+                let sum = table.add(read, other);
+                table.assign(to, sum)
+            }
+            3 => {
+                let one = table.constant(1);
+                let then = table.assign(to, one);
+                let otherwise = table.skip();
+                table.branch(read, then, otherwise)
+            }
+            4 => {
+                let then = table.skip();
+                let zero = table.constant(0);
+                let otherwise = table.assign(to, zero);
+                table.branch(read, then, otherwise)
+            }
+            // An if in an if, of which the outer one reads.
+            _ => {
+                let one = table.constant(1);
+                let assign = table.assign(to, one);
+                let skips = [table.skip(), table.skip()];
+                let condition = table.constant(7);
+                let inner = table.branch(condition, assign, skips[0]);
+                table.branch(read, inner, skips[1])
+            }
+        }
+    }
+
+    /// At once, or by a condition over any register.
+    fn ending(&mut self) -> u16 {
+        if self.random.percent(50) {
+            return self.leave();
+        }
+        let then = self.leave();
+        let otherwise = self.leave();
+        let register = self.random.below(self.table.registers.len()) as u8;
+        let condition = self.table.read(register);
+        self.table.branch(condition, then, otherwise)
+    }
+
+    /// Down to the child, to the state itself, or to one beside it.
+    fn leave(&mut self) -> u16 {
+        match self.random.below(3) {
+            0 => self.table.fall(),
+            1 => self.table.goto(self.own),
+            _ => {
+                let state = self.random.between(1, self.groups.into());
+                self.table.goto(state as u8)
+            }
+        }
+    }
 }
