@@ -99,28 +99,11 @@ impl Teller<'_> {
         let Some(chain) = chain(self.given, self.flows, register, target) else {
             return String::new();
         };
+        let name = self.names.register(register);
         let mut text = format!(
-            "\nHow the label came to {}:\n",
-            self.names.register(register)
+            "\nHow the label came to {name}:\n{}",
+            self.begin(chain.begin)
         );
-        text += &match chain.begin {
-            Begin::Register(register) => {
-                let record = self.given.registers[usize::from(register)];
-                let label = self.names.label(record.label);
-                let kind = if record.kind == PORT {
-                    "port"
-                } else {
-                    "register"
-                };
-                let name = self.names.register(register);
-                format!("    {kind} {name} : {label}, as the design has it\n")
-            }
-            Begin::State(state) => {
-                let label = self.given.states[usize::from(state)].label;
-                let (state, label) = (self.names.state(state), self.names.label(label));
-                format!("    state {state} : {label}, as the design has it\n")
-            }
-        };
         let mut from = match chain.begin {
             Begin::Register(register) => Some(register),
             Begin::State(_) => None,
@@ -133,6 +116,26 @@ impl Teller<'_> {
             };
         }
         text
+    }
+
+    /// What has the label in the design as it is.
+    fn begin(&self, begin: Begin) -> String {
+        let (what, name, label) = match begin {
+            Begin::Register(register) => {
+                let record = self.given.registers[usize::from(register)];
+                let what = match record.kind {
+                    PORT => "port",
+                    _ => "register",
+                };
+                (what, self.names.register(register), record.label)
+            }
+            Begin::State(state) => {
+                let record = self.given.states[usize::from(state)];
+                ("state", self.names.state(state), record.label)
+            }
+        };
+        let label = self.names.label(label);
+        format!("    {what} {name} : {label}, as the design has it\n")
     }
 
     /// An assignment, and how the label came into it: by a register, or by its state.
