@@ -12,7 +12,7 @@ use crate::reference;
 use crate::reference::image::Image;
 use crate::reference::labelings::{try_all, Raisings};
 use crate::reference::labels::Labels;
-use crate::reference::limits::{LARGEST_IMAGE, MOST_LABELS, MOST_REGISTERS};
+use crate::reference::limits::{MOST_COMMANDS, MOST_EXPRESSIONS, MOST_LABELS, MOST_REGISTERS};
 use crate::reference::refusal;
 
 /// What a byte of the area is before a call.
@@ -96,12 +96,9 @@ fn another_length() {
 #[test]
 fn passes_of_the_longest_chain() {
     let table = longest_chain();
+    assert_eq!(table.expressions.len(), MOST_EXPRESSIONS);
+    assert!(table.commands.len() + 1 >= MOST_COMMANDS);
     let bytes = table.image();
-    assert!(
-        bytes.len() > LARGEST_IMAGE * 9 / 10,
-        "{} bytes",
-        bytes.len()
-    );
     let image = Image::open(&bytes).unwrap();
     let labels = Labels::judge(&image).unwrap();
     let own = table.registers.iter().map(|register| register.label);

@@ -1,72 +1,87 @@
-//! The design that takes the most passes to raise, as far as we know.
+//! The design that takes the most passes to raise, and in each pass the most nodes.
 
 use crate::reference::limits::{
     MOST_COMMANDS, MOST_EXPRESSIONS, MOST_LABELS, MOST_REGISTERS, WIDEST,
 };
 use crate::table::Table;
 
-/// The root has one command, state 2 three, and in state 1 every assignment takes a sequence, and there is
-/// a goto.
+const LAST: u8 = MOST_REGISTERS as u8 - 1;
+const TOP: u8 = MOST_LABELS as u8 - 1;
+
+/// The root has one command, state 2 three, and state 1 has a goto, a sequence, and ifs over all its
+/// assignments, one fewer than these.
 const ASSIGNMENTS: usize = (MOST_COMMANDS - 5) / 2;
-const SUMS: usize = ASSIGNMENTS - (MOST_REGISTERS - 1);
 
 /// The labels are a chain. In state 1, of label 0, each register takes the value of the one before it,
 /// the last register first, so that a pass in reading order moves every label on by one register. The
 /// labels fall by one from each four registers to the next four, so that each pass raises many of them, by
-/// one. State 2, of the highest label, assigns to r0, which is one label below it. The rest of both
-/// families is spent on r0 := r0 + .. + r0, which is read in every pass and moves nothing.
+/// one. State 2, of the highest label, assigns to r0, which is one label below it: that is one pass more.
+///
+/// No design takes more passes. A label comes to a register along assignments that name each register
+/// once, from another register or from a state, and each pass moves it on by one assignment at least.
+///
+/// The other assignments of state 1 are r0 := r0 or r0 + r0, and in place of sequences it has ifs over the
+/// last register, whose label is never above another: they are read in every pass and move nothing.
 pub fn longest_chain() -> Table {
     let rows: Vec<u16> = (0..MOST_LABELS).map(|label| u16::MAX << label).collect();
-    let top = MOST_LABELS as u8 - 1;
     let mut table = Table::new(&rows);
     for register in 0..MOST_REGISTERS {
-        let label = (top - 1).saturating_sub((register / 4) as u8);
+        let label = (TOP - 1).saturating_sub((register / 4) as u8);
         table.inner(label, 0, WIDEST);
     }
     let fall = table.fall();
     table.state(0, 0, fall);
 
-    let mut commands: Vec<u16> = Vec::new();
-    for register in (1..MOST_REGISTERS as u8).rev() {
+    let mut assignments: Vec<u16> = Vec::new();
+    for register in (1..=LAST).rev() {
         let before = table.read(register - 1);
-        commands.push(table.assign(register, before));
+        assignments.push(table.assign(register, before));
     }
-    for left in (1..=SUMS).rev() {
-        // Two reads take three expressions, three take five; state 2 has one more.
-        let room = MOST_EXPRESSIONS - 1 - table.expressions.len();
-        let reads = if room >= 3 * left + 2 { 3 } else { 2 };
-        commands.push(sum_of_itself(&mut table, reads));
+    while assignments.len() < ASSIGNMENTS {
+        let trees_left = 2 * ASSIGNMENTS - assignments.len();
+        let value = one_or_two(&mut table, 0, trees_left);
+        assignments.push(table.assign(0, value));
     }
-    commands.push(table.goto(1));
-    let body = in_order(&mut table, commands);
+    let all = branches(&mut table, assignments);
+    let go = table.goto(1);
+    let body = table.sequence(all, go);
     table.state(0, 0, body);
 
     let zero = table.constant(0);
     let assign = table.assign(0, zero);
     let go = table.goto(2);
     let body = table.sequence(assign, go);
-    table.state(0, top, body);
+    table.state(0, TOP, body);
     table
 }
 
-/// All of them, in halves: one behind the other they would nest too deep.
-fn in_order(table: &mut Table, mut commands: Vec<u16>) -> u16 {
+/// The commands in their order, two by two in the branches of an if.
+fn branches(table: &mut Table, mut commands: Vec<u16>) -> u16 {
+    let mut trees_left = commands.len();
     while commands.len() > 1 {
-        let pairs = commands.chunks(2).map(|pair| match *pair {
-            [first, second] => table.sequence(first, second),
-            _ => pair[0],
-        });
-        commands = pairs.collect();
+        let mut pairs = Vec::new();
+        for pair in commands.chunks(2) {
+            pairs.push(match *pair {
+                [then, otherwise] => {
+                    trees_left -= 1;
+                    let condition = one_or_two(table, LAST, trees_left);
+                    table.branch(condition, then, otherwise)
+                }
+                _ => pair[0],
+            });
+        }
+        commands = pairs;
     }
     commands[0]
 }
 
-/// r0 := r0 + .. + r0, with so many reads.
-fn sum_of_itself(table: &mut Table, reads: usize) -> u16 {
-    let mut sum = table.read(0);
-    for _ in 1..reads {
-        let more = table.read(0);
-        sum = table.add(sum, more);
+/// A read of the register, or a sum of two while there is room for it beside a node for each of the
+/// trees that are left.
+fn one_or_two(table: &mut Table, register: u8, trees_left: usize) -> u16 {
+    let read = table.read(register);
+    if table.expressions.len() + 2 + trees_left > MOST_EXPRESSIONS {
+        return read;
     }
-    table.assign(0, sum)
+    let more = table.read(register);
+    table.add(read, more)
 }
