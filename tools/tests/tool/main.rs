@@ -7,6 +7,7 @@ mod from_the_end;
 mod known_tables;
 mod odd_tables;
 mod raise;
+mod raise_chains;
 mod raise_files;
 mod round_trip;
 mod source_lines;
