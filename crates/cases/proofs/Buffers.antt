@@ -1,10 +1,14 @@
 -- A part of a buffer has the length asked for, and a record leaves no more lent than the buffers hold.
-use Prim.Native.Nat.{ℕ, _≤_}
-use mathlib.Core.Path.{_≡_, sym, subst}
+use Prim.Native.Nat.{ℕ, _+_, _-_, _≤_, _<_}
+use mathlib.Core.Path.{_≡_, refl, sym, subst}
 use mathlib.Core.List.{List}
-use lib.ListN.{length, take}
+use native.Mathlib.Omega.{arith}
+use lib.ListN.{length, take, set}
 use lib.Seq.{length-take-le}
 use borrow.Author.Needs.{needs}
+use Rattle.model.specs.Indices.{tabulate}
+use Rattle.design.specs.Resets.{Filled}
+use Rattle.design.proofs.ResetRules.{filled-within, filled-all}
 use Rattle.cases.specs.declared.Lent.{Lent}
 use Rattle.cases.specs.declared.Step.{Step}
 use Rattle.cases.specs.declared.Step.the-variants.{Next}
@@ -27,3 +31,14 @@ next-fits {step} {lent} e fits = held (subst StepFits e fits)
   where
     held : StepFits (Next lent) → Fits lent
     held (next known) = known
+
+-- an area that is painted byte by byte
+module _ {f : ℕ → ℕ} {old now : List ℕ} {i : ℕ} (so : Filled f old i now) where
+  pub painted-more : {v : ℕ} → i < length now → v ≡ f i → Filled f old (i + 1) (set now i v)
+  painted-more l h = let same = so .long in filled-within so (omega arith) l h
+
+  pub painted-less : i < length now → length old - (i + 1) < length old - i
+  painted-less l = let same = so .long in omega arith
+
+  pub painted-all : length now ≤ i → now ≡ tabulate f (length old)
+  painted-all l = let same = so .long in filled-all so refl (omega arith)

@@ -11,6 +11,8 @@
 //   3  reset. Printed as `reset: NUMBER PLACE COUNT`, then the areas.
 //   4  port write of register a, value b. Printed as `write A B: NUMBER PLACE COUNT`, then the areas.
 //   5  run of a cycles. Printed as `run A: NUMBER PLACE COUNT`, then the areas.
+//   6  the image is raised into an area of a bytes, at most 25,333, each of which is b % 256 before.
+//      Printed as `raise A: NUMBER PLACE COUNT`, then a line `  out` with the area's bytes.
 //
 // Numbers that a kind does not use are not looked at. The areas are two lines, `  registers` and
 // `  targets`, each with its bytes as numbers. Before the first image and the first areas they are
@@ -23,6 +25,7 @@ use model::Answer;
 ghost use Prim.Native.Nat.{_+_, _*_, _≤_};
 ghost use mathlib.Core.Path.{_≡_};
 ghost use lib.ListN.{length};
+ghost use Rattle.model.specs.Indices.{tabulate};
 ghost use Rattle.cases.specs.Fits.{imageRoom, registersRoom, targetsRoom, Fits, StepFits};
 
 // The most records.
@@ -178,6 +181,26 @@ fn run(image: &[u8], registers: &mut [u8], targets: &mut [u8], count: u32) -> bo
         && print_areas(registers, targets)
 }
 
+// Every byte of an area as given.
+fn paint(area: &mut [u8], byte: u8)
+    ensures { λ _. ⌜ now (area .exit) ≡ tabulate (λ i. byte) (length (now (area .entry))) ⌝ }
+{
+    let mut i = 0;
+    while i < area.len() {
+        area[i] = byte;
+        i += 1;
+    }
+}
+
+fn raise(image: &[u8], out: &mut [u8], byte: u8) -> bool {
+    paint(out, byte);
+    let answer = raising::raise(image, out);
+    print(b"raise")
+        && print_number(out.len() as u64)
+        && answered(answer)
+        && print_bytes(b"  out", out)
+}
+
 fn print_note(text: &[u8]) -> bool {
     print(b"# ") && print(text) && print(b"\n")
 }
@@ -269,6 +292,20 @@ fn called(image: &[u8], registers: &mut [u8], targets: &mut [u8], head: Head, le
     next(written, lent)
 }
 
+// The image raised into an area of a bytes.
+fn raised(image: &[u8], a: usize, byte: u8, lent: Lent) -> Step
+    requires { ⌜ (imageRoom ≡ length (now image)) × Fits lent ⌝ }
+    ensures { λ r. ⌜ StepFits r ⌝ }
+{
+    let mut out = [0u8; IMAGE];
+    if IMAGE < a {
+        return bad();
+    }
+    let i = lent.image;
+    let written = raise(&image[..i], &mut out[..a], byte);
+    next(written, lent)
+}
+
 // Does what a record says.
 fn followed(
     image: &mut [u8; IMAGE],
@@ -288,6 +325,7 @@ fn followed(
         1 => new_image(image, a, lent),
         2 => new_areas(registers, targets, a, b, lent),
         3 | 4 | 5 => called(image, registers, targets, head, lent),
+        6 => raised(image, a, (head.b % 256) as u8, lent),
         _ => bad(),
     }
 }
