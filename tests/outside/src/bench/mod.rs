@@ -1,5 +1,6 @@
 //! Measuring the library beside the reference.
 
+mod chains;
 mod measure;
 mod subjects;
 

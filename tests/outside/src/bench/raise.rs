@@ -1,11 +1,8 @@
 //! Raise: beside a check of the same image, and beside the reference.
 
 use super::measure::{in_turns, Call};
-use super::subjects::{for_raising, Subject};
+use super::subjects::{for_raising, passes, Subject};
 use crate::answer::Answer;
-use crate::compare::passes::Passes;
-use crate::reference::image::Image;
-use crate::reference::labels::Labels;
 use crate::{library, reference};
 use std::hint::black_box;
 
@@ -41,13 +38,6 @@ pub fn print() {
             library / check,
         );
     }
-}
-
-fn passes(bytes: &[u8]) -> usize {
-    let image = Image::open(bytes).expect("an image with good sections");
-    let labels = Labels::judge(&image).expect("a lattice");
-    let own = image.registers().map(|register| register.label).collect();
-    Passes::of(&image, &labels, own).0
 }
 
 type Raise = fn(&[u8], &mut [u8]) -> Answer;

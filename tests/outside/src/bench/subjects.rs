@@ -1,10 +1,15 @@
 //! The images that are timed.
 
+use super::chains::random_chain;
+use crate::compare::passes::Passes;
 use crate::designs::{lease, longest_chain};
 use crate::generate::faults::leaking;
 use crate::generate::random::Random;
 use crate::generate::{design, lowered, Size};
 use crate::reference;
+use crate::reference::image::Image;
+use crate::reference::labels::Labels;
+use crate::reference::limits::MOST_REGISTERS;
 use crate::table::Table;
 
 /// So many images of one size, taken in turns: a processor that meets one image again and
@@ -70,7 +75,7 @@ pub fn by_size() -> Vec<Subject> {
 }
 
 /// Designs of the largest size that are accepted, the same with lower labels of their inner registers, some
-/// that have no accepted raising, and the one that takes the most passes.
+/// that have no accepted raising, the one that takes the most passes, and random trees with almost as many.
 pub fn for_raising() -> Vec<Subject> {
     let largest = |change: fn(&Table, &mut Random) -> Table| {
         (1..).map(move |seed| {
@@ -95,5 +100,24 @@ pub fn for_raising() -> Vec<Subject> {
             name: "chain",
             images: vec![longest_chain().image()],
         },
+        subject(
+            "chains",
+            &mut (1..).map(random_chain).filter_map(raised_late),
+        ),
     ]
+}
+
+/// Its image, if it has an accepted raising: in some random designs too few assignments read a register.
+fn raised_late(table: Table) -> Option<Vec<u8>> {
+    let image = table.image();
+    let answer = reference::raise(&image, &mut vec![0; image.len()]);
+    (answer.number == 0 && passes(&image) == MOST_REGISTERS - 1).then_some(image)
+}
+
+/// So many passes in reading order raise some label.
+pub fn passes(bytes: &[u8]) -> usize {
+    let image = Image::open(bytes).expect("an image with good sections");
+    let labels = Labels::judge(&image).expect("a lattice");
+    let own = image.registers().map(|register| register.label).collect();
+    Passes::of(&image, &labels, own).0
 }
