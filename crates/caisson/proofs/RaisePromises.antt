@@ -1,7 +1,6 @@
 -- What is promised of the exported raising, 02, E6, as a C host has it. Each takes the postcondition of the exported function (`RaiseContracts`), and no more.
 use Prim.Native.Nat.{ℕ}
 use mathlib.Core.Path.{_≡_, sym, _∙_, ap}
-use mathlib.Core.Logic.{_↔_}
 use mathlib.Core.List.{List}
 use lib.ListN.{length}
 use Rattle.model.specs.declared.Answer.the-variants.{Accepted}

@@ -11,9 +11,9 @@ use lib.Bits.{bitAnd}
 use lib.ListN.{length}
 use mir.Syntax.{w64}
 use mir.Val.{Fits}
-use Rattle.model.specs.Image.{Design as Table, Node, designOf, commandAt}
+use Rattle.model.specs.Image.{Design as Table, designOf, commandAt}
 use Rattle.model.specs.Lattice.{stateLabel}
-use Rattle.model.specs.Kinds.{CommandKind, skips, sequences, falls, goes, branches, commandKind}
+use Rattle.model.specs.Kinds.{sequences, branches, commandKind}
 use Rattle.model.specs.Trees.{exprOf, cmdOf, bodyOf}
 use Rattle.model.specs.Flow.{labelsRead}
 use Rattle.model.specs.Labelling.{relabelled}
@@ -22,11 +22,11 @@ use Rattle.model.specs.Raising.{labelsReadBy, raisedBy, raisedByStates, raisedO
 use Rattle.model.proofs.Laws.Booleans.{not-true}
 use Rattle.model.proofs.Laws.Trees.{cmd-skip, cmd-sequence, cmd-fall, cmd-goto, cmd-branch}
 use Rattle.design.specs.declared.Design.{Design}
-use Rattle.design.specs.Records.{nodeIn, rowIn, stateIn, rowEnd}
+use Rattle.design.specs.Records.{nodeIn, rowIn, stateIn}
 use Rattle.design.specs.RecordsAt.{CommandAt}
-use Rattle.design.proofs.Laws.{labels-count, labels-most, registers-count, states-count, row-in}
+use Rattle.design.proofs.Laws.{labels-count, labels-most, registers-count, row-in}
 use Rattle.design.proofs.LabelRules.{registers-few}
-use Rattle.design.proofs.FieldRules.{body-is, same-command, command-kind-is, command-kind-of, a-is, b-is, c-is, command-holds, condition, sequence-a-below, sequence-b-below, branch-b-below, branch-c-below}
+use Rattle.design.proofs.FieldRules.{body-is, command-kind-is, command-kind-of, a-is, b-is, c-is, command-holds, condition, sequence-a-below, sequence-b-below, branch-b-below, branch-c-below}
 use Rattle.checker_bodies.specs.Flows.{MaskOf, Gathering}
 use Rattle.checker_bodies.proofs.Masks.{mask-both, mask-row}
 use Rattle.checker_bodies.proofs.FlowRules.{state-label-is, state-label-below}

@@ -1,16 +1,14 @@
 -- The least label of a mask is the join of the labels whose mask it is: one label is the least of both by the same two tests, bit by bit.
-use Prim.Native.Nat.{ℕ, zero, suc, _/_, _%_, _^_, _≤_, _<_}
+use Prim.Native.Nat.{ℕ, zero, suc, _^_, _≤_, _<_}
 use mathlib.Core.Path.{_≡_, refl, sym, _∙_, ap, ap₂}
-use mathlib.Core.Bool.{Bool, true, false, _&&_}
+use mathlib.Core.Bool.{Bool, true, _&&_}
 use mathlib.Core.List.{List}
 use native.Mathlib.Omega.{arith}
-use lib.Bits.{bitAnd}
-use lib.Dec.{eqb}
 use lib.ListN.{length, getD}
 use Rattle.model.specs.declared.Found.{Found}
 use Rattle.model.specs.declared.Found.the-variants.{At, Nowhere}
-use Rattle.model.specs.Indices.{orAt, lowest, allBelow}
-use Rattle.model.specs.Lattice.{flowsTo, implies, allFlowTo}
+use Rattle.model.specs.Indices.{lowest, allBelow}
+use Rattle.model.specs.Lattice.{flowsTo, implies}
 use Rattle.model.specs.States.{foundOr}
 use Rattle.model.specs.Raising.{leastAboveAll, joinOf}
 use Rattle.model.proofs.Laws.Booleans.{true-or-false}

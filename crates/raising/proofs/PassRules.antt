@@ -1,39 +1,32 @@
 -- What a pass leaves of a table of labels, command by command as the meaning has it: a sequence hands the table on, an if adds what its condition reads to the
 -- mask, and an assignment whose flow is kept leaves the register's label, which is then the join.
-use Prim.Native.Nat.{ℕ, zero, suc, _+_, _-_, _*_, _/_, _%_, _^_, _≤_, _<_}
+use Prim.Native.Nat.{ℕ, _+_, _-_, _/_, _%_, _^_, _≤_, _<_}
 use mathlib.Core.Path.{_≡_, refl, sym, _∙_, ap}
-use mathlib.Core.Bool.{Bool, true, false, _||_, not}
-use mathlib.Core.List.{List, [], _∷_, _++_}
+use mathlib.Core.Bool.{Bool, true, false, _||_}
+use mathlib.Core.List.{List, _∷_, _++_}
 use native.Mathlib.Omega.{arith}
 use native.Mathlib.Nat.{lt-of-le-of-lt}
-use native.Mathlib.Numerals.{add-one}
 use native.Mathlib.Decide.{ℕ-discrete}
 use lib.Bits.{bitAnd, and-le-l}
 use lib.Dec.{eqb}
 use lib.ListN.{length, getD, set, length-set}
 use lib.Seq.{getD-set-same, getD-set-other, set-getD}
-use Rattle.model.specs.Image.{Design as Table, Node, designOf, commandAt}
-use Rattle.model.specs.Lattice.{allFlowTo, stateLabel}
-use Rattle.model.specs.Kinds.{skips, assigns, sequences, falls, goes, branches, commandKind}
-use Rattle.model.specs.Trees.{exprOf, cmdOf, bodyOf}
+use Rattle.model.specs.Image.{Design as Table, Node, designOf}
+use Rattle.model.specs.Kinds.{commandKind}
+use Rattle.model.specs.Trees.{exprOf, cmdOf}
 use Rattle.model.specs.Flow.{labelsRead}
 use Rattle.model.specs.Labelling.{relabelled}
-use Rattle.model.specs.Rules.{CommandHolds}
-use Rattle.model.specs.Raising.{joinOf, labelsReadBy, raisedBy, raisedByStates, raisedOnce, raisedTimes}
-use Rattle.model.proofs.Laws.Booleans.{not-true, not-false}
+use Rattle.model.specs.Raising.{joinOf, labelsReadBy, raisedBy}
 use Rattle.model.proofs.Laws.Joins.{flow-tail, join-stays}
 use Rattle.model.proofs.Laws.Relabelling.{labels-read}
-use Rattle.model.proofs.Laws.Trees.{cmd-skip, cmd-assign, cmd-sequence, cmd-fall, cmd-goto, cmd-branch}
+use Rattle.model.proofs.Laws.Trees.{cmd-assign}
 use Rattle.design.specs.declared.Design.{Design}
-use Rattle.design.specs.Records.{nodeIn, rowIn, stateIn, rowEnd}
-use Rattle.design.specs.Describes.{Describes}
+use Rattle.design.specs.Records.{nodeIn, rowIn, rowEnd}
 use Rattle.design.specs.RecordsAt.{CommandAt}
-use Rattle.design.specs.Labels.{LabelsKept}
-use Rattle.design.proofs.Laws.{labels-count, labels-most, registers-count, states-count, commands-count, expressions-count, row-inside, row-in, state-in}
-use Rattle.design.proofs.FieldRules.{body-is, command-at, same-command, command-kind-of, item-is, a-is, b-is, c-is, command-holds, assigned-register, assigned-expression, condition, sequence-a-below, sequence-b-below, branch-b-below, branch-c-below, expression-at}
+use Rattle.design.proofs.Laws.{labels-count, labels-most, expressions-count, row-inside, row-in}
+use Rattle.design.proofs.FieldRules.{command-at, same-command, item-is, a-is, assigned-register, assigned-expression, condition, expression-at}
 use Rattle.checker_bodies.specs.Flows.{MaskOf, Gathering}
 use Rattle.checker_bodies.proofs.Masks.{mask-both, mask-row}
-use Rattle.checker_bodies.proofs.FlowKinds.{mask-small, state-row-inside}
 use Rattle.raising.specs.Passes.{leastOf, Labelling, Raising, Assigns, Moved, RaisedAt, RaisedTo}
 use Rattle.raising.proofs.JoinRules.{least-is-join, least-label}
 

@@ -1,18 +1,18 @@
 -- The call from each point on: what has been found, before what follows; and that the table which the passes leave is the meaning's labelling, so that the flow
 -- under it is the verdict on the raised image.
-use Prim.Native.Nat.{ℕ, _+_, _*_, _≤_, _<_}
+use Prim.Native.Nat.{ℕ, _+_, _*_, _≤_}
 use mathlib.Core.Path.{_≡_, refl, sym, _∙_, ap, ap₂}
 use mathlib.Core.List.{List}
 use native.Mathlib.Omega.{arith}
-use lib.ListN.{length, getD, take}
-use lib.Seq.{ext-getD, getD-take, length-take-le}
+use lib.ListN.{length, take}
+use lib.Seq.{ext-getD, length-take-le}
 use borrow.Author.Tests.{eq-eqb, ne-eqb}
 use Rattle.model.specs.declared.Refusal.{Refusal}
 use Rattle.model.specs.declared.Refusal.the-variants.{Area, NoRaising}
 use Rattle.model.specs.declared.Answer.{Answer}
 use Rattle.model.specs.declared.Answer.the-variants.{Accepted, Refused}
 use Rattle.model.specs.Limits.{registerLength}
-use Rattle.model.specs.Image.{Registers, States, offset, designOf}
+use Rattle.model.specs.Image.{Registers, offset, designOf}
 use Rattle.model.specs.Lattice.{registerLabel}
 use Rattle.model.specs.Labelling.{labelsOf, relabelled}
 use Rattle.model.specs.Flow.{flowAnswer}
@@ -25,9 +25,7 @@ use Rattle.model.proofs.Raising.Images.{raised-verdict}
 use Rattle.design.specs.declared.Design.{Design}
 use Rattle.design.specs.Describes.{Describes}
 use Rattle.design.specs.Resets.{Filled}
-use Rattle.design.specs.Labels.{LabelsKept}
 use Rattle.design.proofs.Laws.{registers-count}
-use Rattle.design.proofs.LabelRules.{own-labels-kept, registers-few}
 use Rattle.checker.proofs.Accepted.{structure-known}
 use Rattle.raising.specs.Passes.{Labelling, Raising}
 use Rattle.raising.specs.Stages.{leftOutAs, raiseWithin, raiseOn}

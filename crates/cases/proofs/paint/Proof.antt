@@ -6,8 +6,6 @@ use Rattle.cases.proofs.Buffers.{painted-more, painted-less, painted-al
 use borrow.Author.Needs.{needs}
 use Rattle.cases.proofs.paint.Statement.{statement}
 use Rattle.cases.proofs.paint.Tie as tie
-use Rattle.cases.proofs.paint.Reads as reads
-use Rattle.cases.proofs.paint.Lts as lts
 
 abbrev Inv-loop : tie.InvT-loop
 Inv-loop area₀ byte i₀ area i = Filled (λ k. byte) area₀ i area

@@ -2,11 +2,6 @@ use Rattle.cases.proofs.Buffers.{part-length}
 use borrow.Author.Needs.{needs}
 use Rattle.cases.proofs.raised.Statement.{statement}
 use Rattle.cases.proofs.raised.Tie as tie
-use Rattle.cases.proofs.raised.Reads as reads
-use Rattle.cases.proofs.raised.Lts as lts
-use Rattle.cases.proofs.bad.Reads as bad-reads
-use Rattle.cases.proofs.next.Reads as next-reads
-use Rattle.cases.proofs.raise.Reads as raise-reads
 
 bad-requires : tie.Need-bad-requires
 bad-requires c κs = search needs

@@ -4,10 +4,6 @@ use borrow.Author.Needs.{needs}
 use borrow.Author.Needs.{needs}
 use Rattle.raising.proofs.raise.Statement.{statement}
 use Rattle.raising.proofs.raise.Tie as tie
-use Rattle.raising.proofs.raise.Reads as reads
-use Rattle.raising.proofs.raise.Lts as lts
-use Rattle.checker.proofs.structure.Reads as structure-reads
-use Rattle.raising.proofs.raise_structured.Reads as raise-structured-reads
 
 structure-requires : tie.Need-structure-requires
 structure-requires c κs = search needs

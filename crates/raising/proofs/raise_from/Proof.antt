@@ -3,12 +3,6 @@ use borrow.Author.Needs.{needs}
 use borrow.Author.Needs.{needs}
 use Rattle.raising.proofs.raise_from.Statement.{statement}
 use Rattle.raising.proofs.raise_from.Tie as tie
-use Rattle.raising.proofs.raise_from.Reads as reads
-use Rattle.raising.proofs.raise_from.Lts as lts
-use Rattle.checker_bodies.proofs.flow.faults.Reads as faults-reads
-use Rattle.raising.proofs.bytes.copy.Reads as copy-reads
-use Rattle.raising.proofs.bytes.put_labels.Reads as put-labels-reads
-use Rattle.raising.proofs.passes.raise_labels.Reads as raise-labels-reads
 
 raise-labels-requires : tie.Need-raise-labels-requires
 raise-labels-requires c κs = search needs

@@ -6,8 +6,6 @@ use Rattle.raising.proofs.ByteRules.{copied}
 use borrow.Author.Needs.{needs}
 use Rattle.raising.proofs.bytes.copy.Statement.{statement}
 use Rattle.raising.proofs.bytes.copy.Tie as tie
-use Rattle.raising.proofs.bytes.copy.Reads as reads
-use Rattle.raising.proofs.bytes.copy.Lts as lts
 
 abbrev Inv-loop : tie.InvT-loop
 Inv-loop from to₀ i₀ to i = Filled (λ k. getD from k 0) to₀ i to × (i ≤ length from)

@@ -4,9 +4,6 @@ use Rattle.raising.proofs.ByteRules.{PutSo, put-laws, put-more}
 use borrow.Author.Needs.{needs}
 use Rattle.raising.proofs.bytes.put_labels.Statement.{statement}
 use Rattle.raising.proofs.bytes.put_labels.Tie as tie
-use Rattle.raising.proofs.bytes.put_labels.Reads as reads
-use Rattle.raising.proofs.bytes.put_labels.Lts as lts
-use Rattle.design.proofs.Design.put_register_label.Reads as put-register-label-reads
 
 abbrev Inv-loop : tie.InvT-loop
 Inv-loop design labels image₀ r₀ image r = PutSo (design .«registers_at») labels image₀ r image × (r ≤ length labels)

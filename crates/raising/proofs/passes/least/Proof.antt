@@ -7,9 +7,6 @@ use Rattle.raising.proofs.JoinRules.{least-found, least-none, label-fit
 use borrow.Author.Needs.{needs}
 use Rattle.raising.proofs.passes.least.Statement.{statement}
 use Rattle.raising.proofs.passes.least.Tie as tie
-use Rattle.raising.proofs.passes.least.Reads as reads
-use Rattle.raising.proofs.passes.least.Lts as lts
-use Rattle.checker_records.proofs.lattice.least_in.Reads as least-in-reads
 
 abbrev Inv-loop : tie.InvT-loop
 Inv-loop image design among k₀ k = Missed (leastIn (designOf image .rows) among) k

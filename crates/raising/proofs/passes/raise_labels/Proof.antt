@@ -4,9 +4,6 @@ use Rattle.raising.proofs.CommandRules.{TimesSo, times-none, times-more
 use borrow.Author.Needs.{needs}
 use Rattle.raising.proofs.passes.raise_labels.Statement.{statement}
 use Rattle.raising.proofs.passes.raise_labels.Tie as tie
-use Rattle.raising.proofs.passes.raise_labels.Reads as reads
-use Rattle.raising.proofs.passes.raise_labels.Lts as lts
-use Rattle.raising.proofs.passes.raise_once.Reads as raise-once-reads
 
 abbrev Inv-loop : tie.InvT-loop
 Inv-loop image design labels₀ most passes₀ labels passes = TimesSo (designOf image) labels₀ most passes labels × (passes ≤ most)

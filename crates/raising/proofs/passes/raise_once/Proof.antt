@@ -5,9 +5,6 @@ use Rattle.raising.proofs.CommandRules.{OnceSo, once-none, once-more, o
 use borrow.Author.Needs.{needs}
 use Rattle.raising.proofs.passes.raise_once.Statement.{statement}
 use Rattle.raising.proofs.passes.raise_once.Tie as tie
-use Rattle.raising.proofs.passes.raise_once.Reads as reads
-use Rattle.raising.proofs.passes.raise_once.Lts as lts
-use Rattle.raising.proofs.passes.raise_state.Reads as raise-state-reads
 
 abbrev Inv-loop : tie.InvT-loop
 Inv-loop image design labels₀ moved₀ s₀ labels moved s = OnceSo (designOf image) labels₀ s labels moved × (s ≤ design .states)

@@ -2,15 +2,6 @@ use Rattle.raising.proofs.PassRules.{assignment-laws}
 use borrow.Author.Needs.{needs}
 use Rattle.raising.proofs.passes.raise_register.Statement.{statement}
 use Rattle.raising.proofs.passes.raise_register.Tie as tie
-use Rattle.raising.proofs.passes.raise_register.Reads as reads
-use Rattle.raising.proofs.passes.raise_register.Lts as lts
-use Rattle.checker_bodies.proofs.flow.reads.Reads as reads-reads
-use Rattle.design.proofs.Design.item.Reads as item-reads
-use Rattle.design.proofs.Design.part_a.Reads as part-a-reads
-use Rattle.design.proofs.Design.row.Reads as row-reads
-use Rattle.design.proofs.rows.bit.Reads as bit-reads
-use Rattle.design.proofs.wide.Reads as wide-reads
-use Rattle.raising.proofs.passes.least.Reads as least-reads
 
 item-requires : tie.Need-item-requires
 item-requires c κs = search needs

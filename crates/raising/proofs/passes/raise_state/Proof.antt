@@ -6,12 +6,6 @@ use borrow.Author.Needs.{needs}
 use borrow.Author.Needs.{needs}
 use Rattle.raising.proofs.passes.raise_state.Statement.{statement}
 use Rattle.raising.proofs.passes.raise_state.Tie as tie
-use Rattle.raising.proofs.passes.raise_state.Reads as reads
-use Rattle.raising.proofs.passes.raise_state.Lts as lts
-use Rattle.design.proofs.Design.row.Reads as row-reads
-use Rattle.design.proofs.Design.state_command.Reads as state-command-reads
-use Rattle.design.proofs.Design.state_label.Reads as state-label-reads
-use Rattle.raising.proofs.passes.raise_command.Reads as raise-command-reads
 
 state-label-requires : tie.Need-state-label-requires
 state-label-requires c κs = search needs
