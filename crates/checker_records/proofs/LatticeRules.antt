@@ -32,7 +32,7 @@ and-false-second true b e = e
 and-false-second false b e = refl
 
 -- tests that agree at every index below n agree over all of them, and over some of them
-all-same : (p q : ℕ → Bool) (n : ℕ) → ((k : ℕ) → k < n → p k ≡ q k) → allBelow p n ≡ allBelow q n
+pub all-same : (p q : ℕ → Bool) (n : ℕ) → ((k : ℕ) → k < n → p k ≡ q k) → allBelow p n ≡ allBelow q n
 unfolding allBelow
 all-same p q zero h = refl
 all-same p q (suc n) h = ap₂ (λ (c d : Bool). c && d) (all-same p q n (λ k l. h k (omega arith))) (h n (omega arith))

@@ -7,7 +7,7 @@ use native.Mathlib.Omega.{arith}
 use lib.ListN.{length, getD}
 use Rattle.model.specs.declared.Found.{Found}
 use Rattle.model.specs.declared.Found.the-variants.{At, Nowhere}
-use Rattle.model.specs.Indices.{lowest, allBelow}
+use Rattle.model.specs.Indices.{lowest}
 use Rattle.model.specs.Lattice.{flowsTo, implies}
 use Rattle.model.specs.States.{foundOr}
 use Rattle.model.specs.Raising.{leastAboveAll, joinOf}
@@ -19,6 +19,7 @@ use Rattle.design.specs.Describes.{Describes}
 use Rattle.design.proofs.Laws.{labels-most}
 use Rattle.checker_records.specs.LabelTests.{leastIn}
 use Rattle.checker_records.proofs.Subsets.{bitOf, inside}
+use Rattle.checker_records.proofs.LatticeRules.{all-same}
 use Rattle.checker_bodies.specs.Flows.{MaskOf}
 use Rattle.raising.specs.Passes.{leastOf}
 
@@ -27,11 +28,6 @@ lowest-same : (p q : ℕ → Bool) (n : ℕ) → ((k : ℕ) → k < n → p k �
 unfolding lowest
 lowest-same p q zero h = refl
 lowest-same p q (suc n) h = rw (lowest-same p q n (λ k l. h k (omega arith)), h n (omega arith))
-
-all-same : (p q : ℕ → Bool) (n : ℕ) → ((k : ℕ) → k < n → p k ≡ q k) → allBelow p n ≡ allBelow q n
-unfolding allBelow
-all-same p q zero h = refl
-all-same p q (suc n) h = rw (all-same p q n (λ k l. h k (omega arith)), h n (omega arith))
 
 module _ (rows labels : List ℕ) (among : ℕ) (mask : MaskOf rows labels among) (small : among < 2 ^ length rows) where
   least-same : (k : ℕ) → k < length rows → leastIn rows among k ≡ leastAboveAll rows labels k

@@ -4,8 +4,8 @@ use Prim.Native.Nat.{ℕ, _+_, _*_, _≤_}
 use mathlib.Core.Path.{_≡_, refl, sym, _∙_, ap, ap₂}
 use mathlib.Core.List.{List}
 use native.Mathlib.Omega.{arith}
-use lib.ListN.{length, take}
-use lib.Seq.{ext-getD, length-take-le}
+use lib.ListN.{length}
+use lib.Seq.{ext-getD}
 use borrow.Author.Tests.{eq-eqb, ne-eqb}
 use Rattle.model.specs.declared.Refusal.{Refusal}
 use Rattle.model.specs.declared.Refusal.the-variants.{Area, NoRaising}
@@ -33,10 +33,6 @@ use Rattle.raising.specs.Stages.{leftOutAs, raiseWithin, raiseOn}
 -- ---- once the structure is accepted
 pub structured-directory : (image : List ℕ) → structure image ≡ Accepted 0 → DirectoryKeeps image
 structured-directory image h = structure-exact image .0 h .0
-
--- a part of a table has the length asked for
-pub part-length : (n : ℕ) (bytes : List ℕ) → n ≤ length bytes → n ≡ length (take n bytes)
-part-length n bytes h = sym (length-take-le n bytes h)
 
 -- the table of a design's own labels
 pub own-enough : {n : ℕ} (table : List ℕ) → length table ≡ n → n ≤ length table

@@ -1,6 +1,7 @@
+use mathlib.Core.Path.{sym}
 use lib.Seq.{length-take-le}
 use Rattle.design.proofs.LabelRules.{registers-few}
-use Rattle.raising.proofs.StageRules.{structured-directory, part-length}
+use Rattle.raising.proofs.StageRules.{structured-directory}
 use borrow.Author.Needs.{needs}
 use Rattle.raising.proofs.raise_sized.Statement.{statement}
 use Rattle.raising.proofs.raise_sized.Tie as tie
@@ -12,7 +13,7 @@ array-borrow-prefix-table : tie.Need-array-borrow-prefix-table
 array-borrow-prefix-table c = search (registers-few, needs)
 
 slice-aggregate-raise-within : tie.Need-slice-aggregate-raise-within
-slice-aggregate-raise-within c = part-length _ _ (search (registers-few, needs))
+slice-aggregate-raise-within c = sym (length-take-le _ _ (search (registers-few, needs)))
 
 raise-within-requires : tie.Need-raise-within-requires
 raise-within-requires c κs = (search needs, search needs, length-take-le _ _ (search (registers-few, needs)), search needs)
