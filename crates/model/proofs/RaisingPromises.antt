@@ -7,11 +7,12 @@ use mathlib.Core.Bool.{true}
 use mathlib.Core.List.{List}
 use lib.ListN.{length}
 use Rattle.model.specs.declared.Answer.the-variants.{Accepted}
+use Rattle.model.specs.Image.{designOf}
 use Rattle.model.specs.Answers.{numbersOf}
-use Rattle.model.specs.Raising.{AcceptedRaising, LeastRaising, accepts, raisedImage, raise}
+use Rattle.model.specs.Raising.{AcceptedRaising, LeastRaising, accepts, raisedOnce, raisedLabels, raisedImage, raise}
 use Rattle.model.specs.Refusals.{raiseTable, AnswersBy}
 use Rattle.model.specs.Verdict.{structure, verdict}
-use Rattle.model.proofs.Raising.Theorem.{exists-exactly}
+use Rattle.model.proofs.Raising.Theorem.{exists-exactly, at-rest}
 use Rattle.model.proofs.Raising.Calls.{raise-answers, raise-refused, raise-least, raise-comes-back, raise-twice, raise-whatever-held}
 
 -- "Given an image that passes all checks up to 9, 16 included"; "An output area not as long as the image is refusal 14, judged after the image checks. It refuses
@@ -28,6 +29,10 @@ raising-exists-exactly = exists-exactly
 -- result is the least: every accepted raising gives each register a label at or above ours."
 pub raised-least : (image out : List ℕ) → numbersOf (raise image out .answer) .number ≡ 0 → LeastRaising image (raise image out .out)
 raised-least = raise-least
+
+-- The passes come to rest: one more would move nothing.
+pub raised-at-rest : (image : List ℕ) → structure image ≡ Accepted 0 → raisedOnce (designOf image) (raisedLabels (designOf image)) ≡ raisedLabels (designOf image)
+raised-at-rest = at-rest
 
 -- "An accepted image comes back unchanged."
 pub accepted-comes-back : (image out : List ℕ) → verdict image ≡ Accepted 0 → length out ≡ length image → raise image out ≡ record { answer = Accepted 0; out = image }

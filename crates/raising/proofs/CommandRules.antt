@@ -20,6 +20,7 @@ use Rattle.model.specs.Labelling.{relabelled}
 use Rattle.model.specs.Rules.{CommandHolds}
 use Rattle.model.specs.Raising.{labelsReadBy, raisedBy, raisedByStates, raisedOnce, raisedTimes}
 use Rattle.model.proofs.Laws.Booleans.{not-true}
+use Rattle.model.proofs.Raising.Settled.{raised-stays}
 use Rattle.model.proofs.Laws.Trees.{cmd-skip, cmd-sequence, cmd-fall, cmd-goto, cmd-branch}
 use Rattle.design.specs.declared.Design.{Design}
 use Rattle.design.specs.Records.{nodeIn, rowIn, stateIn}
@@ -176,12 +177,6 @@ pub record TimesSo (d : Table) (start : List ℕ) (most i : ℕ) (now : List ℕ
   pub labelling : Labelling d now
   pub left : raisedTimes d (most - i) now ≡ raisedTimes d most start
 
--- where a pass moves nothing, none does
-pub times-stay : (d : Table) (labels : List ℕ) → raisedOnce d labels ≡ labels → (n : ℕ) → raisedTimes d n labels ≡ labels
-unfolding raisedTimes
-times-stay d labels e zero = refl
-times-stay d labels e (suc n) = rw e (times-stay d labels e n)
-
 module _ {d : Table} {start : List ℕ} {most : ℕ} where
   pub times-none : Labelling d start → TimesSo d start most 0 start
   times-none own = record { labelling = own; left = let all : most - 0 ≡ most = omega arith in rw all refl }
@@ -195,7 +190,7 @@ module _ {d : Table} {start : List ℕ} {most : ℕ} where
   pub times-still : {i n : ℕ} {now after : List ℕ} {moved : Bool} → RaisedTo d (raisedOnce d now) now after moved → not moved ≡ true → TimesSo d start most i now → most ≡ n → after ≡ raisedTimes d n start
   times-still {i} {now = now} {moved = moved} to h so e =
       let still = to .change .still (not-true moved h) in
-      still ∙ sym (times-stay d now (sym (to .is) ∙ still) (most - i)) ∙ so .left ∙ ap (λ (n : ℕ). raisedTimes d n start) e
+      still ∙ sym (raised-stays d now (most - i) (sym (to .is) ∙ still)) ∙ so .left ∙ ap (λ (n : ℕ). raisedTimes d n start) e
 
   pub times-all : {i n : ℕ} {now : List ℕ} → TimesSo d start most i now → most ≤ i → most ≡ n → now ≡ raisedTimes d n start
   unfolding raisedTimes

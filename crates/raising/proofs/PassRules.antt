@@ -6,11 +6,10 @@ use mathlib.Core.Bool.{Bool, true, false, _||_}
 use mathlib.Core.List.{List, _∷_, _++_}
 use native.Mathlib.Omega.{arith}
 use native.Mathlib.Nat.{lt-of-le-of-lt}
-use native.Mathlib.Decide.{ℕ-discrete}
 use lib.Bits.{bitAnd, and-le-l}
 use lib.Dec.{eqb}
 use lib.ListN.{length, getD, set, length-set}
-use lib.Seq.{getD-set-same, getD-set-other, set-getD}
+use lib.Seq.{set-getD}
 use Rattle.model.specs.Image.{Design as Table, Node, designOf}
 use Rattle.model.specs.Kinds.{commandKind}
 use Rattle.model.specs.Trees.{exprOf, cmdOf}
@@ -19,6 +18,7 @@ use Rattle.model.specs.Labelling.{relabelled}
 use Rattle.model.specs.Raising.{joinOf, labelsReadBy, raisedBy}
 use Rattle.model.proofs.Laws.Joins.{flow-tail, join-stays}
 use Rattle.model.proofs.Laws.Relabelling.{labels-read}
+use Rattle.model.proofs.Raising.Orders.{set-cases}
 use Rattle.model.proofs.Laws.Trees.{cmd-assign}
 use Rattle.design.specs.declared.Design.{Design}
 use Rattle.design.specs.Records.{nodeIn, rowIn, rowEnd}
@@ -138,14 +138,13 @@ module _ {image labels : List ℕ} {x : Design} (here : Raising image x labels) 
             let below = entry-below fr fl in
             let label : v < length rows = rw fv (least-label rows (bitAnd own (bitAnd mask m)) (omega arith)) in
             let long = length-set labels r v in
-            let inside = register-below fr in
             let exact = here .labelling .exact in
             record {
               change =
                   record {
                     labelling =
                         record {
-                          kept = record { enough = omega arith; inside = λ k l. entry k l label inside (ℕ-discrete k r) };
+                          kept = record { enough = omega arith; inside = λ k l. set-cases (λ label. label < length rows) labels r v k (λ same. label) (here .labelling .kept .inside k l) };
                           exact = long ∙ exact;
                         };
                     still = λ e. absurd (let z : _≡_ {A = ℕ} 0 1 = cc in omega arith);
@@ -155,9 +154,5 @@ module _ {image labels : List ℕ} {x : Design} (here : Raising image x labels) 
                   let join = least-is-join rows _ (bitAnd own (bitAnd mask m)) (above-mask around) (lt-of-le-of-lt (and-le-l own (bitAnd mask m)) row) in
                   sym (raised-is context ∙ ap (set labels r) (sym (fv ∙ join)));
             }
-          where
-            entry : (k : ℕ) → k < length (designOf image .registers) → v < length (designOf image .rows) → r < length (designOf image .registers) → Dec (k ≡ r) → getD (set labels r v) k 0 < length (designOf image .rows)
-            entry k l label inside (yes same) = let exact = here .labelling .exact in rw (same, getD-set-same labels r v 0 (omega arith)) label
-            entry k l label inside (no other) = rw (getD-set-other labels r k v 0 (λ same. other same)) (here .labelling .kept .inside k l)
 
 pub ruleset assignment-laws = (entry-inside, entry-row-inside, entry-small, assigned-gathers, assignment-still, assignment-raises)

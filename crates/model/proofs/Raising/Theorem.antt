@@ -14,7 +14,7 @@ use Rattle.model.specs.Image.{Registers, byteAt, offset, Design, designO
 use Rattle.model.specs.Lattice.{registerLabel, stateLabel}
 use Rattle.model.specs.Trees.{bodyOf}
 use Rattle.model.specs.Labelling.{labelsOf, relabelled}
-use Rattle.model.specs.Raising.{IsInnerLabel, Raises, AcceptedRaising, LeastRaising, raisedLabels, putLabels, raisedImage, accepts}
+use Rattle.model.specs.Raising.{IsInnerLabel, Raises, AcceptedRaising, LeastRaising, raisedOnce, raisedLabels, putLabels, raisedImage, accepts}
 use Rattle.model.specs.Rules.{FlowsTo, Flows, DirectoryKeeps, StructureKeeps, Keeps}
 use Rattle.model.specs.Verdict.{structure, verdict}
 use Rattle.model.proofs.Laws.Images.{register-is, register-count}
@@ -193,3 +193,7 @@ comes-back image accepted =
     let back = labels-least image keeps rules image (accepted-raises-itself image good .raises) good in
     let same = below-same d (rules .lattice) (raisedLabels d) (labelsOf d) (own .valid) (own-valid d able) back (own .above) in
     ap (λ (labels : List ℕ). putLabels (offset image Registers) labels image) same ∙ own-labelled image keeps
+
+-- one pass more would move nothing
+pub at-rest : (image : List ℕ) → structure image ≡ Accepted 0 → raisedOnce (designOf image) (raisedLabels (designOf image)) ≡ raisedLabels (designOf image)
+at-rest image structured = let (keeps, rules) = structure-exact image .0 structured in raised-settled (designOf image) (raisable image keeps rules)
