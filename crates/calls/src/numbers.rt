@@ -26,5 +26,7 @@ pub fn number(refusal: Refusal) -> u32
         Refusal::PortAssigned => 16,
         Refusal::PortValue => 17,
         Refusal::NoRaising => 18,
+        Refusal::GateDirectory => 25,
+        Refusal::GateWire => 26,
     }
 }

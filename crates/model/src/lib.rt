@@ -39,6 +39,8 @@ pub enum Refusal {
     PortAssigned,
     PortValue,
     NoRaising,
+    GateDirectory,
+    GateWire,
 }
 
 // What a call answers: an acceptance with its count (a run's cycles, else 0), or a refusal with its place.

@@ -1,4 +1,5 @@
--- The numbers that a host is told say which answer it is: a table of refusals by their numbers gives each back, and none has number 0.
+-- The numbers that a host is told say which answer it is: a table of refusals by their numbers, with any refusal where a number is none's, gives each back, and none has
+-- number 0.
 use Prim.Native.Nat.{ℕ}
 use mathlib.Core.Path.{_≡_, refl, sym, _∙_, ap}
 use mathlib.Core.Logic.{_↔_}
@@ -6,7 +7,7 @@ use mathlib.Core.List.{[], _∷_}
 use native.Mathlib.Omega.{arith}
 use lib.ListN.{getD}
 use Rattle.model.specs.declared.Refusal.{Refusal}
-use Rattle.model.specs.declared.Refusal.the-variants.{Directory, LabelRow, RegisterRecord, StateRecord, NodeRecord, NodeUse, Depth, Shape, ChildLabel, AssignFlow, GotoFlow, FallFlow, NoPort, Area, CycleCount, PortAssigned, PortValue, NoRaising}
+use Rattle.model.specs.declared.Refusal.the-variants.{Directory, LabelRow, RegisterRecord, StateRecord, NodeRecord, NodeUse, Depth, Shape, ChildLabel, AssignFlow, GotoFlow, FallFlow, NoPort, Area, CycleCount, PortAssigned, PortValue, NoRaising, GateDirectory, GateWire}
 use Rattle.model.specs.declared.Answer.{Answer}
 use Rattle.model.specs.declared.Answer.the-variants.{Accepted, Refused}
 use Rattle.model.specs.Answers.{Numbers, numberOf, numbersOf}
@@ -33,6 +34,14 @@ numbered n =
     ∷ PortAssigned
     ∷ PortValue
     ∷ NoRaising
+    ∷ Directory
+    ∷ Directory
+    ∷ Directory
+    ∷ Directory
+    ∷ Directory
+    ∷ Directory
+    ∷ GateDirectory
+    ∷ GateWire
     ∷ [])
     n
     Directory
@@ -56,6 +65,8 @@ numbered-back CycleCount = refl
 numbered-back PortAssigned = refl
 numbered-back PortValue = refl
 numbered-back NoRaising = refl
+numbered-back GateDirectory = refl
+numbered-back GateWire = refl
 
 -- two refusals of one number are one
 pub same-number : (r q : Refusal) → numberOf r ≡ numberOf q → r ≡ q

@@ -1,0 +1,1 @@
+// The meaning of gate tables stands in specs/ and proofs/; crate `gates` has the code.
