@@ -4,3 +4,5 @@ pub mod Contracts
 pub mod Promises
 pub mod RaiseContracts
 pub mod RaisePromises
+pub mod GateAnswered
+pub mod GateContracts

@@ -7,7 +7,9 @@ ghost use Rattle.model.specs.Answers.{numbersOf};
 ghost use Rattle.model.specs.Calls.{check, registersLength, targetsLength, reset, writePort, run};
 ghost use Rattle.model.specs.Raising.{raise};
 ghost use Rattle.design.specs.Resets.{lends};
+ghost use Rattle.gates_model.specs.Calls.{gatesCheck, gatesReset, gatesCycle};
 ghost use Rattle.caisson.specs.Told.{told, toldLeft, inNumbers, toldLeftRegisters, registersInNumbers, toldLeftOut, outInNumbers};
+ghost use Rattle.caisson.specs.ToldGates.{toldLeftFlipFlops, flipFlopsInNumbers};
 
 // An answer as the host is given it: caisson_answer in the header.
 #[repr(C)]
@@ -109,5 +111,36 @@ pub extern "C" fn caisson_raise(image: &[u8], out: &mut [u8]) -> HostAnswer
     ensures { λ r. ⌜ toldLeftOut r (now (out .exit)) ≡ outInNumbers (raise (now (image .entry)) (now (out .entry))) ⌝ }
 {
     let answer = raising::raise(image, out);
+    in_numbers(answer)
+}
+
+// The verdict on a gate table.
+#[no_mangle]
+pub extern "C" fn caisson_gates_check(table: &[u8]) -> HostAnswer
+    ensures { λ r. ⌜ told r ≡ numbersOf (gatesCheck (now (table .entry))) ⌝ }
+{
+    let answer = gates::check(table);
+    in_numbers(answer)
+}
+
+// The start values and marks of a gate table's flip-flops.
+#[no_mangle]
+pub extern "C" fn caisson_gates_reset(table: &[u8], flipflops: &mut [u8]) -> HostAnswer
+    ensures { λ r. ⌜ toldLeftFlipFlops r (now (flipflops .exit)) ≡ flipFlopsInNumbers (gatesReset (now (table .entry)) (now (flipflops .entry))) ⌝ }
+{
+    let answer = gates::reset(table, flipflops);
+    in_numbers(answer)
+}
+
+// One cycle of a gate table.
+#[no_mangle]
+pub extern "C" fn caisson_gates_cycle(
+    table: &[u8],
+    inputs: &[u8],
+    flipflops: &mut [u8],
+) -> HostAnswer
+    ensures { λ r. ⌜ toldLeftFlipFlops r (now (flipflops .exit)) ≡ flipFlopsInNumbers (gatesCycle (now (table .entry)) (now (inputs .entry)) (now (flipflops .entry))) ⌝ }
+{
+    let answer = gates::cycle(table, inputs, flipflops);
     in_numbers(answer)
 }

@@ -1,0 +1,24 @@
+use Rattle.caisson.proofs.GateAnswered.{flipflops-told}
+use borrow.Author.Needs.{needs}
+use Rattle.caisson.proofs.caisson_gates_reset.Statement.{statement}
+use Rattle.caisson.proofs.caisson_gates_reset.Tie as tie
+use Rattle.caisson.proofs.caisson_gates_reset.Reads as reads
+use Rattle.caisson.proofs.caisson_gates_reset.Lts as lts
+use Rattle.caisson.proofs.in_numbers.Reads as in-numbers-reads
+use Rattle.gates.proofs.reset.Reads as reset-reads
+
+reset-requires : tie.Need-reset-requires
+reset-requires c κs = search needs
+
+in-numbers-requires : tie.Need-in-numbers-requires
+in-numbers-requires c κs = search needs
+
+same-length : tie.Need-same-length
+same-length c = search needs
+
+returns : tie.Need-returns
+returns c = search (flipflops-told, needs)
+
+pub caisson-gates-reset-spec : {M : Type 1} → statement M
+caisson-gates-reset-spec =
+    tie.close (tie.spec reset-requires in-numbers-requires same-length returns)
