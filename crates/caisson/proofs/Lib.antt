@@ -6,3 +6,4 @@ pub mod RaiseContracts
 pub mod RaisePromises
 pub mod GateAnswered
 pub mod GateContracts
+pub mod GatePromises

@@ -3,3 +3,4 @@ pub mod Tables
 pub mod Kinds
 pub mod Areas
 pub mod Wires
+pub mod Calls

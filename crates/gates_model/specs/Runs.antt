@@ -10,10 +10,12 @@ use Rattle.model.specs.declared.Answer.{Answer}
 use Rattle.model.specs.declared.Answer.the-variants.{Accepted, Refused}
 use Rattle.model.specs.Indices.{tabulate}
 use Rattle.model.specs.Image.{byteAt}
+use Rattle.model.specs.Refusals.{Pass}
 use Rattle.gates_model.specs.Tables.{Table, tableOf, markAt}
 use Rattle.gates_model.specs.Signals.{Signal}
 use Rattle.gates_model.specs.Cycle.{signalIn, cycled}
 use Rattle.gates_model.specs.Calls.{LeftFlipFlops, gatesReset, gatesCycle}
+use Rattle.gates_model.specs.Rules.{resetTable, cycleTable}
 
 -- "equal in marks and trusted values"
 pub record SignalsAgree (a b : Signal) : Type 0 where
@@ -42,6 +44,11 @@ pub data Call : Type 0 where
 unfoldable pub perform : List ℕ → List ℕ → Call → LeftFlipFlops
 perform table area resets = gatesReset table area
 perform table area (cycles inputs) = gatesCycle table inputs area
+
+-- the refusals of a call of a list, in the order of judging
+abbrev pub callTable : List ℕ → List ℕ → Call → List Pass
+callTable table area resets = resetTable table area
+callTable table area (cycles inputs) = cycleTable table inputs area
 
 -- the area after all calls of a list
 unfoldable pub atEnd : List ℕ → List ℕ → List Call → List ℕ

@@ -1,0 +1,3 @@
+-- Two runs of one table that agree stay so.
+pub mod Wires
+pub mod Runs
