@@ -1,15 +1,14 @@
 -- The promises about gate tables as a C host has them. Each takes the postconditions of the exported functions (`GateContracts.antt`), and no more.
 use Prim.Native.Nat.{ℕ}
-use mathlib.Core.Path.{_≡_, refl, sym, _∙_, ap}
+use mathlib.Core.Path.{_≡_, sym, _∙_, ap}
 use mathlib.Core.Logic.{_↔_}
 use mathlib.Core.List.{List, [], _∷_}
 use Rattle.model.specs.declared.Refusal.{Refusal}
-use Rattle.model.specs.declared.Answer.the-variants.{Accepted}
 use Rattle.model.specs.Answers.{Numbers, numberOf, numbersOf}
 use Rattle.model.specs.Refusals.{FirstBroken, AnswersBy}
-use Rattle.gates_model.specs.Tables.{Table, tableOf}
+use Rattle.gates_model.specs.Tables.{tableOf}
 use Rattle.gates_model.specs.Rules.{TableKeeps, checkTable}
-use Rattle.gates_model.specs.Runs.{Agree, Call, resets, cycles, perform, callTable, atEnd, remains}
+use Rattle.gates_model.specs.Runs.{Agree, Call, perform, callTable, atEnd, remains}
 use Rattle.gates_model.proofs.Promises as meaning
 use Rattle.caisson.specs.declared.HostAnswer.{HostAnswer}
 use Rattle.caisson.specs.Told.{told}

@@ -1,24 +1,24 @@
 -- The flip-flops' area: pairs that a loop writes from the front, and what is lent by its wire.
 use Prim.Native.Nat.{ℕ, _+_, _-_, _*_, _/_, _%_, _≤_, _<_}
-use mathlib.Core.Path.{_≡_, refl, sym, _∙_, ap, ap₂}
-use mathlib.Core.Bool.{Bool, cond, _&&_}
+use mathlib.Core.Path.{_≡_, _∙_, ap, ap₂}
+use mathlib.Core.Bool.{_&&_}
 use mathlib.Core.List.{List}
 use native.Mathlib.Omega.{arith}
 use native.Mathlib.Numerals.{add-one}
-use lib.Dec.{leb, ltb}
+use lib.Dec.{leb}
 use lib.ListN.{length, getD, set, length-set}
 use lib.Seq.{getD-set-same, getD-set-other}
 use borrow.Author.Tests.{lt-ltb, le-ltb}
 use Rattle.model.specs.Indices.{tabulate}
 use Rattle.model.specs.Image.{byteAt}
 use Rattle.model.proofs.Laws.Indices.{extend, nothing-below-zero}
-use Rattle.gates_model.specs.Tables.{Table, tableOf, flipFlopAt, wires as wiresOf}
+use Rattle.gates_model.specs.Tables.{tableOf, flipFlopAt, wires as wiresOf}
 use Rattle.gates_model.specs.Signals.{Signal, signal}
-use Rattle.gates_model.specs.Cycle.{bytesOf, signalAt, signalIn, nextSignal, signals, cycled, startSignal, started}
+use Rattle.gates_model.specs.Cycle.{bytesOf, signalIn, nextSignal, signals, cycled, startSignal, started}
 use Rattle.gates_model.proofs.Laws.Areas.{bytes-made, signal-made, length-made}
 use Rattle.gates.specs.declared.Gates.{Gates}
 use Rattle.gates.specs.Records.{flipFlopIn}
-use Rattle.gates.specs.Describes.{Describes, Accepts}
+use Rattle.gates.specs.Describes.{Accepts}
 use Rattle.gates.specs.Codes.{signalOf, Carries, Lends, Written, nextCode, takenSignal, taken, lentIn, putSignal}
 use Rattle.gates.proofs.Laws.{inputs-count, flipflops-count, gates-count, inputs-most, flipflops-most, gates-most, next-in, value-in, start-mark-in}
 use Rattle.gates.proofs.WireRules.{carried}

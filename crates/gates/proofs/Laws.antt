@@ -1,16 +1,15 @@
 -- A record by the place of its section is the table's record, and stands inside the table.
-use Prim.Native.Nat.{ℕ, _/_, _%_, _+_, _*_, _≤_, _<_}
+use Prim.Native.Nat.{ℕ, _/_, _+_, _*_, _≤_, _<_}
 use mathlib.Core.Path.{_≡_, sym, ap, _∙_}
 use mathlib.Core.Bool.{Bool, false, _&&_}
 use lib.Dec.{eqb, leb}
 use mathlib.Core.List.{List}
 use native.Mathlib.Omega.{arith}
-use lib.ListN.{length, getD}
+use lib.ListN.{length}
 use Rattle.model.specs.Image.{byteAt, word16At}
 use Rattle.model.proofs.Laws.Booleans.{false-unless-true}
 use Rattle.gates_model.specs.Limits.{directoryLength, inputsMax, flipFlopsMax, gatesMax}
 use Rattle.gates_model.specs.Tables.{Section, Inputs, FlipFlops, Gates as GateSection, recordLength, most, offset, size, end, sizeKept, sectionKept, offsetsKept, directoryKept, tableOf, markAt, flipFlopAt, gateAt}
-use Rattle.gates_model.specs.Rules.{DirectoryKeeps}
 use Rattle.gates_model.proofs.Exact.{directory-iff}
 use Rattle.gates_model.proofs.Laws.Tables.{mark-is, flipflop-is, gate-is, input-count, flipflop-count, gate-count}
 use Rattle.gates.specs.declared.Gates.{Gates}

@@ -5,9 +5,9 @@ use mathlib.Core.Bool.{Bool, true, false, not, _&&_}
 use mathlib.Core.List.{List}
 use native.Mathlib.Omega.{arith}
 use native.Mathlib.Decide.{decLt}
-use lib.Dec.{eqb, leb, ltb}
-use lib.ListN.{length, getD}
-use borrow.Author.Tests.{eq-eqb, ne-eqb, eqb-true}
+use lib.Dec.{eqb}
+use lib.ListN.{length}
+use borrow.Author.Tests.{eqb-true}
 use Rattle.model.specs.declared.Found.{Found}
 use Rattle.model.specs.declared.Found.the-variants.{At, Nowhere}
 use Rattle.model.specs.declared.Refusal.{Refusal}
@@ -18,11 +18,10 @@ use Rattle.model.specs.Indices.{lowest, lowestFailing}
 use Rattle.model.specs.Verdict.{_before_, refusedAt}
 use Rattle.model.proofs.Laws.Booleans.{not-true, not-false, and-first, and-second}
 use Rattle.model.proofs.Laws.Indices.{failing-none}
-use Rattle.gates_model.specs.Limits.{signalLength}
-use Rattle.gates_model.specs.Tables.{Table, tableOf, firstFlipFlop, firstGate}
+use Rattle.gates_model.specs.Tables.{tableOf, firstFlipFlop, firstGate}
 use Rattle.gates_model.specs.Signals.{IsSound}
 use Rattle.gates_model.specs.Verdict.{tableAnswer}
-use Rattle.gates_model.specs.Cycle.{signalIn, signalAt, sources, cycled, started}
+use Rattle.gates_model.specs.Cycle.{signalAt, sources, cycled, started}
 use Rattle.gates_model.specs.Rules.{TableKeeps, LentKeeps}
 use Rattle.gates_model.specs.Calls.{LeftFlipFlops, inputLent, flipFlopLent, areaAnswer, lengthsAnswer, lentKept, lentAnswer, gatesCheck, gatesReset, gatesResetAnswer, gatesCycle, gatesCycleAnswer}
 use Rattle.gates_model.proofs.Exact.{accepted-keeps, lent-iff}

@@ -9,7 +9,6 @@ use lib.ListN.{length}
 use Rattle.model.specs.declared.Found.{Found}
 use Rattle.model.specs.declared.Found.the-variants.{At, Nowhere}
 use Rattle.model.specs.declared.Refusal.the-variants.{GateDirectory, GateWire}
-use Rattle.model.specs.declared.Answer.{Answer}
 use Rattle.model.specs.declared.Answer.the-variants.{Accepted, Refused}
 use Rattle.model.specs.Indices.{lowestFailing}
 use Rattle.model.specs.Verdict.{_before_, refusedAt}

@@ -1,6 +1,6 @@
 -- The wires on the stack: a byte carries its signal, the sources are those that are lent, and each gate adds its own behind lower ones.
 use Prim.Native.Nat.{ℕ, _+_, _-_, _*_, _/_, _%_, _≤_, _<_}
-use mathlib.Core.Path.{_≡_, refl, sym, _∙_, ap, ap₂}
+use mathlib.Core.Path.{_≡_, sym, _∙_, ap, ap₂}
 use mathlib.Core.List.{List}
 use native.Mathlib.Omega.{arith}
 use native.Mathlib.Nat.{add-zero}
@@ -9,16 +9,14 @@ use lib.ListN.{length, getD, set}
 use lib.Seq.{getD-set-same, getD-set-other}
 use mir.Syntax.{w8}
 use mir.Val.{Fits}
-use Rattle.model.specs.Image.{byteAt}
 use Rattle.model.proofs.Laws.Indices.{extend, nothing-below-zero}
-use Rattle.gates_model.specs.Limits.{wiresMax}
 use Rattle.gates_model.specs.Tables.{Table, tableOf, gateAt, firstGate, wires}
 use Rattle.gates_model.specs.Signals.{Signal, IsSound, nand}
 use Rattle.gates_model.specs.Cycle.{signalAt, signalIn, inputSignal, sources, settled, signals}
 use Rattle.gates_model.proofs.Laws.Wires.{length-sources, source-input, source-flipflop, settled-lower, settled-gate, nand-sound}
 use Rattle.gates.specs.declared.Gates.{Gates}
 use Rattle.gates.specs.Records.{markIn, gateIn}
-use Rattle.gates.specs.Describes.{Describes, Accepts}
+use Rattle.gates.specs.Describes.{Accepts}
 use Rattle.gates.specs.Codes.{codeOf, signalOf, Carries, Lends}
 use Rattle.gates.proofs.Laws.{inputs-count, flipflops-count, gates-count, inputs-most, flipflops-most, gates-most, mark-in, first-in, second-in}
 

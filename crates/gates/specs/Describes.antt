@@ -1,5 +1,5 @@
 -- When a `Gates` by value describes a table: the directory keeps its rules, and the value has its counts and offsets.
-use Prim.Native.Nat.{ℕ, _+_}
+use Prim.Native.Nat.{ℕ}
 use mathlib.Core.Path.{_≡_}
 use mathlib.Core.List.{List}
 use Rattle.gates.specs.declared.Gates.{Gates}

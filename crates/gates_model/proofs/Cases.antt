@@ -2,13 +2,12 @@
 use Prim.Native.Nat.{ℕ, _+_}
 use mathlib.Core.Path.{_≡_, refl}
 use mathlib.Core.List.{List, [], _∷_, _++_, map}
-use lib.ListN.{length}
 use Rattle.gates_model.specs.Tables.{tableOf}
 use Rattle.gates_model.specs.Signals.{Signal, signal, nand}
 use Rattle.gates_model.specs.Cycle.{signalAt, signals}
 use Rattle.gates_model.specs.Calls.{gatesReset, gatesCycle}
-use Rattle.gates_model.specs.Runs.{Call, resets, cycles, Trace, wasReset, wasCycle, remains, areasAfter, atEnd}
-use Rattle.gates_model.proofs.Opened.{everything, accepted, refused, judged, told}
+use Rattle.gates_model.specs.Runs.{Call, resets, cycles, wasReset, wasCycle, remains, areasAfter, atEnd}
+use Rattle.gates_model.proofs.Opened.{everything, accepted, judged, told}
 use Rattle.gates_model.proofs.Worked.{multiplexer, counter, exchange, store}
 
 -- ---- the shadow NAND, row by row

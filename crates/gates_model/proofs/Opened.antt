@@ -1,6 +1,6 @@
 -- What the cases are written with: a name that opens the definitions (it stands for all that its `unfolding` line names), and short ways to put a case.
 use Prim.Native.Nat.{ℕ}
-use mathlib.Core.List.{List, [], _∷_}
+use mathlib.Core.List.{List}
 use Rattle.model.specs.Indices.{lowest, lowestFailing, tabulateFrom, tabulate}
 use Rattle.model.specs.Image.{recordsOf}
 use Rattle.model.specs.Verdict.{_before_, refusedAt}
@@ -10,7 +10,7 @@ use Rattle.gates_model.specs.Signals.{nand}
 use Rattle.gates_model.specs.Verdict.{inputKept, flipFlopKept, gateKept, wireKept, tableAnswer}
 use Rattle.gates_model.specs.Cycle.{bytesOf, sources, settled, signals, cycled, started}
 use Rattle.gates_model.specs.Calls.{LeftFlipFlops, areaAnswer, lengthsAnswer, lentKept, lentAnswer, gatesCheck, gatesResetAnswer, gatesReset, gatesCycleAnswer, gatesCycle}
-use Rattle.gates_model.specs.Runs.{Call, perform, atEnd, trustedInputs, remains, areasAfter}
+use Rattle.gates_model.specs.Runs.{perform, atEnd, trustedInputs, remains, areasAfter}
 
 unfoldable pub everything : ℕ
 unfolding lowest lowestFailing tabulateFrom tabulate recordsOf _before_ refusedAt sectionKept offsetsKept directoryKept sectionOf tableOf nand inputKept flipFlopKept gateKept wireKept tableAnswer bytesOf sources settled signals cycled started areaAnswer lengthsAnswer lentKept lentAnswer gatesCheck gatesResetAnswer gatesReset gatesCycleAnswer gatesCycle perform atEnd trustedInputs remains areasAfter

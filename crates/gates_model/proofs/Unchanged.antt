@@ -1,12 +1,11 @@
 -- Each call of a list by its own table of refusals, and what a refused call leaves: its area is then the one that was lent.
 use Prim.Native.Nat.{ℕ}
-use mathlib.Core.Path.{_≡_, refl, sym, _∙_, ap}
+use mathlib.Core.Path.{_≡_, refl, _∙_, ap}
 use mathlib.Core.List.{List}
 use Rattle.model.specs.declared.Answer.{Answer}
 use Rattle.model.specs.declared.Answer.the-variants.{Accepted, Refused}
-use Rattle.model.specs.Answers.{Numbers, numbersOf}
-use Rattle.model.specs.Refusals.{Pass, AnswersBy}
-use Rattle.gates_model.specs.Rules.{resetTable, cycleTable}
+use Rattle.model.specs.Answers.{numbersOf}
+use Rattle.model.specs.Refusals.{AnswersBy}
 use Rattle.gates_model.specs.Runs.{Call, resets, cycles, perform, callTable}
 use Rattle.gates_model.proofs.Exact.{reset-answers, cycle-answers}
 use Rattle.gates_model.proofs.Laws.Calls.{answerOf, call-answer, call-keeps}

@@ -3,7 +3,6 @@ use Prim.Native.Nat.{ℕ, _+_, _-_}
 use mathlib.Core.Bool.{Bool, _&&_, cond}
 use mathlib.Core.List.{List}
 use lib.Dec.{leb, ltb}
-use lib.ListN.{length}
 use Rattle.model.specs.declared.Refusal.the-variants.{GateDirectory, GateWire}
 use Rattle.model.specs.declared.Answer.{Answer}
 use Rattle.model.specs.Indices.{lowestFailing}

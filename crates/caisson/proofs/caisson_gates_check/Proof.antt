@@ -2,10 +2,6 @@ use Rattle.caisson.proofs.Answered.{same-answer}
 use borrow.Author.Needs.{needs}
 use Rattle.caisson.proofs.caisson_gates_check.Statement.{statement}
 use Rattle.caisson.proofs.caisson_gates_check.Tie as tie
-use Rattle.caisson.proofs.caisson_gates_check.Reads as reads
-use Rattle.caisson.proofs.caisson_gates_check.Lts as lts
-use Rattle.caisson.proofs.in_numbers.Reads as in-numbers-reads
-use Rattle.gates.proofs.check.Reads as check-reads
 
 check-requires : tie.Need-check-requires
 check-requires c κs = search needs

@@ -2,10 +2,6 @@ use Rattle.caisson.proofs.GateAnswered.{flipflops-told}
 use borrow.Author.Needs.{needs}
 use Rattle.caisson.proofs.caisson_gates_cycle.Statement.{statement}
 use Rattle.caisson.proofs.caisson_gates_cycle.Tie as tie
-use Rattle.caisson.proofs.caisson_gates_cycle.Reads as reads
-use Rattle.caisson.proofs.caisson_gates_cycle.Lts as lts
-use Rattle.caisson.proofs.in_numbers.Reads as in-numbers-reads
-use Rattle.gates.proofs.cycle.Reads as cycle-reads
 
 cycle-requires : tie.Need-cycle-requires
 cycle-requires c κs = search needs

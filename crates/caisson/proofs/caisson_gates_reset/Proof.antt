@@ -2,10 +2,6 @@ use Rattle.caisson.proofs.GateAnswered.{flipflops-told}
 use borrow.Author.Needs.{needs}
 use Rattle.caisson.proofs.caisson_gates_reset.Statement.{statement}
 use Rattle.caisson.proofs.caisson_gates_reset.Tie as tie
-use Rattle.caisson.proofs.caisson_gates_reset.Reads as reads
-use Rattle.caisson.proofs.caisson_gates_reset.Lts as lts
-use Rattle.caisson.proofs.in_numbers.Reads as in-numbers-reads
-use Rattle.gates.proofs.reset.Reads as reset-reads
 
 reset-requires : tie.Need-reset-requires
 reset-requires c κs = search needs

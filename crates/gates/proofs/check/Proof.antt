@@ -2,9 +2,6 @@ use Rattle.gates.proofs.StageRules.{check-is}
 use borrow.Author.Needs.{needs}
 use Rattle.gates.proofs.check.Statement.{statement}
 use Rattle.gates.proofs.check.Tie as tie
-use Rattle.gates.proofs.check.Reads as reads
-use Rattle.gates.proofs.check.Lts as lts
-use Rattle.gates.proofs.verdicts.verdict.Reads as verdict-reads
 
 verdict-requires : tie.Need-verdict-requires
 verdict-requires c κs = search needs

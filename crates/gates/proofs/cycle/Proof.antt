@@ -2,10 +2,6 @@ use Rattle.gates.proofs.StageRules.{refused-cycle, accepted-cycle, keep
 use borrow.Author.Needs.{needs}
 use Rattle.gates.proofs.cycle.Statement.{statement}
 use Rattle.gates.proofs.cycle.Tie as tie
-use Rattle.gates.proofs.cycle.Reads as reads
-use Rattle.gates.proofs.cycle.Lts as lts
-use Rattle.gates.proofs.stages.cycle.Reads as cycle-reads
-use Rattle.gates.proofs.verdicts.verdict.Reads as verdict-reads
 
 verdict-requires : tie.Need-verdict-requires
 verdict-requires c κs = search needs

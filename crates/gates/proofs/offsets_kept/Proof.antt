@@ -2,10 +2,6 @@ use Rattle.gates.proofs.Laws.{offsets-rule}
 use borrow.Author.Needs.{needs}
 use Rattle.gates.proofs.offsets_kept.Statement.{statement}
 use Rattle.gates.proofs.offsets_kept.Tie as tie
-use Rattle.gates.proofs.offsets_kept.Reads as reads
-use Rattle.gates.proofs.offsets_kept.Lts as lts
-use Rattle.gates.proofs.end.Reads as end-reads
-use Rattle.gates.proofs.offset.Reads as offset-reads
 
 offset-requires : tie.Need-offset-requires
 offset-requires c κs = search needs

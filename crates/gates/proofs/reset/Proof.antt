@@ -2,10 +2,6 @@ use Rattle.gates.proofs.StageRules.{refused-reset, accepted-reset, keep
 use borrow.Author.Needs.{needs}
 use Rattle.gates.proofs.reset.Statement.{statement}
 use Rattle.gates.proofs.reset.Tie as tie
-use Rattle.gates.proofs.reset.Reads as reads
-use Rattle.gates.proofs.reset.Lts as lts
-use Rattle.gates.proofs.stages.reset.Reads as reset-reads
-use Rattle.gates.proofs.verdicts.verdict.Reads as verdict-reads
 
 verdict-requires : tie.Need-verdict-requires
 verdict-requires c κs = search needs

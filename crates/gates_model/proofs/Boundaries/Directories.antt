@@ -6,7 +6,7 @@ use mathlib.Core.List.{List, [], _∷_, _++_, map}
 use lib.ListN.{replicate, take}
 use Rattle.gates_model.specs.Tables.{directoryKept}
 use Rattle.gates_model.proofs.Opened.{everything, accepted, refused, judged}
-use Rattle.gates_model.proofs.Worked.{laid, sections, assemble, flipFlop, gate, joined}
+use Rattle.gates_model.proofs.Worked.{laid, sections, flipFlop, gate, joined}
 
 -- "A directory like the image's, first offset 12": a table of nothing else is accepted, and a byte less or more is none
 shows-empty : map judged (sections [] [] [] ∷ [] ∷ take 11 (sections [] [] []) ∷ (sections [] [] [] ++ (0 ∷ [])) ∷ []) ≡ accepted ∷ refused 25 0 ∷ refused 25 0 ∷ refused 25 0 ∷ []

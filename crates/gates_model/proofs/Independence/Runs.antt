@@ -2,7 +2,7 @@
 -- of these keeps agreement.
 use Prim.Native.Nat.{ℕ, zero, suc, _<_}
 use mathlib.Core.Path.{_≡_, refl, sym, _∙_, ap}
-use mathlib.Core.Bool.{Bool, true, false, cond}
+use mathlib.Core.Bool.{cond}
 use mathlib.Core.List.{List, [], _∷_, cons-ne-nil}
 use native.Mathlib.Omega.{arith}
 use lib.Dec.{eqb}
@@ -11,13 +11,11 @@ use borrow.Author.Tests.{eq-eqb}
 use Rattle.model.specs.declared.Refusal.{Refusal}
 use Rattle.model.specs.declared.Answer.{Answer}
 use Rattle.model.specs.declared.Answer.the-variants.{Accepted, Refused}
-use Rattle.model.specs.Indices.{tabulate}
 use Rattle.model.specs.Image.{byteAt}
 use Rattle.model.proofs.Laws.Indices.{getD-tabulate}
 use Rattle.gates_model.specs.Tables.{Table, tableOf, markAt}
-use Rattle.gates_model.specs.Cycle.{signalIn, cycled, started}
-use Rattle.gates_model.specs.Calls.{LeftFlipFlops, gatesReset, gatesResetAnswer, gatesCycle, gatesCycleAnswer}
-use Rattle.gates_model.specs.Runs.{SignalsAgree, Agree, FedAlike, afterCycles, Call, resets, cycles, perform, atEnd, Trace, wasReset, wasCycle, trustedInputs, traceOf, kept, remains, areasAfter, AgreeEach, none, more, RunsIndependent}
+use Rattle.gates_model.specs.Cycle.{started}
+use Rattle.gates_model.specs.Runs.{Agree, FedAlike, afterCycles, Call, resets, cycles, perform, atEnd, Trace, wasReset, wasCycle, trustedInputs, traceOf, kept, remains, areasAfter, AgreeEach, none, more, RunsIndependent}
 use Rattle.gates_model.proofs.Laws.Calls.{answerOf, madeBy, call-answer, call-makes, call-keeps}
 use Rattle.gates_model.proofs.Independence.Wires.{cycle-agrees}
 

@@ -2,19 +2,16 @@
 -- trusted 0. So they agree at every flip-flop after the cycle.
 use Prim.Native.Nat.{ℕ, zero, suc, _+_, _-_, _≤_, _<_}
 use mathlib.Core.Path.{_≡_, refl, sym, _∙_, ap, ap₂}
-use mathlib.Core.Logic.{_⊎_, inl, inr, ⊎-elim}
-use mathlib.Core.Bool.{Bool, true, false, _&&_, _||_, cond}
+use mathlib.Core.Bool.{Bool, true, false, _&&_}
 use mathlib.Core.List.{List}
 use native.Mathlib.Omega.{arith}
 use native.Mathlib.Decide.{decLt}
-use native.Mathlib.Numerals.{add-one}
 use lib.Dec.{eqb}
 use lib.ListN.{length, List·getD-eq-default}
 use borrow.Author.Tests.{eqb-true}
-use Rattle.model.proofs.Laws.Booleans.{decide, and-first, and-second, or-cases}
 use Rattle.gates_model.specs.Tables.{Table, gateAt, flipFlopAt, firstFlipFlop, firstGate}
-use Rattle.gates_model.specs.Signals.{Signal, signal, isTrusted, isTrustedZero, nandValue, nand, MayHave}
-use Rattle.gates_model.specs.Cycle.{signalAt, noSignal, signalIn, inputSignal, sources, settled, signals, nextSignal, cycled}
+use Rattle.gates_model.specs.Signals.{Signal, isTrusted, isTrustedZero, nand}
+use Rattle.gates_model.specs.Cycle.{signalAt, noSignal, sources, settled, signals, nextSignal, cycled}
 use Rattle.gates_model.specs.Runs.{SignalsAgree, Agree, FedAlike}
 use Rattle.gates_model.proofs.Laws.Areas.{signal-made}
 use Rattle.gates_model.proofs.Laws.Wires.{length-sources, source-input, source-flipflop, length-settled, settled-lower, settled-gate}

@@ -4,9 +4,8 @@ use mathlib.Core.Path.{_≡_, refl, sym, _∙_, ap, ap₂}
 use mathlib.Core.List.{List, [], _∷_}
 use native.Mathlib.Omega.{arith}
 use native.Mathlib.Nat.{zero-add}
-use lib.ListN.{length, getD}
+use lib.ListN.{length}
 use Rattle.model.specs.Indices.{tabulateFrom, tabulate}
-use Rattle.model.specs.Image.{byteAt}
 use Rattle.gates_model.specs.Signals.{Signal}
 use Rattle.gates_model.specs.Cycle.{bytesOf, signalIn}
 

@@ -1,11 +1,10 @@
 -- A rule by the kind of a wire: what is asked of an input, of a flip-flop and of a gate, and that a test by kind says what the rule by kind does.
-use Prim.Native.Nat.{ℕ, _+_, _-_, _≤_, _<_}
-use mathlib.Core.Path.{_≡_, refl, sym, _∙_}
+use Prim.Native.Nat.{ℕ, _-_, _≤_, _<_}
+use mathlib.Core.Path.{_≡_, sym, _∙_}
 use mathlib.Core.Logic.{_↔_}
 use mathlib.Core.Bool.{Bool, true}
 use native.Mathlib.Omega.{arith}
 use native.Mathlib.Decide.{decLt}
-use lib.Dec.{ltb}
 use borrow.Author.Tests.{lt-ltb, le-ltb}
 use Rattle.gates_model.specs.Tables.{Table, firstFlipFlop, firstGate}
 use Rattle.gates_model.specs.Verdict.{byKind}

@@ -5,7 +5,7 @@ use mathlib.Core.List.{List}
 use native.Mathlib.Nat.{add-zero, add-assoc}
 use lib.ListN.{length, getD, drop}
 use lib.Seq.{getD-drop, drop-drop}
-use Rattle.model.specs.Image.{byteAt, word16At, recordsOf}
+use Rattle.model.specs.Image.{byteAt, word16At}
 use Rattle.model.proofs.Laws.Words.{length-recordsOf}
 use Rattle.model.proofs.Laws.Images.{record-at}
 use Rattle.gates_model.specs.Limits.{inputLength, flipFlopLength, gateLength}

@@ -1,11 +1,11 @@
 -- The signals of the wires by their numbers: inputs, then flip-flops, then one more for each gate, which leaves the lower ones as they are.
 use Prim.Native.Nat.{ℕ, zero, suc, _+_, _-_, _≤_, _<_}
-use mathlib.Core.Path.{_≡_, refl, sym, _∙_, ap}
+use mathlib.Core.Path.{_≡_, _∙_, ap}
 use mathlib.Core.Bool.{Bool, true, false, _&&_, _||_, cond}
 use mathlib.Core.List.{List, [], _∷_, _++_}
 use native.Mathlib.Omega.{arith}
 use lib.Dec.{eqb}
-use lib.ListN.{length, getD, length-append, List·getD-append}
+use lib.ListN.{length, length-append, List·getD-append}
 use lib.Seq.{getD-append-add, getD-at}
 use Rattle.model.specs.Indices.{tabulate}
 use Rattle.model.proofs.Laws.Indices.{length-tabulate, getD-tabulate}

@@ -2,11 +2,6 @@ use Rattle.gates.proofs.Laws.{too-short, directory-rule}
 use borrow.Author.Needs.{needs}
 use Rattle.gates.proofs.Gates.directory_kept.Statement.{statement}
 use Rattle.gates.proofs.Gates.directory_kept.Tie as tie
-use Rattle.gates.proofs.Gates.directory_kept.Reads as reads
-use Rattle.gates.proofs.Gates.directory_kept.Lts as lts
-use Rattle.gates.proofs.offsets_kept.Reads as offsets-kept-reads
-use Rattle.gates.proofs.section_kept.Reads as section-kept-reads
-use Rattle.gates.proofs.size.Reads as size-reads
 
 returns : tie.Need-returns
 returns c = too-short _ (c .if1 .taken)

@@ -2,8 +2,6 @@ use Rattle.gates.proofs.AreaRules.{lent-input, lent-flipflop}
 use borrow.Author.Needs.{needs}
 use Rattle.gates.proofs.areas.lent_kept.Statement.{statement}
 use Rattle.gates.proofs.areas.lent_kept.Tie as tie
-use Rattle.gates.proofs.areas.lent_kept.Reads as reads
-use Rattle.gates.proofs.areas.lent_kept.Lts as lts
 
 shared-slice-read-result : tie.Need-shared-slice-read-result
 shared-slice-read-result c = search needs

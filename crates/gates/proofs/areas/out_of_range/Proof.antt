@@ -4,9 +4,6 @@ use Rattle.model.proofs.Laws.Passes.{Passed, pass-laws}
 use Rattle.gates.specs.Codes.{lentIn}
 use Rattle.gates.proofs.areas.out_of_range.Statement.{statement}
 use Rattle.gates.proofs.areas.out_of_range.Tie as tie
-use Rattle.gates.proofs.areas.out_of_range.Reads as reads
-use Rattle.gates.proofs.areas.out_of_range.Lts as lts
-use Rattle.gates.proofs.areas.lent_kept.Reads as lent-kept-reads
 
 abbrev Inv-loop : tie.InvT-loop
 Inv-loop gates inputs area first-gate w₀ w = Passed (lentIn gates inputs area) w

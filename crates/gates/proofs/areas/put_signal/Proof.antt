@@ -2,8 +2,6 @@ use Rattle.gates.proofs.AreaRules.{second-inside}
 use borrow.Author.Needs.{needs}
 use Rattle.gates.proofs.areas.put_signal.Statement.{statement}
 use Rattle.gates.proofs.areas.put_signal.Tie as tie
-use Rattle.gates.proofs.areas.put_signal.Reads as reads
-use Rattle.gates.proofs.areas.put_signal.Lts as lts
 
 mul-at : tie.Need-mul-at
 mul-at c = search needs

@@ -2,10 +2,6 @@ use Rattle.gates.proofs.AreaRules.{lends-long, cycle-makes}
 use borrow.Author.Needs.{needs}
 use Rattle.gates.proofs.changes.cycle.Statement.{statement}
 use Rattle.gates.proofs.changes.cycle.Tie as tie
-use Rattle.gates.proofs.changes.cycle.Reads as reads
-use Rattle.gates.proofs.changes.cycle.Lts as lts
-use Rattle.gates.proofs.changes.take.Reads as take-reads
-use Rattle.gates.proofs.wires.settle.Reads as settle-reads
 
 slice-aggregate-settle : tie.Need-slice-aggregate-settle
 slice-aggregate-settle c = search needs

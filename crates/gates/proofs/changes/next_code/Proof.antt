@@ -2,9 +2,6 @@ use Rattle.gates.proofs.AreaRules.{next-inside, next-coded}
 use borrow.Author.Needs.{needs}
 use Rattle.gates.proofs.changes.next_code.Statement.{statement}
 use Rattle.gates.proofs.changes.next_code.Tie as tie
-use Rattle.gates.proofs.changes.next_code.Reads as reads
-use Rattle.gates.proofs.changes.next_code.Lts as lts
-use Rattle.gates.proofs.Gates.next.Reads as next-reads
 
 next-requires : tie.Need-next-requires
 next-requires c κs = search needs

@@ -9,11 +9,6 @@ use Rattle.gates.proofs.Laws.{flipflop-inside}
 use Rattle.gates.proofs.AreaRules.{pair-inside, put-long, written-none, start-more, start-whole}
 use Rattle.gates.proofs.changes.start.Statement.{statement}
 use Rattle.gates.proofs.changes.start.Tie as tie
-use Rattle.gates.proofs.changes.start.Reads as reads
-use Rattle.gates.proofs.changes.start.Lts as lts
-use Rattle.gates.proofs.Gates.start_mark.Reads as start-mark-reads
-use Rattle.gates.proofs.Gates.start_value.Reads as start-value-reads
-use Rattle.gates.proofs.areas.put_signal.Reads as put-signal-reads
 
 abbrev Inv-loop : tie.InvT-loop
 Inv-loop table gates area₀ at i₀ area i = Written (startSignal (tableOf table)) i area × (length area ≡ 2 * gates .flipflops)

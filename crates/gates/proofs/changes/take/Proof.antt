@@ -7,10 +7,6 @@ use Rattle.gates.specs.Codes.{takenSignal, Written}
 use Rattle.gates.proofs.AreaRules.{pair-inside, put-long, written-none, take-more, take-whole}
 use Rattle.gates.proofs.changes.take.Statement.{statement}
 use Rattle.gates.proofs.changes.take.Tie as tie
-use Rattle.gates.proofs.changes.take.Reads as reads
-use Rattle.gates.proofs.changes.take.Lts as lts
-use Rattle.gates.proofs.areas.put_signal.Reads as put-signal-reads
-use Rattle.gates.proofs.changes.next_code.Reads as next-code-reads
 
 abbrev Inv-loop : tie.InvT-loop
 Inv-loop table gates wires area₀ i₀ area i = Written (takenSignal (tableOf table) wires) i area × (length area ≡ 2 * gates .flipflops)

@@ -2,11 +2,6 @@ use Rattle.gates.proofs.StageRules.{accepts, lengths-wrong, lengths-rig
 use borrow.Author.Needs.{needs}
 use Rattle.gates.proofs.stages.cycle.Statement.{statement}
 use Rattle.gates.proofs.stages.cycle.Tie as tie
-use Rattle.gates.proofs.stages.cycle.Reads as reads
-use Rattle.gates.proofs.stages.cycle.Lts as lts
-use Rattle.gates.proofs.Gates.read.Reads as read-reads
-use Rattle.gates.proofs.stages.cycle_lent.Reads as cycle-lent-reads
-use Rattle.gates.proofs.stages.lengths_kept.Reads as lengths-kept-reads
 
 read-requires : tie.Need-read-requires
 read-requires c κs = search needs

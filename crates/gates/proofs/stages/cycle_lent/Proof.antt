@@ -2,10 +2,6 @@ use Rattle.gates.proofs.StageRules.{lent-wrong, lends-right, cycle-leav
 use borrow.Author.Needs.{needs}
 use Rattle.gates.proofs.stages.cycle_lent.Statement.{statement}
 use Rattle.gates.proofs.stages.cycle_lent.Tie as tie
-use Rattle.gates.proofs.stages.cycle_lent.Reads as reads
-use Rattle.gates.proofs.stages.cycle_lent.Lts as lts
-use Rattle.gates.proofs.areas.out_of_range.Reads as out-of-range-reads
-use Rattle.gates.proofs.changes.cycle.Reads as cycle-reads
 
 out-of-range-requires : tie.Need-out-of-range-requires
 out-of-range-requires c κs = search needs

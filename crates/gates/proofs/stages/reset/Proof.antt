@@ -2,11 +2,6 @@ use Rattle.gates.proofs.StageRules.{accepts, area-is, reset-refuses, re
 use borrow.Author.Needs.{needs}
 use Rattle.gates.proofs.stages.reset.Statement.{statement}
 use Rattle.gates.proofs.stages.reset.Tie as tie
-use Rattle.gates.proofs.stages.reset.Reads as reads
-use Rattle.gates.proofs.stages.reset.Lts as lts
-use Rattle.gates.proofs.Gates.read.Reads as read-reads
-use Rattle.gates.proofs.changes.start.Reads as start-reads
-use Rattle.gates.proofs.stages.area_kept.Reads as area-kept-reads
 
 read-requires : tie.Need-read-requires
 read-requires c κs = search needs

@@ -6,9 +6,6 @@ use Rattle.gates_model.specs.Tables.{tableOf}
 use Rattle.gates_model.specs.Verdict.{wireKept}
 use Rattle.gates.proofs.verdicts.faulty.Statement.{statement}
 use Rattle.gates.proofs.verdicts.faulty.Tie as tie
-use Rattle.gates.proofs.verdicts.faulty.Reads as reads
-use Rattle.gates.proofs.verdicts.faulty.Lts as lts
-use Rattle.gates.proofs.verdicts.wire_kept.Reads as wire-kept-reads
 
 abbrev Inv-loop : tie.InvT-loop
 Inv-loop table gates wires w₀ w = Passed (wireKept (tableOf table)) w

@@ -2,11 +2,6 @@ use Rattle.gates.proofs.VerdictRules.{flipflop-rule}
 use borrow.Author.Needs.{needs}
 use Rattle.gates.proofs.verdicts.flipflop_kept.Statement.{statement}
 use Rattle.gates.proofs.verdicts.flipflop_kept.Tie as tie
-use Rattle.gates.proofs.verdicts.flipflop_kept.Reads as reads
-use Rattle.gates.proofs.verdicts.flipflop_kept.Lts as lts
-use Rattle.gates.proofs.Gates.next.Reads as next-reads
-use Rattle.gates.proofs.Gates.start_mark.Reads as start-mark-reads
-use Rattle.gates.proofs.Gates.start_value.Reads as start-value-reads
 
 add-wires : tie.Need-add-wires
 add-wires c = search needs

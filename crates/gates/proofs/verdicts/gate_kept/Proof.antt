@@ -2,10 +2,6 @@ use Rattle.gates.proofs.VerdictRules.{gate-rule}
 use borrow.Author.Needs.{needs}
 use Rattle.gates.proofs.verdicts.gate_kept.Statement.{statement}
 use Rattle.gates.proofs.verdicts.gate_kept.Tie as tie
-use Rattle.gates.proofs.verdicts.gate_kept.Reads as reads
-use Rattle.gates.proofs.verdicts.gate_kept.Lts as lts
-use Rattle.gates.proofs.Gates.first.Reads as first-reads
-use Rattle.gates.proofs.Gates.second.Reads as second-reads
 
 add-own : tie.Need-add-own
 add-own c = search needs

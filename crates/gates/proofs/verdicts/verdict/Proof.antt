@@ -2,11 +2,6 @@ use Rattle.gates.proofs.VerdictRules.{directory-known, directory-refuse
 use borrow.Author.Needs.{needs}
 use Rattle.gates.proofs.verdicts.verdict.Statement.{statement}
 use Rattle.gates.proofs.verdicts.verdict.Tie as tie
-use Rattle.gates.proofs.verdicts.verdict.Reads as reads
-use Rattle.gates.proofs.verdicts.verdict.Lts as lts
-use Rattle.gates.proofs.Gates.directory_kept.Reads as directory-kept-reads
-use Rattle.gates.proofs.Gates.read.Reads as read-reads
-use Rattle.gates.proofs.verdicts.faulty.Reads as faulty-reads
 
 directory-kept-requires : tie.Need-directory-kept-requires
 directory-kept-requires c κs = search needs

@@ -2,11 +2,6 @@ use Rattle.gates.proofs.VerdictRules.{flipflop-number, gate-number, wir
 use borrow.Author.Needs.{needs}
 use Rattle.gates.proofs.verdicts.wire_kept.Statement.{statement}
 use Rattle.gates.proofs.verdicts.wire_kept.Tie as tie
-use Rattle.gates.proofs.verdicts.wire_kept.Reads as reads
-use Rattle.gates.proofs.verdicts.wire_kept.Lts as lts
-use Rattle.gates.proofs.verdicts.flipflop_kept.Reads as flipflop-kept-reads
-use Rattle.gates.proofs.verdicts.gate_kept.Reads as gate-kept-reads
-use Rattle.gates.proofs.verdicts.input_kept.Reads as input-kept-reads
 
 input-kept-requires : tie.Need-input-kept-requires
 input-kept-requires c κs = search needs

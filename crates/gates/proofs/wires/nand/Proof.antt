@@ -2,8 +2,6 @@ use borrow.Author.Needs.{needs}
 use Rattle.gates.proofs.NandRules.{nand-decided, nand-undecided, mark-fits, value-below}
 use Rattle.gates.proofs.wires.nand.Statement.{statement}
 use Rattle.gates.proofs.wires.nand.Tie as tie
-use Rattle.gates.proofs.wires.nand.Reads as reads
-use Rattle.gates.proofs.wires.nand.Lts as lts
 
 returns : tie.Need-returns
 returns c = search (nand-decided, needs)

@@ -8,9 +8,6 @@ use Rattle.gates.specs.Codes.{Carries}
 use Rattle.gates.proofs.WireRules.{carries-none, source-inside, source-carried, sources-carried}
 use Rattle.gates.proofs.wires.put_sources.Statement.{statement}
 use Rattle.gates.proofs.wires.put_sources.Tie as tie
-use Rattle.gates.proofs.wires.put_sources.Reads as reads
-use Rattle.gates.proofs.wires.put_sources.Lts as lts
-use Rattle.gates.proofs.wires.source.Reads as source-reads
 
 abbrev Inv-loop : tie.InvT-loop
 Inv-loop table gates inputs area wires₀ first-gate w₀ wires w = Carries (sources (tableOf table) inputs area) w wires × (length wires ≡ 4608) × (w ≤ first-gate)

@@ -9,12 +9,6 @@ use Rattle.gates.proofs.Laws.{gate-inside}
 use Rattle.gates.proofs.WireRules.{settled-begins, first-inside, first-small, second-inside, second-small, gate-inside-wires, gate-carried, gates-carried}
 use Rattle.gates.proofs.wires.settle.Statement.{statement}
 use Rattle.gates.proofs.wires.settle.Tie as tie
-use Rattle.gates.proofs.wires.settle.Reads as reads
-use Rattle.gates.proofs.wires.settle.Lts as lts
-use Rattle.gates.proofs.Gates.first.Reads as first-reads
-use Rattle.gates.proofs.Gates.second.Reads as second-reads
-use Rattle.gates.proofs.wires.nand.Reads as nand-reads
-use Rattle.gates.proofs.wires.put_sources.Reads as put-sources-reads
 
 abbrev Inv-loop : tie.InvT-loop
 Inv-loop table gates inputs area wires₀ first-gate g₀ wires g = Carries (settled (tableOf table) (sources (tableOf table) inputs area) g) (firstGate (tableOf table) + g) wires × (length wires ≡ 4608) × (g ≤ gates .gates)

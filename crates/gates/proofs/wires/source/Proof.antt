@@ -2,10 +2,6 @@ use Rattle.gates.proofs.WireRules.{input-read, mark-doubles, input-fits
 use borrow.Author.Needs.{needs}
 use Rattle.gates.proofs.wires.source.Statement.{statement}
 use Rattle.gates.proofs.wires.source.Tie as tie
-use Rattle.gates.proofs.wires.source.Reads as reads
-use Rattle.gates.proofs.wires.source.Lts as lts
-use Rattle.gates.proofs.Gates.mark.Reads as mark-reads
-use Rattle.gates.proofs.areas.signal.Reads as signal-reads
 
 shared-slice-read-result : tie.Need-shared-slice-read-result
 shared-slice-read-result c = search (input-read, needs)
