@@ -13,7 +13,7 @@ use Rattle.gates_model.specs.Tables.{Section, Inputs, FlipFlops, Gates as GateS
 use Rattle.gates_model.proofs.Exact.{directory-iff}
 use Rattle.gates_model.proofs.Laws.Tables.{mark-is, flipflop-is, gate-is, input-count, flipflop-count, gate-count}
 use Rattle.gates.specs.declared.Gates.{Gates}
-use Rattle.gates.specs.Records.{markIn, flipFlopIn, gateIn, inputEnd, flipFlopEnd, gateEnd}
+use Rattle.gates.specs.Records.{markIn, flipFlopIn, gateIn, flipFlopEnd, gateEnd}
 use Rattle.gates.specs.Describes.{Describes}
 
 -- a table too short for a directory has none that is kept
@@ -72,9 +72,6 @@ module _ {table : List ℕ} {x : Gates} (d : Describes table x) where
   gates-most = omega (arith, d .gates, d .directory .gates)
 
   -- ---- records stand inside the table
-  pub input-inside : {i : ℕ} → i < x .inputs → inputEnd i ≤ length table
-  input-inside l = omega (arith, d, d .directory, d .directory .inputs)
-
   pub flipflop-inside : {i : ℕ} → i < x .flipflops → flipFlopEnd (x .«flipflops_at») i ≤ length table
   flipflop-inside l = omega (arith, d, d .directory, d .directory .flipflops)
 

@@ -7,13 +7,12 @@ mod verdicts;
 mod wires;
 
 use model::Answer;
-ghost use Prim.Native.Nat.{_+_, _*_, _/_, _%_, _<_, _≤_};
-ghost use mathlib.Core.Bool.{_&&_};
+ghost use Prim.Native.Nat.{_+_, _*_, _<_, _≤_};
 ghost use mathlib.Core.Path.{_≡_};
 ghost use lib.ListN.{length};
 ghost use Rattle.model.specs.Image.{word16At};
 ghost use Rattle.gates_model.specs.Limits.{directoryLength, inputLength, flipFlopLength, gateLength, inputsMax, flipFlopsMax, gatesMax, wiresMax, signalLength, largestTable};
-ghost use Rattle.gates_model.specs.Tables.{sizeKept, offsetsKept, directoryKept, tableOf};
+ghost use Rattle.gates_model.specs.Tables.{sizeKept, offsetsKept, directoryKept};
 ghost use Rattle.gates_model.specs.Rules.{DirectoryKeeps};
 ghost use Rattle.gates_model.specs.Calls.{gatesCheck, gatesReset, gatesCycle};
 ghost use Rattle.gates.specs.Records.{markIn, flipFlopIn, gateIn, inputEnd, flipFlopEnd, gateEnd};

@@ -8,7 +8,6 @@ ghost use mathlib.Core.Path.{_≡_};
 ghost use Rattle.model.specs.Indices.{lowestFailing};
 ghost use Rattle.gates_model.specs.Tables.{tableOf, wires};
 ghost use Rattle.gates_model.specs.Verdict.{inputKept, flipFlopKept, gateKept, wireKept, tableAnswer};
-ghost use Rattle.gates_model.specs.Rules.{DirectoryKeeps};
 ghost use Rattle.gates.specs.Describes.{Describes};
 
 // The mark of input i is 0 or 1.

@@ -108,9 +108,6 @@ accepted-keeps table {count} e = go (table-decides table .either)
     go (inl h) = keeps-table table .1 (table-decides table .accepts .0 h)
     go (inr (refusal, place, h)) = absurd (refused-is-not-accepted refusal place count (sym h ∙ e))
 
-pub table-exact : (table : List ℕ) → (tableAnswer table ≡ Accepted 0) ↔ TableKeeps table
-table-exact table = Iff·trans (table-decides table .accepts) (keeps-table table .1, keeps-table table .0)
-
 answers-by : {a : Answer} {passes : List Pass} → Decides a 0 passes → AnswersBy passes 0 (numbersOf a)
 answers-by {a} d =
     record { accepted = Iff·trans (told-accepted a 0) (d .accepts); refused = λ r place. Iff·trans (told-refused a r place) (d .refuses r place) }
