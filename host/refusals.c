@@ -9,7 +9,8 @@ enum place {
     PLACE_REGISTER,
     PLACE_STATE,
     PLACE_NODE, /* a command, or from CAISSON_EXPRESSION_PLACE on an expression */
-    PLACE_AREA  /* 0 for a length, else a register or a state */
+    PLACE_AREA, /* 0 for a length, else a register or a state */
+    PLACE_WIRE  /* of a gate table, which this host does not run */
 };
 
 struct rule {
@@ -58,6 +59,9 @@ static void place_say(enum place place, size_t number)
             say(" at a length, register 0 or state 0");
         else
             say(" at register %zu or state %zu", number, number);
+        break;
+    case PLACE_WIRE:
+        say(" at wire %zu", number);
         break;
     }
 }

@@ -1,5 +1,6 @@
 /*
- * caisson.h: designs in Caisson tables, checked and run for a C host.
+ * caisson.h: designs in Caisson tables, checked and run for a C host; and gate tables, which stand for
+ * themselves at the end: what is said up to there is about designs.
  *
  * A design is a binary image of at most CAISSON_LARGEST_IMAGE bytes. The library keeps no state and
  * allocates nothing: a call works on the slices that it is lent and on its own stack, ends, and
@@ -61,7 +62,7 @@ extern "C" {
 
 /* The version of the library and the number of the image's format. CHANGELOG.md says when each moves;
    docs/FORMAT.md has the format byte by byte. */
-#define CAISSON_VERSION "2.4.0"
+#define CAISSON_VERSION "2.5.0"
 #define CAISSON_FORMAT 2
 
 /* Limits of a design table. */
@@ -85,8 +86,25 @@ extern "C" {
 #define CAISSON_WORD 4u                /* bytes of a register in its area */
 #define CAISSON_CYCLES 1000000u        /* most cycles of one run */
 
+/* Limits of a gate table; each count may be 0. */
+#define CAISSON_GATES_INPUTS 256u    /* most inputs */
+#define CAISSON_GATES_FLIPFLOPS 256u /* most flip-flops */
+#define CAISSON_GATES_GATES 4096u    /* most gates */
+
+/* Lengths in bytes: of the directory, of each record, of the largest gate table. */
+#define CAISSON_GATES_DIRECTORY_LENGTH 12u
+#define CAISSON_GATES_INPUT_LENGTH 1u
+#define CAISSON_GATES_FLIPFLOP_LENGTH 4u
+#define CAISSON_GATES_GATE_LENGTH 4u
+#define CAISSON_GATES_LARGEST_TABLE 17676u
+
+#define CAISSON_GATES_PAIR 2u /* bytes of a flip-flop in its area: its value, its mark */
+#define CAISSON_TRUSTED 0u    /* the marks of a wire */
+#define CAISSON_UNTRUSTED 1u
+
 /* What is wrong, and where `place` points. 1 to 12 and 16 are about the image: they are the image
-   checks. caisson_refusals.def has the same words for a program to show. */
+   checks. 25 and 26 are about gate tables. caisson_refusals.def has the same words for a program to
+   show. */
 enum caisson_refusal {
     CAISSON_ACCEPTED = 0,
     /* The directory, a count of records or the length of a section is wrong. The directory is five
@@ -148,8 +166,10 @@ enum caisson_refusal {
        that takes an area, values by a port write and a run, targets by a run. So where the lengths
        are right, the place is a register if some register holds a value too large, and a state if
        none does. The target of a state with children is one of its children, that of any other
-       state is its own number. The area for a raised image is exactly as long as the image. Place:
-       0 for a length; the lowest register for a value; the lowest state for a target. */
+       state is its own number. The area for a raised image is exactly as long as the image. A gate
+       table is lent one byte for each input and two for each flip-flop; only their lengths are
+       judged by 14. Place: 0 for a length; the lowest register for a value; the lowest state for a
+       target. */
     CAISSON_AREA = 14,
     /* A run asks for more than 1,000,000 cycles. Place: 0. */
     CAISSON_CYCLE_COUNT = 15,
@@ -164,7 +184,19 @@ enum caisson_refusal {
     /* No raising of the image is accepted. A raising is the same image with labels of inner
        registers raised, never lowered; the labels of ports and states are fixed. It is judged after
        the image checks up to 9, 16 included, and after 14. Place: 0. */
-    CAISSON_NO_RAISING = 18
+    CAISSON_NO_RAISING = 18,
+    /* The directory of a gate table, a count of records or the length of a section is wrong. The
+       directory is three pairs of 16-bit offset and length, sorted: the first offset is 12, each
+       later one the sum of the pair before it, and the last section ends at the table's end. The
+       length of a section is a whole number of records. There are at most 256 inputs, 256
+       flip-flops and 4,096 gates, and each may be none. Place: 0. */
+    CAISSON_GATE_DIRECTORY = 25,
+    /* A wire, a value or a mark of a gate table, or a value or a mark that a cycle is lent, is out
+       of range. Wires are numbered from 0: inputs, then flip-flops, then gates. The next wire of a
+       flip-flop is any wire of the table; the two wires of a gate are lower than its own. A value
+       is 0 or 1, a mark 0 (trusted) or 1 (untrusted). The table is judged after 25 and before 14,
+       what a cycle is lent after 14. Place: the lowest wire whose record or lent bytes hold it. */
+    CAISSON_GATE_WIRE = 26
 };
 
 /* What a call answers. */
@@ -267,6 +299,67 @@ caisson_answer caisson_run(const uint8_t *image, size_t image_len,
 CAISSON_LOOK_AT_ANSWER
 caisson_answer caisson_raise(const uint8_t *image, size_t image_len, /* the image to raise */
                              uint8_t *out, size_t out_len);          /* where the raised one goes */
+
+/*
+ * Gate tables: logic as NAND gates with trust marks.
+ *
+ * A gate table is an image of its own, of at most CAISSON_GATES_LARGEST_TABLE bytes; docs/FORMAT.md has
+ * it byte by byte. It has inputs, flip-flops and gates, and each of them is a wire: numbered from 0,
+ * first the inputs, then the flip-flops, then the gates. On a wire stand a value, 0 or 1, and a mark,
+ * CAISSON_TRUSTED or CAISSON_UNTRUSTED. The table has each input's mark, of each flip-flop the wire that
+ * it takes next and the value and mark that it starts with, and of each gate the two wires that it
+ * reads, which are lower than its own.
+ *
+ * The state of a gate table is one area that the host owns and lends: CAISSON_GATES_PAIR bytes for each
+ * flip-flop, in their order, the value first and the mark behind it. An area of length 0 may be NULL.
+ *
+ * These calls judge in this order: 25 with place 0, then 26 for the table at the lowest wire at fault,
+ * then 14 with place 0 for a length, then 26 for the bytes that a cycle is lent, at the lowest wire at
+ * fault. They give no other refusal, and `count` is always 0. The image checks are not made. A refusal
+ * changes no byte of the area. As above, no call relies on an earlier one, each judges the table again,
+ * nothing is read or written outside the slices, and the slices of one call must not overlap.
+ *
+ * What the marks are worth: take two runs of one accepted table whose areas are equal in all marks, and
+ * equal in the values that are marked trusted. Let each cycle of the two be lent inputs that are equal
+ * where the table marks them trusted. Then the areas are again equal in this way after any number of
+ * cycles: what is marked trusted does not depend on what is not.
+ */
+
+/*
+ * Accepts a gate table exactly when directory, counts and sections are right (25) and every wire, value
+ * and mark in its records is in range (26), or refuses it. Whatever the bytes and the length, the answer
+ * is defined. Each record is looked at once. Refusals: 25, then 26 for the table.
+ */
+CAISSON_LOOK_AT_ANSWER
+caisson_answer caisson_gates_check(const uint8_t *table, /* the table's bytes */
+                                   size_t table_len);    /* how many there are */
+
+/*
+ * Writes each flip-flop's start value and start mark. What the area held before does not matter and is
+ * not judged. Refusals: 25, then 26 for the table, then 14 where the area is not CAISSON_GATES_PAIR
+ * bytes long for each flip-flop of the table.
+ */
+CAISSON_LOOK_AT_ANSWER
+caisson_answer caisson_gates_reset(const uint8_t *table, size_t table_len,
+                                   uint8_t *flipflops, size_t flipflops_len); /* the area */
+
+/*
+ * Runs one cycle. An input has the value lent for it and the mark of the table; a flip-flop has the
+ * value and the mark of the area; a gate has the NAND of the two values that it reads. A gate's output is
+ * trusted if both that it reads are, or if one of them is a trusted 0, since then the other cannot change
+ * it; else it is untrusted. After all gates every flip-flop takes value and mark of its next wire, all of
+ * them together: one that follows another takes what that had before.
+ *
+ * `inputs` has one value byte for each input of the table, and the marks of the inputs are never lent.
+ * A value is 0 or 1, a mark CAISSON_TRUSTED or CAISSON_UNTRUSTED, else the wire is refused by 26, inputs
+ * before flip-flops. Time is linear in the table. The values and marks of all wires lie on the call's own
+ * stack: it takes TODO-STACK-GATES bytes of it, measured as above. Refusals: 25, then 26 for the table,
+ * then 14 for the length of `inputs` or of the area, then 26 for the lent bytes.
+ */
+CAISSON_LOOK_AT_ANSWER
+caisson_answer caisson_gates_cycle(const uint8_t *table, size_t table_len,
+                                   const uint8_t *inputs, size_t inputs_len,  /* a value for each input */
+                                   uint8_t *flipflops, size_t flipflops_len); /* the area */
 
 #ifdef __cplusplus
 }

@@ -1,4 +1,5 @@
-/* Every refusal in words, at each kind of place, and one that no library of today gives. Then 14 of a box
+/* Every refusal in words, at each kind of place, and two that no library of today gives: one between them
+   and one behind. Then 14 of a box
    in a design that is named, whose register 0 has less than 32 bits: at a state, and at a register. */
 #include "design.h"
 #include "refusals.h"
@@ -14,7 +15,8 @@ static void each_number(void)
 
     for (uint32_t i = 0; i < count; i++)
         refusal_say((caisson_answer){numbers[i], 5, 0}, NULL);
-    refusal_say((caisson_answer){count + 1, 5, 0}, NULL);
+    refusal_say((caisson_answer){CAISSON_NO_RAISING + 1, 5, 0}, NULL);
+    refusal_say((caisson_answer){numbers[count - 1] + 1, 5, 0}, NULL);
     refusal_say((caisson_answer){CAISSON_NODE_RECORD, CAISSON_EXPRESSION_PLACE - 1, 0}, NULL);
     refusal_say((caisson_answer){CAISSON_NODE_RECORD, CAISSON_EXPRESSION_PLACE, 0}, NULL);
     refusal_say((caisson_answer){CAISSON_AREA, 0, 0}, NULL);

@@ -55,9 +55,15 @@ impl Tally {
         }
     }
 
-    /// The numbers that were not met, without those that the call never gives, and the reasons.
+    /// What a call on designs has not met, without the numbers that it never gives.
     pub fn missing(&self, never: &[u32]) -> Vec<String> {
-        let numbers = (0..=refusal::LAST)
+        self.missing_of(refusal::DESIGNS, never)
+    }
+
+    /// Acceptance and the numbers that were not met, without those that the call never gives, and the reasons.
+    pub fn missing_of(&self, numbers: &[u32], never: &[u32]) -> Vec<String> {
+        let numbers = [0].iter().chain(numbers);
+        let numbers = numbers
             .filter(|number| !never.contains(number))
             .filter(|number| !self.answers.contains_key(number))
             .map(|number| number.to_string());

@@ -2,8 +2,11 @@
 
 use crate::answer::Answer;
 
-/// The highest number of all calls. The comparison asks that each has been met.
-pub const LAST: u32 = 18;
+/// The numbers of all calls on designs. The comparison asks that each has been met.
+pub const DESIGNS: &[u32] = &[1, 2, 3, 4, 5, 6, 7, 8, 9, 10, 11, 12, 13, 14, 15, 16, 17, 18];
+
+/// Those of the calls on gate tables, in the order of judging but for lent bytes, which are judged last.
+pub const GATES: &[u32] = &[25, 26, 14];
 
 /// The numbers of the image checks in the order of judging; 10 to 12 are one pass, in reading order.
 pub const IMAGE: &[u32] = &[1, 2, 3, 4, 5, 6, 7, 8, 16, 9, 10, 11, 12];
