@@ -38,6 +38,24 @@ extern "C" {
     fn caisson_raise(image: *const u8, image_len: usize, out: *mut u8, out_len: usize) -> Answer;
 }
 
+extern "C" {
+    fn caisson_gates_check(table: *const u8, table_len: usize) -> Answer;
+    fn caisson_gates_reset(
+        table: *const u8,
+        table_len: usize,
+        flipflops: *mut u8,
+        flipflops_len: usize,
+    ) -> Answer;
+    fn caisson_gates_cycle(
+        table: *const u8,
+        table_len: usize,
+        inputs: *const u8,
+        inputs_len: usize,
+        flipflops: *mut u8,
+        flipflops_len: usize,
+    ) -> Answer;
+}
+
 // The wrappers are sound because a slice is what each pair of pointer and length asks for:
 // readable (areas: writable) for its length, and apart from every other slice.
 
@@ -111,6 +129,51 @@ pub fn raise(image: &[u8], out: &mut [u8]) -> Answer {
 /// Its answer about the empty image as a C host may lend it, and no area.
 pub fn raise_null() -> Answer {
     unsafe { caisson_raise(ptr::null(), 0, ptr::null_mut(), 0) }
+}
+
+pub fn gates_check(table: &[u8]) -> Answer {
+    unsafe { caisson_gates_check(table.as_ptr(), table.len()) }
+}
+
+pub fn gates_reset(table: &[u8], flipflops: &mut [u8]) -> Answer {
+    unsafe {
+        caisson_gates_reset(
+            table.as_ptr(),
+            table.len(),
+            lend(flipflops),
+            flipflops.len(),
+        )
+    }
+}
+
+pub fn gates_cycle(table: &[u8], inputs: &[u8], flipflops: &mut [u8]) -> Answer {
+    let no_inputs = inputs.is_empty();
+    unsafe {
+        caisson_gates_cycle(
+            table.as_ptr(),
+            table.len(),
+            if no_inputs {
+                ptr::null()
+            } else {
+                inputs.as_ptr()
+            },
+            inputs.len(),
+            lend(flipflops),
+            flipflops.len(),
+        )
+    }
+}
+
+/// Their answers about the empty table as a C host may lend it, and no bytes else.
+pub fn gates_about_null() -> [Answer; 3] {
+    let (null, none) = (ptr::null(), ptr::null_mut());
+    unsafe {
+        [
+            caisson_gates_check(null, 0),
+            caisson_gates_reset(null, 0, none, 0),
+            caisson_gates_cycle(null, 0, null, 0, none, 0),
+        ]
+    }
 }
 
 /// An empty area is lent as null, the harder case of the two.

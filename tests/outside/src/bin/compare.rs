@@ -1,9 +1,10 @@
-//! Compares the library with the reference on random images, on random lists of calls and on random
-//! raisings, for a bounded time: one third for each.
+//! Compares the library with the reference on random images, on random lists of calls, on random raisings
+//! and on random gate tables, for a bounded time: one quarter for each.
 
 use caisson_tests::compare::arguments::Arguments;
 use caisson_tests::compare::check;
 use caisson_tests::compare::difference::Difference;
+use caisson_tests::compare::gates;
 use caisson_tests::compare::lists;
 use caisson_tests::compare::raising;
 use std::process::ExitCode;
@@ -12,7 +13,11 @@ use std::time::{Duration, Instant};
 fn main() -> ExitCode {
     let arguments = Arguments::read(40);
     println!("first seed {}", arguments.seed);
-    if compare_checks(&arguments) && compare_lists(&arguments) && compare_raisings(&arguments) {
+    let equal = compare_checks(&arguments)
+        && compare_lists(&arguments)
+        && compare_raisings(&arguments)
+        && compare_gates(&arguments);
+    if equal {
         println!("no difference");
         ExitCode::SUCCESS
     } else {
@@ -26,7 +31,7 @@ fn each_seed(
     arguments: &Arguments,
     mut compare: impl FnMut(u64) -> Result<(), Difference>,
 ) -> bool {
-    let end = Instant::now() + Duration::from_secs(arguments.seconds) / 3;
+    let end = Instant::now() + Duration::from_secs(arguments.seconds) / 4;
     let mut seed = arguments.seed;
     loop {
         if let Err(difference) = compare(seed) {
@@ -77,6 +82,17 @@ fn compare_raisings(arguments: &Arguments) -> bool {
     let equal = each_seed(arguments, |seed| {
         raising::raisings_of_seed(seed, &mut tallies)
     });
+    tallies.print();
+    equal && all_met(tallies.missing())
+}
+
+fn compare_gates(arguments: &Arguments) -> bool {
+    let mut tallies = gates::Tallies::default();
+    if let Err(difference) = gates::fixed_tables(&mut tallies) {
+        difference.report("the fixed gate tables");
+        return false;
+    }
+    let equal = each_seed(arguments, |seed| gates::tables_of_seed(seed, &mut tallies));
     tallies.print();
     equal && all_met(tallies.missing())
 }

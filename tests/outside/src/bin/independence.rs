@@ -1,13 +1,16 @@
-//! Tries demand 3 on the library with random pairs of matching lists, for a bounded time.
+//! Tries demand 3 on the library with random pairs of matching lists, and with random pairs of runs of gate
+//! tables in the last quarter of the time, for a bounded time.
 
 use caisson_tests::compare::arguments::Arguments;
+use caisson_tests::compare::gate_independence::{gate_pairs_of_seed, GateFindings};
 use caisson_tests::compare::independence::{pairs_of_seed, Findings};
 use std::process::ExitCode;
 use std::time::{Duration, Instant};
 
 fn main() -> ExitCode {
     let arguments = Arguments::read(15);
-    let end = Instant::now() + Duration::from_secs(arguments.seconds);
+    let quarter = Duration::from_secs(arguments.seconds) / 4;
+    let end = Instant::now() + 3 * quarter;
     println!("first seed {}", arguments.seed);
     let mut findings = Findings::default();
     let mut seed = arguments.seed;
@@ -55,7 +58,18 @@ fn main() -> ExitCode {
         findings.spare,
         findings.spare_entered,
     ];
-    if able.contains(&0) {
+    let mut gates = GateFindings::default();
+    let end = Instant::now() + quarter;
+    let mut seed = arguments.seed;
+    while Instant::now() < end {
+        if let Err(difference) = gate_pairs_of_seed(seed, &mut gates) {
+            difference.report(&format!("seed {seed} of gates"));
+            return ExitCode::FAILURE;
+        }
+        seed += 1;
+    }
+    gates.print();
+    if able.contains(&0) || !gates.able() {
         println!("FAILED: this test would not have found a difference");
         return ExitCode::FAILURE;
     }

@@ -46,7 +46,8 @@ fn the_largest_design_is_the_largest_image() {
 #[test]
 fn faults_are_met() {
     let mut random = Random::new(13);
-    let mut met = [0; refusal::LAST as usize + 1];
+    let most = refusal::IMAGE.iter().max().expect("some check");
+    let mut met = vec![0; *most as usize + 1];
     for _ in 0..200 {
         let size = Size::random(&mut random);
         let table = design(&mut random, size);
@@ -100,7 +101,7 @@ fn kinds_are_met() {
         let image = faults::spoiled(&design(&mut random, size), &[5], &mut random).image();
         note_kind(&mut tally, &image, reference::check(&image));
     }
-    assert_eq!(missing_reasons(&tally), NONE);
+    assert_eq!(tally.missing_reasons(), NONE);
 }
 
 /// Accepted designs have low children of every sort, and refusal 9 is met for every reason.
@@ -116,7 +117,7 @@ fn children_are_met() {
             note_children(&mut tally, &image, reference::check(&image));
         }
     }
-    assert_eq!(missing_reasons(&tally), NONE);
+    assert_eq!(tally.missing_reasons(), NONE);
 }
 
 /// Of several faults in the flow, numbered anyhow, each is shown before each, wherever that stands.
@@ -129,7 +130,7 @@ fn reading_is_met() {
         let image = faults::leaking(&design(&mut random, size), &mut random).image();
         note_reading(&mut tally, &image, reference::check(&image));
     }
-    assert_eq!(missing_reasons(&tally), NONE);
+    assert_eq!(tally.missing_reasons(), NONE);
 }
 
 /// The operations of request E3 have every sort of operands, in the first cycle already.
@@ -143,16 +144,10 @@ fn operands_are_met() {
         let image = Image::open(&areas.image).expect("an accepted image");
         note_operands(&mut tally, &image, &areas.registers, &areas.targets);
     }
-    assert_eq!(missing_reasons(&tally), NONE);
+    assert_eq!(tally.missing_reasons(), NONE);
 }
 
 const NONE: [&str; 0] = [];
-
-/// Of the reasons alone.
-fn missing_reasons(tally: &Tally) -> Vec<String> {
-    let numbers: Vec<u32> = (0..=refusal::LAST).collect();
-    tally.missing(&numbers)
-}
 
 /// Designs have narrow and wide registers of both kinds, and reset values at both ends.
 #[test]

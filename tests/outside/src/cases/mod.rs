@@ -2,6 +2,7 @@
 
 mod contents;
 mod examples;
+mod gates;
 mod generator;
 mod groups;
 mod lease;

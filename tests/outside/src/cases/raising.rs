@@ -13,7 +13,6 @@ use crate::reference::image::Image;
 use crate::reference::labelings::{try_all, Raisings};
 use crate::reference::labels::Labels;
 use crate::reference::limits::{MOST_COMMANDS, MOST_EXPRESSIONS, MOST_LABELS, MOST_REGISTERS};
-use crate::reference::refusal;
 
 /// What a byte of the area is before a call.
 const BEFORE: u8 = 0xAA;
@@ -152,6 +151,5 @@ fn raisings_are_met() {
             note_raised(&mut tally, &raised, answer).unwrap();
         }
     }
-    let numbers: Vec<u32> = (0..=refusal::LAST).collect();
-    assert_eq!(tally.missing(&numbers), [""; 0]);
+    assert_eq!(tally.missing_reasons(), [""; 0]);
 }

@@ -3,6 +3,7 @@
 pub mod arguments;
 pub mod children;
 pub mod difference;
+pub mod gate_reasons;
 pub mod kinds;
 pub mod listings;
 pub mod operands;
@@ -19,6 +20,10 @@ mod chance;
 pub mod check;
 #[cfg(feature = "library")]
 mod engine;
+#[cfg(feature = "library")]
+pub mod gate_independence;
+#[cfg(feature = "library")]
+pub mod gates;
 #[cfg(feature = "library")]
 pub mod independence;
 #[cfg(feature = "library")]

@@ -57,19 +57,21 @@ impl Tally {
 
     /// What a call on designs has not met, without the numbers that it never gives.
     pub fn missing(&self, never: &[u32]) -> Vec<String> {
-        self.missing_of(refusal::DESIGNS, never)
+        let given = refusal::DESIGNS.iter().copied();
+        let given: Vec<u32> = given.filter(|number| !never.contains(number)).collect();
+        self.missing_of(&given)
     }
 
-    /// Acceptance and the numbers that were not met, without those that the call never gives, and the reasons.
-    pub fn missing_of(&self, numbers: &[u32], never: &[u32]) -> Vec<String> {
+    /// Acceptance and those of the numbers that were not met, and the reasons.
+    pub fn missing_of(&self, numbers: &[u32]) -> Vec<String> {
         let numbers = [0].iter().chain(numbers);
-        let numbers = numbers
-            .filter(|number| !never.contains(number))
-            .filter(|number| !self.answers.contains_key(number))
-            .map(|number| number.to_string());
-        let reasons = (self.reasons.iter())
-            .filter(|(_, count)| **count == 0)
-            .map(|(reason, _)| reason.to_string());
-        numbers.chain(reasons).collect()
+        let numbers = numbers.filter(|number| !self.answers.contains_key(number));
+        let numbers = numbers.map(|number| number.to_string());
+        numbers.chain(self.missing_reasons()).collect()
+    }
+
+    pub fn missing_reasons(&self) -> Vec<String> {
+        let missing = self.reasons.iter().filter(|(_, count)| **count == 0);
+        missing.map(|(reason, _)| reason.to_string()).collect()
     }
 }

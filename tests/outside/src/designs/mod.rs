@@ -2,6 +2,7 @@
 //! level below zero for E3 and a spare child for E4; and small ones, each for one sentence.
 
 mod chain;
+pub mod gates;
 mod largest;
 mod leaks;
 mod level;

@@ -3,6 +3,7 @@
 mod body;
 mod design;
 pub mod faults;
+pub mod gates;
 mod lattice;
 mod raising;
 pub mod random;

@@ -1,5 +1,6 @@
 //! The image as five slices of records, once its directory holds (refusal 1).
 
+use super::directory::{records, sections};
 use super::limits::*;
 use super::refusal::Refusal;
 
@@ -81,9 +82,12 @@ impl Node {
 impl<'a> Image<'a> {
     /// Refusal 1: directory, count or section length.
     pub fn open(bytes: &'a [u8]) -> Result<Image<'a>, Refusal> {
-        let [rows, registers, states, commands, expressions] =
-            sections(bytes).ok_or(Refusal::new(1, 0))?;
-        Ok(Image {
+        Image::cut(bytes).ok_or(Refusal::new(1, 0))
+    }
+
+    fn cut(bytes: &'a [u8]) -> Option<Image<'a>> {
+        let [rows, registers, states, commands, expressions] = sections(bytes)?;
+        Some(Image {
             rows: records(rows, 1, MOST_LABELS)?,
             registers: records(registers, 0, MOST_REGISTERS)?,
             states: records(states, 1, MOST_STATES)?,
@@ -121,35 +125,5 @@ impl<'a> Image<'a> {
 
     pub fn expressions(&self) -> impl ExactSizeIterator<Item = Node> + 'a {
         self.expressions.iter().map(Node::read)
-    }
-}
-
-/// The five sections, if they stand one after the other from byte 20 to the image's end.
-fn sections(bytes: &[u8]) -> Option<[&[u8]; 5]> {
-    let (directory, mut rest) = bytes.split_at_checked(DIRECTORY_BYTES)?;
-    let mut sections = [rest; 5];
-    let mut expected = DIRECTORY_BYTES;
-    for (section, pair) in sections.iter_mut().zip(directory.chunks_exact(4)) {
-        let offset = usize::from(u16::from_le_bytes([pair[0], pair[1]]));
-        let length = usize::from(u16::from_le_bytes([pair[2], pair[3]]));
-        if offset != expected {
-            return None;
-        }
-        (*section, rest) = rest.split_at_checked(length)?;
-        expected += length;
-    }
-    rest.is_empty().then_some(sections)
-}
-
-fn records<const N: usize>(
-    section: &[u8],
-    fewest: usize,
-    most: usize,
-) -> Result<&[[u8; N]], Refusal> {
-    let (records, rest) = section.as_chunks::<N>();
-    if rest.is_empty() && (fewest..=most).contains(&records.len()) {
-        Ok(records)
-    } else {
-        Err(Refusal::new(1, 0))
     }
 }

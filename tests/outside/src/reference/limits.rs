@@ -28,3 +28,18 @@ pub const LARGEST_IMAGE: usize = DIRECTORY_BYTES
     + MOST_REGISTERS * REGISTER_BYTES
     + MOST_STATES * STATE_BYTES
     + (MOST_COMMANDS + MOST_EXPRESSIONS) * NODE_BYTES;
+
+// Gate tables, request E13.
+
+pub const GATES_DIRECTORY_BYTES: usize = 12;
+
+pub const INPUT_BYTES: usize = 1;
+pub const FLIPFLOP_BYTES: usize = 4;
+pub const GATE_BYTES: usize = 4;
+
+pub const MOST_INPUTS: usize = 256;
+pub const MOST_FLIPFLOPS: usize = 256;
+pub const MOST_GATES: usize = 4_096;
+
+/// A flip-flop in its area: a value and a mark.
+pub const PAIR_BYTES: usize = 2;

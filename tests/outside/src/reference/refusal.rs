@@ -3,7 +3,9 @@
 use crate::answer::Answer;
 
 /// The numbers of all calls on designs. The comparison asks that each has been met.
-pub const DESIGNS: &[u32] = &[1, 2, 3, 4, 5, 6, 7, 8, 9, 10, 11, 12, 13, 14, 15, 16, 17, 18];
+pub const DESIGNS: &[u32] = &[
+    1, 2, 3, 4, 5, 6, 7, 8, 9, 10, 11, 12, 13, 14, 15, 16, 17, 18,
+];
 
 /// Those of the calls on gate tables, in the order of judging but for lent bytes, which are judged last.
 pub const GATES: &[u32] = &[25, 26, 14];

@@ -2,6 +2,7 @@
 //! how to be written as an image.
 
 mod build;
+pub mod gates;
 mod renumber;
 
 use crate::reference::image::LAST_OPERATION;

@@ -6,14 +6,17 @@ use crate::reference::limits::{
 };
 use crate::table::{Node, Register, State, Table};
 
+/// Those of an image; a gate table has others.
+const SECTIONS: usize = 5;
+
 /// The image of a design with a fault of refusal 1.
 pub fn spoil_directory(table: &Table, random: &mut Random) -> Vec<u8> {
     let image = table.image();
     match random.below(5) {
-        0 => wrong_field(image, random),
-        1 => moved_border(image, random),
-        2 => swapped_sections(image, random),
-        3 => resized_section(image, random),
+        0 => wrong_field(image, SECTIONS, random),
+        1 => moved_border(image, SECTIONS, random),
+        2 => swapped_sections(image, SECTIONS, random),
+        3 => resized_section(image, SECTIONS, random),
         _ => wrong_count(table, random),
     }
 }
@@ -34,16 +37,16 @@ fn add_to_field(image: &mut [u8], index: usize, difference: u16) {
 const MINUS_ONE: u16 = u16::MAX;
 
 /// One offset or length is another number.
-fn wrong_field(mut image: Vec<u8>, random: &mut Random) -> Vec<u8> {
-    let index = random.below(10);
+pub fn wrong_field(mut image: Vec<u8>, sections: usize, random: &mut Random) -> Vec<u8> {
+    let index = random.below(2 * sections);
     let difference = *random.pick(&[1, MINUS_ONE, 2, 4, 8, 256, 0x8000, 0xFFF8]);
     add_to_field(&mut image, index, difference);
     image
 }
 
 /// A border between two sections moves, so that the sections still join.
-fn moved_border(mut image: Vec<u8>, random: &mut Random) -> Vec<u8> {
-    let section = random.below(4);
+pub fn moved_border(mut image: Vec<u8>, sections: usize, random: &mut Random) -> Vec<u8> {
+    let section = random.below(sections - 1);
     let difference = *random.pick(&[1u16, MINUS_ONE, 2, 3, 4, 5, 6, 7, 8]);
     add_to_field(&mut image, 2 * section + 1, difference);
     add_to_field(&mut image, 2 * section + 2, difference);
@@ -52,8 +55,8 @@ fn moved_border(mut image: Vec<u8>, random: &mut Random) -> Vec<u8> {
 }
 
 /// Two sections change places in the directory: no longer sorted by offset.
-fn swapped_sections(mut image: Vec<u8>, random: &mut Random) -> Vec<u8> {
-    let section = random.below(4);
+pub fn swapped_sections(mut image: Vec<u8>, sections: usize, random: &mut Random) -> Vec<u8> {
+    let section = random.below(sections - 1);
     for byte in 4 * section..4 * section + 4 {
         image.swap(byte, byte + 4);
     }
@@ -61,8 +64,8 @@ fn swapped_sections(mut image: Vec<u8>, random: &mut Random) -> Vec<u8> {
 }
 
 /// A section of a length that is no whole number of records; all else fits it.
-fn resized_section(mut image: Vec<u8>, random: &mut Random) -> Vec<u8> {
-    let section = random.below(5);
+pub fn resized_section(mut image: Vec<u8>, sections: usize, random: &mut Random) -> Vec<u8> {
+    let section = random.below(sections);
     let end = usize::from(field(&image, 2 * section)) + usize::from(field(&image, 2 * section + 1));
     let longer = field(&image, 2 * section + 1) == 0 || random.percent(50);
     let difference = if longer {
@@ -73,7 +76,7 @@ fn resized_section(mut image: Vec<u8>, random: &mut Random) -> Vec<u8> {
         MINUS_ONE
     };
     add_to_field(&mut image, 2 * section + 1, difference);
-    for later in section + 1..5 {
+    for later in section + 1..sections {
         add_to_field(&mut image, 2 * later, difference);
     }
     image

@@ -4,6 +4,7 @@
 mod children;
 mod directory;
 mod flow;
+mod gates;
 mod nodes;
 mod raw;
 mod records;
@@ -14,6 +15,7 @@ use crate::reference::refusal;
 use crate::table::Table;
 
 pub use directory::spoil_directory;
+pub use gates::{spoil_gate_directory, spoil_gate_record};
 pub use raw::{damaged, resized, senseless};
 
 /// The numbers of faults in a table, in the order of the checks: all but 1, the directory's.
