@@ -11,12 +11,18 @@ pub struct Answer {
 
 extern "C" {
     fn caisson_check(image: *const u8, image_len: usize) -> Answer;
+    fn caisson_gates_check(table: *const u8, table_len: usize) -> Answer;
     fn caisson_raise(image: *const u8, image_len: usize, out: *mut u8, out_len: usize) -> Answer;
 }
 
 pub fn check(image: &[u8]) -> Answer {
     // Sound: a slice is readable for its length, which is all that the call asks for.
     unsafe { caisson_check(image.as_ptr(), image.len()) }
+}
+
+pub fn gates_check(table: &[u8]) -> Answer {
+    // Sound as above.
+    unsafe { caisson_gates_check(table.as_ptr(), table.len()) }
 }
 
 /// Into an area that has to be as long as the image.

@@ -1,8 +1,8 @@
-//! caisson: designs as source text, for the table format of document 01.
+//! caisson: designs as source text, for the table format of document 01; and gate tables, of document 02.
 
 use caisson_tools::old::{self, Form};
 use caisson_tools::raise::{raise_table, raise_text};
-use caisson_tools::{assemble, assemble_placed, explain, library, print, read};
+use caisson_tools::{assemble, assemble_placed, explain, gates, library, print, read};
 use std::io::Write;
 use std::os::unix::fs::MetadataExt;
 use std::process::ExitCode;
@@ -18,6 +18,9 @@ const USAGE: &str = "usage: caisson assemble SOURCE TABLE
 
 /// How the name of a text ends. `explain` and `raise` take all else for a table.
 const TEXT: &str = ".caisson";
+
+/// What is said of a gate table where a design is needed.
+const NO_DESIGN: &str = "is a gate table; only a design can be raised or upgraded";
 
 const NO_TEXT: &str = "a table is raised to a table; `caisson print` makes a text of that";
 
@@ -63,17 +66,30 @@ fn assemble_file(source: &str, table: &str) -> Result<ExitCode, String> {
 
 fn print_file(table: &str) -> Result<ExitCode, String> {
     let image = load(table)?;
+    if gates::is_table(&image) {
+        let records = gates::read(&image).map_err(|why| no_records(table, &why))?;
+        show(&gates::print(&records))?;
+        return Ok(ExitCode::SUCCESS);
+    }
     if old::form(&image) == Form::Old {
         return Err(format!("{table}: {}", old::ADVICE));
     }
-    let records =
-        read(&image).map_err(|why| format!("{table}: cannot be cut into records: {why}"))?;
+    let records = read(&image).map_err(|why| no_records(table, &why))?;
     show(&print(&records))?;
     Ok(ExitCode::SUCCESS)
 }
 
+fn no_records(table: &str, why: &str) -> String {
+    format!("{table}: cannot be cut into records: {why}")
+}
+
 fn explain_table(table: &str) -> Result<ExitCode, String> {
     let image = load(table)?;
+    if gates::is_table(&image) {
+        let answer = library::gates_check(&image);
+        show(&gates::explain::explain(&image, answer))?;
+        return Ok(status(answer));
+    }
     let answer = library::check(&image);
     show(&explain::explain(&image, answer))?;
     Ok(status(answer))
@@ -81,8 +97,15 @@ fn explain_table(table: &str) -> Result<ExitCode, String> {
 
 fn explain_text(source: &str) -> Result<ExitCode, String> {
     let text = load_text(source)?;
-    let (image, positions) =
-        assemble_placed(&text).map_err(|fault| format!("{source}: {fault}"))?;
+    let wrong = |fault| format!("{source}: {fault}");
+    if gates::is_text(&text) {
+        let (image, wires) = gates::assemble_placed(&text).map_err(wrong)?;
+        let answer = library::gates_check(&image);
+        let words = gates::explain::explain_text(&text, &image, &wires, answer);
+        show(&words)?;
+        return Ok(status(answer));
+    }
+    let (image, positions) = assemble_placed(&text).map_err(wrong)?;
     let answer = library::check(&image);
     show(&explain::explain_text(&text, &image, &positions, answer))?;
     Ok(status(answer))
@@ -95,11 +118,14 @@ fn raise_file(from: &str, to: &str) -> Result<ExitCode, String> {
     }
     let (raised, text) = if from.ends_with(TEXT) {
         let source = load_text(from)?;
+        if gates::is_text(&source) {
+            return Err(format!("{from}: {NO_DESIGN}"));
+        }
         raise_text(&source).map_err(|fault| format!("{from}: {fault}"))?
     } else if to.ends_with(TEXT) {
         return Err(format!("{to}: {NO_TEXT}"));
     } else {
-        (raise_table(&load(from)?), String::new())
+        (raise_table(&load_design(from)?), String::new())
     };
     if raised.answer.number == 0 {
         let bytes = match to.ends_with(TEXT) {
@@ -118,7 +144,7 @@ fn status(answer: library::Answer) -> ExitCode {
 
 /// The old table stays: a design that was made by hand may have no other copy.
 fn upgrade_file(old: &str, new: &str) -> Result<ExitCode, String> {
-    let image = load(old)?;
+    let image = load_design(old)?;
     if same_file(old, new) {
         return Err(format!("{new}: is the old table itself, and would be lost"));
     }
@@ -137,6 +163,14 @@ fn same_file(one: &str, other: &str) -> bool {
 
 fn load(path: &str) -> Result<Vec<u8>, String> {
     fs::read(path).map_err(|error| format!("{path}: {error}"))
+}
+
+fn load_design(path: &str) -> Result<Vec<u8>, String> {
+    let image = load(path)?;
+    match gates::is_table(&image) {
+        true => Err(format!("{path}: {NO_DESIGN}")),
+        false => Ok(image),
+    }
 }
 
 fn load_text(path: &str) -> Result<String, String> {

@@ -27,9 +27,9 @@ pub fn number(design: &Design) -> Result<(Table, Positions), Fault> {
 }
 
 struct Numbering<'a> {
-    labels: Names<'a>,
-    registers: Names<'a>,
-    states: Names<'a>,
+    labels: Names<'a, u8>,
+    registers: Names<'a, u8>,
+    states: Names<'a, u8>,
     table: Table,
     positions: Positions,
 }
@@ -122,17 +122,21 @@ fn add(nodes: &mut Vec<Node>, node: Node) -> u16 {
     (nodes.len() - 1) as u16
 }
 
-/// The names of the labels, of the registers or of the states.
-struct Names<'a> {
+/// The names of the labels, of the registers, of the states or of the wires of a gate table, with numbers
+/// that have room for as many as the text may have.
+pub struct Names<'a, Number> {
     what: &'static str,
-    numbers: HashMap<&'a str, u8>,
+    numbers: HashMap<&'a str, Number>,
 }
 
-impl<'a> Names<'a> {
-    fn new(what: &'static str, names: impl Iterator<Item = &'a Name>) -> Result<Self, Fault> {
+impl<'a, Number: Copy + TryFrom<usize>> Names<'a, Number> {
+    pub fn new(what: &'static str, names: impl Iterator<Item = &'a Name>) -> Result<Self, Fault> {
         let mut numbers = HashMap::new();
         for (number, name) in names.enumerate() {
-            if numbers.insert(name.text.as_str(), number as u8).is_some() {
+            let Ok(number) = Number::try_from(number) else {
+                return Err(Fault::new(name.at, format!("fewer {what}s"), "one more"));
+            };
+            if numbers.insert(name.text.as_str(), number).is_some() {
                 let expected = format!("a name that no {what} above has");
                 return Err(Fault::new(name.at, expected, format!("`{}`", name.text)));
             }
@@ -140,7 +144,7 @@ impl<'a> Names<'a> {
         Ok(Names { what, numbers })
     }
 
-    fn find(&self, name: &Name) -> Result<u8, Fault> {
+    pub fn find(&self, name: &Name) -> Result<Number, Fault> {
         let number = self.numbers.get(name.text.as_str()).copied();
         number.ok_or_else(|| {
             let expected = format!("the name of a {}", self.what);

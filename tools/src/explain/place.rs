@@ -40,7 +40,7 @@ pub fn describe(image: &[u8], number: u32, place: usize) -> String {
 }
 
 fn directory(image: &[u8], why: &str) -> String {
-    let pairs: Vec<String> = pairs(image)
+    let pairs: Vec<String> = pairs::<5>(image)
         .iter()
         .map(|(offset, length)| format!("{offset},{length}"))
         .collect();

@@ -13,7 +13,8 @@ pub fn rule(number: u32) -> String {
     }
 }
 
-/// What stands at the place of a refusal of an image. None where the place is the number of nothing.
+/// What stands at the place of a refusal of an image. None where the place is the number of nothing, or of
+/// a wire, which no image has.
 pub fn place(number: u32, place: usize) -> Option<Place> {
     match row(number)?.split(',').nth(3)?.trim() {
         "LABEL" => Some(Place::Label(place)),
@@ -49,9 +50,11 @@ mod tests {
 
     #[test]
     fn every_row_has_words() {
-        let rows = WORDS.matches("\nCAISSON_REFUSAL(").count() as u32;
-        assert!(rows >= 18);
-        for number in 1..=rows {
+        let rows = WORDS.split("\nCAISSON_REFUSAL(").skip(1);
+        let numbers = rows.map(|row| row.split(',').next().unwrap().parse().unwrap());
+        let numbers: Vec<u32> = numbers.collect();
+        assert!(numbers.starts_with(&[1, 2, 3]) && numbers.ends_with(&[25, 26]));
+        for &number in &numbers {
             let words = rule(number);
             assert!(
                 words.ends_with('.') && !words.contains(['"', '\n']),
@@ -59,7 +62,9 @@ mod tests {
             );
             assert!(!words.starts_with("The tool has no words"), "{number}");
         }
-        assert_eq!(rule(rows + 1), "The tool has no words for this number.");
+        for none in [0, 27] {
+            assert_eq!(rule(none), "The tool has no words for this number.");
+        }
         assert_eq!(rule(15), "A run asks for more than 1,000,000 cycles.");
     }
 
@@ -76,7 +81,7 @@ mod tests {
         }
         assert_eq!(place(16, 1_023), Some(Place::Command(1_023)));
         assert_eq!(place(5, 1_024), Some(Place::Expression(0)));
-        for nothing in [0, 1, 18, 99] {
+        for nothing in [0, 1, 18, 25, 26, 99] {
             assert_eq!(place(nothing, 0), None, "{nothing}");
         }
     }

@@ -1,4 +1,4 @@
-//! The limits and lengths of a table: those of `include/caisson.h`, where each stands once.
+//! The limits and lengths of a design's table and of a gate table: those of `include/caisson.h`, where each stands once.
 
 const HEADER: &[u8] = include_bytes!("../../../include/caisson.h");
 
@@ -26,6 +26,22 @@ pub const RECORDS: [usize; 5] = [
     defined(b"CAISSON_STATE_LENGTH"),
     defined(b"CAISSON_NODE_LENGTH"),
     defined(b"CAISSON_NODE_LENGTH"),
+];
+
+pub const INPUTS: usize = defined(b"CAISSON_GATES_INPUTS");
+pub const FLIPFLOPS: usize = defined(b"CAISSON_GATES_FLIPFLOPS");
+pub const GATES: usize = defined(b"CAISSON_GATES_GATES");
+
+pub const GATES_DIRECTORY: usize = defined(b"CAISSON_GATES_DIRECTORY_LENGTH");
+
+/// The most inputs, flip-flops and gates.
+pub const GATES_COUNTS: [usize; 3] = [INPUTS, FLIPFLOPS, GATES];
+
+/// Bytes of an input, flip-flop and gate.
+pub const GATES_RECORDS: [usize; 3] = [
+    defined(b"CAISSON_GATES_INPUT_LENGTH"),
+    defined(b"CAISSON_GATES_FLIPFLOP_LENGTH"),
+    defined(b"CAISSON_GATES_GATE_LENGTH"),
 ];
 
 /// The number that the header defines a name as. A name that it lacks stops the compiler.

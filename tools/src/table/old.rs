@@ -64,7 +64,7 @@ pub fn upgrade(image: &[u8]) -> Result<Vec<u8>, String> {
 fn read_old(image: &[u8]) -> Result<Table, String> {
     let mut records = RECORDS;
     records[REGISTERS] = OLD_REGISTER;
-    let mut sections = sections(image, records)?;
+    let mut sections = sections(image, SECTIONS, records)?;
     let registers = sections[REGISTERS].chunks_exact(OLD_REGISTER);
     let registers: Vec<u8> = registers
         .flat_map(|record| record.iter().copied().chain([WIDTH]))

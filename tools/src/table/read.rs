@@ -1,34 +1,40 @@
 //! A table cut into its records. Only the directory is judged: without it nothing can be cut.
 
-use super::limits::{DIRECTORY, RECORDS};
+use super::limits::RECORDS;
 use super::{Node, Register, State, Table};
 
-/// The pairs of offset and length, as far as the image has them.
-pub fn pairs(image: &[u8]) -> Vec<(usize, usize)> {
-    let directory = &image[..image.len().min(DIRECTORY)];
-    let pairs = directory.chunks_exact(4);
+/// The pairs of offset and length of a directory of so many, as far as the image has them.
+pub fn pairs<const N: usize>(image: &[u8]) -> Vec<(usize, usize)> {
+    let pairs = image.chunks_exact(PAIR).take(N);
     pairs
         .map(|pair| (usize::from(half(pair, 0)), usize::from(half(pair, 2))))
         .collect()
 }
 
+/// Bytes of a pair.
+const PAIR: usize = 4;
+
 /// Or says why the image cannot be cut.
 pub fn read(image: &[u8]) -> Result<Table, String> {
-    sections(image, RECORDS).map(cut)
+    sections(image, SECTIONS, RECORDS).map(cut)
 }
 
 /// The bytes of each section, where the records have these lengths; or why there are none.
-pub fn sections(image: &[u8], records: [usize; 5]) -> Result<[&[u8]; 5], String> {
-    let pairs = pairs(image);
-    if pairs.len() < records.len() {
+pub fn sections<'a, const N: usize>(
+    image: &'a [u8],
+    names: [&str; N],
+    records: [usize; N],
+) -> Result<[&'a [u8]; N], String> {
+    let pairs = pairs::<N>(image);
+    let mut end = PAIR * N;
+    if pairs.len() < N {
         return Err(format!(
-            "a directory has {DIRECTORY} bytes, the image {}",
+            "a directory has {end} bytes, the image {}",
             image.len()
         ));
     }
-    let mut end = DIRECTORY;
     for (section, ((offset, length), record)) in pairs.iter().zip(records).enumerate() {
-        let name = SECTIONS[section];
+        let name = names[section];
         if *offset != end {
             return Err(format!("the {name} begin at {offset}, not at {end}"));
         }
@@ -95,6 +101,6 @@ fn node(bytes: &[u8]) -> Node {
     }
 }
 
-fn half(bytes: &[u8], at: usize) -> u16 {
+pub fn half(bytes: &[u8], at: usize) -> u16 {
     u16::from_le_bytes([bytes[at], bytes[at + 1]])
 }

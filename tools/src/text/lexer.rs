@@ -51,6 +51,14 @@ pub fn tokens(source: &str) -> Result<Vec<(Token, Position)>, Fault> {
     Ok(tokens)
 }
 
+/// The first token, whatever is wrong behind it.
+pub fn first(source: &str) -> Option<Token> {
+    let mut lines = source.lines().map(str::trim_start);
+    let line = lines.find(|line| !line.is_empty() && !line.starts_with('#'))?;
+    let (token, _) = token(line, Position { line: 1, column: 1 }).ok()?;
+    Some(token)
+}
+
 /// The token at the start of the text, and its length in bytes.
 fn token(text: &str, at: Position) -> Result<(Token, usize), Fault> {
     let end = text.find(|one: char| !one.is_ascii_alphanumeric() && one != '_');

@@ -6,14 +6,16 @@ use super::tree::Name;
 
 pub struct Parser {
     tokens: Vec<(Token, Position)>,
+    /// Words that are no names.
+    reserved: &'static [&'static str],
     next: usize,
     nesting: usize,
     pub commands: usize,
     pub expressions: usize,
 }
 
-/// Words that are no names.
-const RESERVED: [&str; 12] = [
+/// Words that are no names in a design.
+pub const RESERVED: &[&str] = &[
     "label", "register", "port", "width", "state", "in", "skip", "fall", "goto", "if", "then",
     "else",
 ];
@@ -25,9 +27,10 @@ const MOST_BELOW: u32 = 1 << 31;
 const NESTING: usize = 1_024;
 
 impl Parser {
-    pub fn new(tokens: Vec<(Token, Position)>) -> Parser {
+    pub fn new(tokens: Vec<(Token, Position)>, reserved: &'static [&'static str]) -> Parser {
         Parser {
             tokens,
+            reserved,
             next: 0,
             nesting: 0,
             commands: 0,
@@ -93,7 +96,7 @@ impl Parser {
         let Token::Word(text) = self.peek() else {
             return Err(self.fault(expected));
         };
-        if RESERVED.contains(&text.as_str()) {
+        if self.reserved.contains(&text.as_str()) {
             return Err(self.fault(expected));
         }
         let name = Name {
