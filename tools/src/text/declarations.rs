@@ -40,6 +40,8 @@ impl Parser {
             let root = design.states.is_empty();
             design.states.push(self.state(root)?);
             self.bound(at, design.states.len(), STATES, "states")
+        } else if self.is_first() {
+            Err(self.fault("`label`, `register`, `port` or `state`, or `gates` of a gate table"))
         } else {
             Err(self.fault("`label`, `register`, `port` or `state`"))
         }

@@ -46,6 +46,11 @@ impl Parser {
         self.tokens[self.next].1
     }
 
+    /// Whether nothing has been taken yet.
+    pub fn is_first(&self) -> bool {
+        self.next == 0
+    }
+
     /// The end stays the next token.
     pub fn advance(&mut self) {
         if self.next + 1 < self.tokens.len() {

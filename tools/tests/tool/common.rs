@@ -29,6 +29,13 @@ pub fn designs(extension: &str) -> Vec<String> {
     names
 }
 
+/// The designs of the folder that have a text, without the gate tables.
+pub fn designs_alone() -> Vec<String> {
+    let mut names = designs("caisson");
+    names.retain(|name| !caisson_tools::gates::is_table(&bytes(&format!("designs/{name}.table"))));
+    names
+}
+
 /// A design with three registers, whose state `s` has this body.
 pub fn with_body(body: &str) -> String {
     format!(

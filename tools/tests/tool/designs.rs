@@ -2,9 +2,10 @@
 
 use crate::common::{bytes, designs, text};
 use crate::from_the_end::from_the_end;
-use caisson_tools::{assemble, library};
+use caisson_tools::{assemble, gates, library};
 
-/// Tables that no text makes: the lease design with bytes changed, and nodes in another order.
+/// Tables that no text makes: the lease design with bytes changed, nodes in another order, and a gate table
+/// without its last byte.
 fn without_text() -> Vec<(&'static str, Vec<u8>, (u32, usize))> {
     let lease = bytes("designs/lease.table");
     let changed = |at: usize, byte: u8| {
@@ -23,6 +24,11 @@ fn without_text() -> Vec<(&'static str, Vec<u8>, (u32, usize))> {
             "reading_order",
             from_the_end(&bytes("designs/high_timer.table")).0,
             (10, 10),
+        ),
+        (
+            "gates_cut_short",
+            bytes("designs/counter.table")[..32].to_vec(),
+            (25, 0),
         ),
     ]
 }
@@ -44,7 +50,10 @@ fn named_verdict(source: &str) -> Option<(u32, usize)> {
 }
 
 fn verdict(image: &[u8]) -> (u32, usize) {
-    let answer = library::check(image);
+    let answer = match gates::is_table(image) {
+        true => library::gates_check(image),
+        false => library::check(image),
+    };
     (answer.number, answer.place)
 }
 
@@ -66,7 +75,7 @@ fn tables_without_a_text_are_made_from_others() {
     }
 }
 
-/// Each refusal of the image has a design, and every table comes from a text or a change.
+/// Each refusal of an image or of a gate table has a design, and every table comes from a text or a change.
 #[test]
 fn designs_are_complete() {
     let mut known = designs("caisson");
@@ -83,7 +92,7 @@ fn designs_are_complete() {
         .collect();
     met.sort();
     met.dedup();
-    assert_eq!(met, (0..=12).chain([16]).collect::<Vec<u32>>());
+    assert_eq!(met, (0..=12).chain([16, 25, 26]).collect::<Vec<u32>>());
 }
 
 /// The README lists every table with its verdict.

@@ -1,6 +1,6 @@
 //! Tables printed and assembled again.
 
-use crate::common::{bytes, designs, on_large_stack, with_body};
+use crate::common::{bytes, designs_alone, on_large_stack, with_body};
 use caisson_tests::generate::random::Random;
 use caisson_tests::generate::{design, faults, Size};
 use caisson_tests::{designs::largest, examples, reference, table};
@@ -60,7 +60,7 @@ fn same_expression(one: &Table, left: u16, other: &Table, right: u16) -> bool {
 
 #[test]
 fn designs_come_back() {
-    for name in designs("caisson") {
+    for name in designs_alone() {
         assert_comes_back(&name, &bytes(&format!("designs/{name}.table")));
     }
 }

@@ -1,6 +1,6 @@
 //! Texts explained: the line and the column of what stands at the place.
 
-use crate::common::{bytes, designs, text};
+use crate::common::{bytes, designs_alone, text};
 use caisson_tools::{assemble_placed, explain, library, old};
 
 fn explained(text: &str) -> String {
@@ -117,7 +117,7 @@ fn markers_stand_below_tabs() {
 /// What a table's explanation has, and the line of the text after it.
 #[test]
 fn designs_are_explained_alike() {
-    for name in designs("caisson") {
+    for name in designs_alone() {
         let image = bytes(&format!("designs/{name}.table"));
         let table = explain::explain(&image, library::check(&image));
         let shown = explained(&text(&format!("designs/{name}.caisson")));

@@ -206,7 +206,11 @@ fn faults_of_declarations() {
     for (source, message) in [
         ("", "line 1, column 1: expected at least one label, found the end of the text"),
         ("label a", "line 1, column 8: expected at least one state, found the end of the text"),
-        ("lable a", "line 1, column 1: expected `label`, `register`, `port` or `state`, found `lable`"),
+        (
+            "lable a",
+            "line 1, column 1: expected `label`, `register`, `port` or `state`, or `gates` of a gate table, found `lable`",
+        ),
+        ("label a lable b", "line 1, column 9: expected `label`, `register`, `port` or `state`, found `lable`"),
         ("label if", "line 1, column 7: expected the label's name, found `if`"),
         ("label a -> b\nstate r : a { fall }", "line 1, column 12: expected the name of a label, found `b`"),
         ("label a\nlabel a\nstate r : a { fall }", "line 2, column 7: expected a name that no label above has, found `a`"),
