@@ -26,7 +26,8 @@ definitions:
 bench: library
 	cd tests/outside && CARGO_TARGET_DIR=$(CURDIR)/target/outside cargo run --quiet --release --offline --bin bench
 
-# The stack that each call takes, on a small design and on the one that takes the most.
+# The stack that each call takes, on a small design, on the one that takes the most, and on the largest gate
+# table.
 stack: library
 	gcc -std=c11 -O2 -Wall -Wextra -Werror -Iinclude -Ihost tests/c/stack.c host/table.c \
 		$(library) -pthread -o target/stack

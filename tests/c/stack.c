@@ -1,5 +1,5 @@
-/* How much stack a call takes, for each design named: a thread runs it on a painted stack, and the
-   paint that is left is counted. What the thread takes without a call is subtracted. */
+/* How much stack a call takes, for each design named and on the largest gate table: a thread runs it on a
+   painted stack, and the paint that is left is counted. What the thread takes without a call is subtracted. */
 #define _POSIX_C_SOURCE 200809L
 #include <pthread.h>
 #include <stdio.h>
@@ -16,6 +16,8 @@ static uint8_t image[CAISSON_LARGEST_IMAGE + 1u], raised[CAISSON_LARGEST_IMAGE +
 static uint8_t registers[CAISSON_REGISTERS * CAISSON_WORD], targets[CAISSON_STATES];
 static size_t image_len, registers_len, targets_len;
 static uint32_t port;
+static uint8_t gates[CAISSON_GATES_LARGEST_TABLE], inputs[CAISSON_GATES_INPUTS];
+static uint8_t flipflops[CAISSON_GATES_FLIPFLOPS * CAISSON_GATES_PAIR];
 static caisson_answer answer;
 
 static void *nothing(void *unused) { return unused; }
@@ -52,6 +54,21 @@ static void *run(void *unused) {
 
 static void *raise_labels(void *unused) {
     answer = caisson_raise(image, image_len, raised, image_len);
+    return unused;
+}
+
+static void *gates_check(void *unused) {
+    answer = caisson_gates_check(gates, sizeof gates);
+    return unused;
+}
+
+static void *gates_reset(void *unused) {
+    answer = caisson_gates_reset(gates, sizeof gates, flipflops, sizeof flipflops);
+    return unused;
+}
+
+static void *gates_cycle(void *unused) {
+    answer = caisson_gates_cycle(gates, sizeof gates, inputs, sizeof inputs, flipflops, sizeof flipflops);
     return unused;
 }
 
@@ -106,25 +123,67 @@ static void read_design(const char *path) {
         port++;
 }
 
+static size_t put(size_t at, size_t number) {
+    gates[at] = (uint8_t)number;
+    gates[at + 1] = (uint8_t)(number >> 8);
+    return at + 2;
+}
+
+/* Every count is the most. Each gate reads the two wires below it, and the flip-flops take the last gates. */
+static void write_gates(void) {
+    static const size_t lengths[] = {CAISSON_GATES_INPUTS * CAISSON_GATES_INPUT_LENGTH,
+                                     CAISSON_GATES_FLIPFLOPS * CAISSON_GATES_FLIPFLOP_LENGTH,
+                                     CAISSON_GATES_GATES * CAISSON_GATES_GATE_LENGTH};
+    const size_t first_gate = CAISSON_GATES_INPUTS + CAISSON_GATES_FLIPFLOPS;
+    const size_t wires = first_gate + CAISSON_GATES_GATES;
+    size_t at = 0, offset = CAISSON_GATES_DIRECTORY_LENGTH;
+    for (size_t section = 0; section < sizeof lengths / sizeof *lengths; section++) {
+        at = put(at, offset);
+        at = put(at, lengths[section]);
+        offset += lengths[section];
+    }
+    for (size_t input = 0; input < CAISSON_GATES_INPUTS; input++)
+        gates[at++] = input % 2 ? CAISSON_UNTRUSTED : CAISSON_TRUSTED;
+    for (size_t flipflop = 0; flipflop < CAISSON_GATES_FLIPFLOPS; flipflop++) {
+        at = put(at, wires - 1 - flipflop);
+        gates[at++] = flipflop % 2;
+        gates[at++] = CAISSON_TRUSTED;
+    }
+    for (size_t wire = first_gate; wire < wires; wire++) {
+        at = put(at, wire - 1);
+        at = put(at, wire - 2);
+    }
+}
+
+struct measured {
+    const char *name;
+    void *(*call)(void *);
+};
+
+static void measure(const char *what, const struct measured *calls, size_t count) {
+    size_t without = used(nothing);
+    for (size_t k = 0; k < count; k++) {
+        size_t with = used(calls[k].call);
+        expect_accepted(what, calls[k].name);
+        printf("%s: %s takes %zu bytes\n", what, calls[k].name, with - without);
+    }
+}
+
 int main(int count, char **paths) {
-    static const struct {
-        const char *name;
-        void *(*call)(void *);
-    } calls[] = {{"check", check},
-                 {"registers_length", registers_length},
-                 {"targets_length", targets_length},
-                 {"reset", reset},
-                 {"write_port", write_port},
-                 {"run", run},
-                 {"raise", raise_labels}};
+    static const struct measured of_designs[] = {{"check", check},
+                                                 {"registers_length", registers_length},
+                                                 {"targets_length", targets_length},
+                                                 {"reset", reset},
+                                                 {"write_port", write_port},
+                                                 {"run", run},
+                                                 {"raise", raise_labels}};
+    static const struct measured of_gates[] = {
+        {"gates_check", gates_check}, {"gates_reset", gates_reset}, {"gates_cycle", gates_cycle}};
     for (int i = 1; i < count; i++) {
         read_design(paths[i]);
-        size_t without = used(nothing);
-        for (size_t k = 0; k < sizeof calls / sizeof *calls; k++) {
-            size_t with = used(calls[k].call);
-            expect_accepted(paths[i], calls[k].name);
-            printf("%s: %s takes %zu bytes\n", paths[i], calls[k].name, with - without);
-        }
+        measure(paths[i], of_designs, sizeof of_designs / sizeof *of_designs);
     }
+    write_gates();
+    measure("the largest gate table", of_gates, sizeof of_gates / sizeof *of_gates);
     return 0;
 }

@@ -5,5 +5,6 @@ mod measure;
 mod subjects;
 
 pub mod check;
+pub mod gates;
 pub mod raise;
 pub mod run;
