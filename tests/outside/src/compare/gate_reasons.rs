@@ -2,8 +2,9 @@
 
 use super::tally::Tally;
 use crate::answer::Answer;
-use crate::reference::gates::{wires, Gates, Signal, TRUSTED, UNTRUSTED};
+use crate::reference::gates::{check, wires, Signal, TRUSTED, UNTRUSTED};
 use crate::reference::limits::*;
+use crate::table::gates::GateTable;
 
 /// What is wrong with the directory, in the order in which it is looked at here.
 fn directory_fault(table: &[u8]) -> &'static str {
@@ -54,99 +55,125 @@ fn half(bytes: &[u8], at: usize) -> usize {
 }
 
 /// The reasons of a table's own answer.
-pub fn note_table(tally: &mut Tally, table: &[u8], answer: Answer) {
+pub fn note_table(tally: &mut Tally, bytes: &[u8], answer: Answer) {
     let fault = match answer.number {
-        25 => directory_fault(table),
+        25 => directory_fault(bytes),
         _ => "",
     };
     for &reason in DIRECTORY_FAULTS {
         tally.note(reason, reason == fault);
     }
-    let accepted = answer.number == 0;
-    let counts = Gates::open(table).map_or([1; 3], |gates| gates.counts());
+    let table = GateTable::read(bytes).unwrap_or_default();
+    note_accepted(tally, &table, answer.number == 0);
+    let wrong = (answer.number == 26).then_some(answer.place);
+    note_wrong(tally, &table, wrong);
+}
+
+/// Counts and wires of an accepted table that are at an end of their range.
+fn note_accepted(tally: &mut Tally, table: &GateTable, accepted: bool) {
+    let counts = [table.inputs.len(), table.flipflops.len(), table.gates.len()];
     let [inputs, flipflops, gates] = counts;
+    let most = [MOST_INPUTS, MOST_FLIPFLOPS, MOST_GATES];
+    let last = table.wires().wrapping_sub(1);
+    let next = || {
+        table
+            .flipflops
+            .iter()
+            .map(|flipflop| usize::from(flipflop.next))
+    };
+    let below = |which: usize| {
+        let mut gates = table.gates.iter().zip(table.first_gate()..);
+        gates.any(|(reads, own)| usize::from(reads[which]) + 1 == own)
+    };
     for (reason, met) in [
-        (
-            "accepted, nothing but the directory",
-            table.len() == GATES_DIRECTORY_BYTES,
-        ),
+        ("accepted, nothing but the directory", counts == [0; 3]),
         ("accepted, no inputs", inputs == 0),
         ("accepted, no flip-flops", flipflops == 0),
         ("accepted, no gates", gates == 0),
         ("accepted, 256 inputs", inputs == MOST_INPUTS),
         ("accepted, 256 flip-flops", flipflops == MOST_FLIPFLOPS),
         ("accepted, 4,096 gates", gates == MOST_GATES),
+        ("accepted, every count the most", counts == most),
         (
-            "accepted, every count the most",
-            counts == [MOST_INPUTS, MOST_FLIPFLOPS, MOST_GATES],
+            "accepted, a next wire is the last",
+            next().any(|next| next == last),
         ),
+        (
+            "accepted, a next wire is the flip-flop itself",
+            next().zip(inputs..).any(|(next, own)| next == own),
+        ),
+        (
+            "accepted, a next wire is an input",
+            next().any(|next| next < inputs),
+        ),
+        ("accepted, a gate reads the wire below first", below(0)),
+        ("accepted, a gate reads the wire below second", below(1)),
     ] {
         tally.note(reason, accepted && met);
     }
-    note_records(tally, table, answer);
 }
 
-/// The fields of the record at the place of 26, and those of an accepted table that are at an end.
-fn note_records(tally: &mut Tally, table: &[u8], answer: Answer) {
-    let counts = Gates::open(table).map_or([0; 3], |gates| gates.counts());
-    let [inputs, flipflops, gates] = counts;
-    let total = inputs + flipflops + gates;
-    let refused = |wire: usize| answer.number == 26 && answer.place == wire;
-    let accepted = answer.number == 0;
-    let mut met = [false; RECORD_REASONS.len()];
-    let bytes = &table[table.len().min(GATES_DIRECTORY_BYTES)..];
-    let place = if answer.number == 26 {
-        answer.place..answer.place + 1
-    } else {
-        0..total
+/// The fields of the record at the place of 26.
+fn note_wrong(tally: &mut Tally, table: &GateTable, wrong: Option<usize>) {
+    let total = table.wires();
+    let own = wrong.unwrap_or(total);
+    let record = |first: usize| wrong?.checked_sub(first);
+    let input = wrong.is_some_and(|wire| wire < table.inputs.len());
+    let flipflop = record(table.inputs.len()).and_then(|number| table.flipflops.get(number));
+    let flipflop = |is: &dyn Fn(usize, u8, u8) -> bool| {
+        flipflop.is_some_and(|one| is(one.next.into(), one.value, one.mark))
     };
-    for wire in place {
-        if wire < inputs {
-            met[0] |= refused(wire) && bytes[wire] > UNTRUSTED;
-        } else if wire < inputs + flipflops {
-            let record = &bytes[inputs + 4 * (wire - inputs)..][..FLIPFLOP_BYTES];
-            let next = half(record, 0);
-            met[1] |= refused(wire) && next == total;
-            met[2] |= refused(wire) && next > total;
-            met[3] |= refused(wire) && record[2] > 1 && next < total && record[3] <= UNTRUSTED;
-            met[4] |= refused(wire) && record[3] > UNTRUSTED && next < total && record[2] <= 1;
-            met[5] |= accepted && next + 1 == total;
-            met[6] |= accepted && next == wire;
-        } else {
-            let record = &bytes[inputs + 4 * (wire - inputs)..][..GATE_BYTES];
-            let (first, second) = (half(record, 0), half(record, 2));
-            met[7] |= refused(wire) && first == wire && second < wire;
-            met[8] |= refused(wire) && second == wire && first < wire;
-            met[9] |= refused(wire) && first > wire && second < wire;
-            met[10] |= refused(wire) && second > wire && first < wire;
-            met[11] |= accepted && first + 1 == wire;
-            met[12] |= accepted && second + 1 == wire;
-        }
-    }
-    met[13] = answer.number == 26 && answer.place + 1 == total;
-    met[14] = refused(0);
-    for (&reason, met) in RECORD_REASONS.iter().zip(met) {
+    let gate = record(table.first_gate()).and_then(|number| table.gates.get(number));
+    let gate = |is: &dyn Fn(usize, usize) -> bool| {
+        gate.is_some_and(|&[first, second]| is(first.into(), second.into()))
+    };
+    for (reason, met) in [
+        ("26, an input's mark", input),
+        (
+            "26, a next wire one above the last",
+            flipflop(&|next, _, _| next == total),
+        ),
+        (
+            "26, a next wire further above",
+            flipflop(&|next, _, _| next > total),
+        ),
+        (
+            "26, a start value alone",
+            flipflop(&|next, value, mark| next < total && value > 1 && mark <= 1),
+        ),
+        (
+            "26, a start mark alone",
+            flipflop(&|next, value, mark| next < total && value <= 1 && mark > 1),
+        ),
+        (
+            "26, a gate reads itself first",
+            gate(&|first, second| first == own && second < own),
+        ),
+        (
+            "26, a gate reads itself second",
+            gate(&|first, second| second == own && first < own),
+        ),
+        (
+            "26, a gate reads a higher wire first",
+            gate(&|first, second| first > own && second < own),
+        ),
+        (
+            "26, a gate reads a higher wire second",
+            gate(&|first, second| second > own && first < own),
+        ),
+        ("26, at wire 0", wrong == Some(0)),
+        (
+            "26, at the last wire",
+            wrong.is_some_and(|wire| wire + 1 == total),
+        ),
+        (
+            "26, at a gate behind 256 inputs and 256 flip-flops",
+            gate(&|_, _| table.first_gate() == 512),
+        ),
+    ] {
         tally.note(reason, met);
     }
 }
-
-const RECORD_REASONS: [&str; 15] = [
-    "26, an input's mark",
-    "26, the next wire is one above the last",
-    "26, the next wire is further above",
-    "26, a start value alone",
-    "26, a start mark alone",
-    "accepted, the next wire is the last",
-    "accepted, the next wire is the flip-flop itself",
-    "26, a gate reads itself first",
-    "26, a gate reads itself second",
-    "26, a gate reads a higher wire first",
-    "26, a gate reads a higher wire second",
-    "accepted, a gate reads the wire below first",
-    "accepted, a gate reads the wire below second",
-    "26, at the last wire",
-    "26, at wire 0",
-];
 
 /// A cycle as it was lent.
 pub struct Lent<'a> {
@@ -157,98 +184,114 @@ pub struct Lent<'a> {
 
 /// The reasons of a cycle's answer that are not those of its table.
 pub fn note_cycle(tally: &mut Tally, lent: &Lent, after: &[u8], answer: Answer) {
-    let [inputs, flipflops, _] = Gates::open(lent.table).map_or([0; 3], |gates| gates.counts());
-    let lengths = (lent.inputs.len(), lent.flipflops.len());
-    let right = (inputs, PAIR_BYTES * flipflops);
-    let values_wrong = lent.inputs.iter().any(|&value| value > 1);
-    let pairs_wrong = lent.flipflops.iter().any(|&byte| byte > 1);
-    let pair = |place: usize| -> &[u8] {
-        let at = PAIR_BYTES * place.saturating_sub(inputs);
-        lent.flipflops.get(at..at + PAIR_BYTES).unwrap_or(&[0, 0])
+    let table = GateTable::read(lent.table).unwrap_or_default();
+    note_lengths(tally, lent, &table, answer);
+    note_values(tally, lent, &table, answer);
+    note_signals(tally, lent, &table, answer);
+    let changes = lent
+        .flipflops
+        .chunks(PAIR_BYTES)
+        .zip(after.chunks(PAIR_BYTES));
+    let becomes = |mark: u8| {
+        let mut changes = changes.clone();
+        answer.number == 0 && changes.any(|(old, new)| old[1] != mark && new[1] == mark)
     };
-    let number = answer.number;
-    let lengths_right = lengths == right;
-    let table_right = crate::reference::gates::check(lent.table).number == 0;
-    let lent_wrong = number == 26 && table_right && lengths_right;
-    let at_pair = lent_wrong && answer.place >= inputs;
+    tally.note("a flip-flop becomes trusted", becomes(TRUSTED));
+    tally.note("a flip-flop becomes untrusted", becomes(UNTRUSTED));
+}
+
+/// Those of 14, and that it stands between the two of 26.
+fn note_lengths(tally: &mut Tally, lent: &Lent, table: &GateTable, answer: Answer) {
+    let inputs = (lent.inputs.len(), table.inputs.len());
+    let area = (lent.flipflops.len(), table.area());
+    let out_of_range = lent
+        .inputs
+        .iter()
+        .chain(lent.flipflops)
+        .any(|&byte| byte > 1);
     for (reason, met) in [
+        ("14, one input too few", inputs.0 + 1 == inputs.1),
+        ("14, one input too many", inputs.0 == inputs.1 + 1),
+        ("14, no inputs lent", inputs.0 == 0 && inputs.1 != 0),
+        ("14, the area too short by 1", area.0 + 1 == area.1),
+        ("14, the area too long by 1", area.0 == area.1 + 1),
+        ("14, no area lent", area.0 == 0 && area.1 != 0),
+        ("14, where 26 for lent bytes would follow", out_of_range),
+    ] {
+        tally.note(reason, answer.number == 14 && met);
+    }
+    let before = answer.number == 26 && (inputs.0 != inputs.1 || area.0 != area.1);
+    tally.note("26 for the table, where 14 would follow", before);
+}
+
+/// Those of 26 for lent bytes.
+fn note_values(tally: &mut Tally, lent: &Lent, table: &GateTable, answer: Answer) {
+    let inputs = table.inputs.len();
+    let is_lent = answer.number == 26 && check(lent.table).number == 0;
+    let number = answer.place.checked_sub(inputs).filter(|_| is_lent);
+    let pair = number.and_then(|number| lent.flipflops.chunks(PAIR_BYTES).nth(number));
+    let pair = |is: &dyn Fn(u8, u8) -> bool| pair.is_some_and(|pair| is(pair[0], pair[1]));
+    let at_input = is_lent && answer.place < inputs;
+    for (reason, met) in [
+        ("26, an input's value", at_input),
         (
-            "14, one input too few",
-            number == 14 && lengths.0 + 1 == right.0,
-        ),
-        (
-            "14, one input too many",
-            number == 14 && lengths.0 == right.0 + 1,
-        ),
-        ("14, no inputs lent", number == 14 && lengths.0 == 0),
-        (
-            "14, the area too short by 1",
-            number == 14 && lengths.1 + 1 == right.1,
-        ),
-        (
-            "14, the area too long by 1",
-            number == 14 && lengths.1 == right.1 + 1,
-        ),
-        ("14, no area lent", number == 14 && lengths.1 == 0),
-        (
-            "14, where 26 for lent bytes would follow",
-            number == 14 && (values_wrong || pairs_wrong),
-        ),
-        (
-            "26 for the table, where 14 would follow",
-            number == 26 && !table_right && !lengths_right,
-        ),
-        ("26, an input's value", lent_wrong && answer.place < inputs),
-        (
-            "26, a flip-flop's value alone",
-            at_pair && pair(answer.place)[0] > 1 && pair(answer.place)[1] <= 1,
-        ),
-        (
-            "26, a flip-flop's mark alone",
-            at_pair && pair(answer.place)[1] > 1 && pair(answer.place)[0] <= 1,
+            "26, the last input's value",
+            at_input && answer.place + 1 == inputs,
         ),
         (
             "26, an input before a flip-flop",
-            lent_wrong && !at_pair && pairs_wrong,
+            at_input && lent.flipflops.iter().any(|&byte| byte > 1),
+        ),
+        (
+            "26, a flip-flop's value alone",
+            pair(&|value, mark| value > 1 && mark <= 1),
+        ),
+        (
+            "26, a flip-flop's mark alone",
+            pair(&|value, mark| value <= 1 && mark > 1),
         ),
         (
             "26, the last flip-flop",
-            at_pair && answer.place + 1 == inputs + flipflops,
+            number.is_some_and(|number| number + 1 == table.flipflops.len()),
         ),
     ] {
         tally.note(reason, met);
     }
-    note_signals(tally, lent, after, answer);
 }
 
-/// What an accepted cycle has shown of the marks.
-fn note_signals(tally: &mut Tally, lent: &Lent, after: &[u8], answer: Answer) {
+/// What the gates of an accepted cycle have shown of the marks.
+fn note_signals(tally: &mut Tally, lent: &Lent, table: &GateTable, answer: Answer) {
     let signals = match answer.number {
         0 => wires(lent.table, lent.inputs, lent.flipflops).unwrap_or_default(),
         _ => Vec::new(),
     };
-    let [inputs, flipflops, gates] = Gates::open(lent.table).map_or([0; 3], |gates| gates.counts());
-    let first = inputs + flipflops;
-    let records = &lent.table[lent.table.len() - GATE_BYTES * gates.min(signals.len())..];
-    let mut met = [false; SIGNAL_REASONS.len()];
-    for (gate, record) in records.chunks(GATE_BYTES).enumerate() {
-        let (a, b) = (signals[half(record, 0)], signals[half(record, 2)]);
-        let either = |one: Signal, other: Signal| [(a, b), (b, a)].contains(&(one, other));
-        let trusted = signals[first + gate].mark == TRUSTED;
-        met[0] |= trusted && (either(ZERO, FREE_ZERO) || either(ZERO, FREE_ONE));
-        met[1] |= !trusted && either(ONE, FREE_ZERO);
-        met[2] |= !trusted && either(FREE_ZERO, FREE_ONE);
-    }
-    let marks = |area: &[u8]| -> Vec<u8> { area.iter().skip(1).step_by(2).copied().collect() };
-    if answer.number == 0 {
-        let changes = marks(lent.flipflops).into_iter().zip(marks(after));
-        for (before, now) in changes {
-            met[3] |= before == UNTRUSTED && now == TRUSTED;
-            met[4] |= before == TRUSTED && now == UNTRUSTED;
-        }
-    }
-    for (&reason, met) in SIGNAL_REASONS.iter().zip(met) {
-        tally.note(reason, met);
+    let outputs = signals.iter().skip(table.first_gate());
+    let some_gate = |mark: u8, one: Signal, other: Signal| {
+        let mut gates = table.gates.iter().zip(outputs.clone());
+        gates.any(|(reads, output)| {
+            let [a, b] = reads.map(|wire| signals[usize::from(wire)]);
+            output.mark == mark && [(a, b), (b, a)].contains(&(one, other))
+        })
+    };
+    for (reason, mark, one, other) in [
+        (
+            "a trusted 0 decides over an untrusted 0",
+            TRUSTED,
+            ZERO,
+            FREE_ZERO,
+        ),
+        (
+            "a trusted 0 decides over an untrusted 1",
+            TRUSTED,
+            ZERO,
+            FREE_ONE,
+        ),
+        ("a trusted 1 decides nothing", UNTRUSTED, ONE, FREE_ONE),
+        ("an untrusted 0 decides nothing", UNTRUSTED, ONE, FREE_ZERO),
+        ("two untrusted wires", UNTRUSTED, FREE_ZERO, FREE_ONE),
+        ("two trusted wires", TRUSTED, ONE, ONE),
+    ] {
+        tally.note(reason, some_gate(mark, one, other));
     }
 }
 
@@ -256,11 +299,3 @@ const ZERO: Signal = Signal::new(0, TRUSTED);
 const ONE: Signal = Signal::new(1, TRUSTED);
 const FREE_ZERO: Signal = Signal::new(0, UNTRUSTED);
 const FREE_ONE: Signal = Signal::new(1, UNTRUSTED);
-
-const SIGNAL_REASONS: [&str; 5] = [
-    "a trusted 0 decides a gate",
-    "an untrusted 0 decides none",
-    "two untrusted wires make one",
-    "a flip-flop becomes trusted",
-    "a flip-flop becomes untrusted",
-];

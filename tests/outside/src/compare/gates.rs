@@ -79,13 +79,15 @@ impl Tallies {
         }
         self.reset.add(expected, table.len());
         let contents = area.clone().lend(length).iter().any(|&byte| byte > 1);
-        let accepted = expected.number == 0;
-        self.reset.note(
-            "accepted, bytes out of range overwritten",
-            accepted && contents,
-        );
-        self.reset
-            .note("accepted, an area of no bytes", accepted && length == 0);
+        let right = area.length();
+        for (reason, number, met) in [
+            ("accepted, bytes out of range overwritten", 0, contents),
+            ("accepted, an area of no bytes", 0, length == 0),
+            ("14, the area too short by 1", 14, length + 1 == right),
+            ("14, the area too long by 1", 14, length == right + 1),
+        ] {
+            self.reset.note(reason, expected.number == number && met);
+        }
         Ok(())
     }
 

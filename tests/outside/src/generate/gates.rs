@@ -9,8 +9,11 @@ pub type GateCounts = [usize; 3];
 
 pub const LARGEST_GATES: GateCounts = [MOST_INPUTS, MOST_FLIPFLOPS, MOST_GATES];
 
-/// Mostly small; each count now and then none or the most.
+/// Mostly small; each count now and then none or the most, or all of them the most.
 pub fn gate_counts(random: &mut Random) -> GateCounts {
+    if random.percent(1) {
+        return LARGEST_GATES;
+    }
     let mut count = |most: usize, usual: usize, full: usize| match random.below(100) {
         0..10 => 0,
         at if at < 10 + full => most,

@@ -1,5 +1,6 @@
 //! A gate table as editable records. They may keep the rules or break any of them.
 
+use crate::reference::gates::Gates;
 use crate::reference::limits::*;
 
 #[derive(Clone, Debug, Default)]
@@ -19,6 +20,26 @@ pub struct FlipFlop {
 }
 
 impl GateTable {
+    /// The records of a table, if its directory holds.
+    pub fn read(bytes: &[u8]) -> Option<GateTable> {
+        let [inputs, flipflops, _] = Gates::open(bytes).ok()?.counts();
+        let (inputs, rest) = bytes[GATES_DIRECTORY_BYTES..].split_at(INPUT_BYTES * inputs);
+        let (flipflops, gates) = rest.split_at(FLIPFLOP_BYTES * flipflops);
+        Some(GateTable {
+            inputs: inputs.to_vec(),
+            flipflops: (flipflops.chunks(FLIPFLOP_BYTES))
+                .map(|record| FlipFlop {
+                    next: half(record, 0),
+                    value: record[2],
+                    mark: record[3],
+                })
+                .collect(),
+            gates: (gates.chunks(GATE_BYTES))
+                .map(|record| [half(record, 0), half(record, 2)])
+                .collect(),
+        })
+    }
+
     /// The number of the first gate's wire.
     pub fn first_gate(&self) -> usize {
         self.inputs.len() + self.flipflops.len()
@@ -56,4 +77,8 @@ impl GateTable {
         }
         bytes
     }
+}
+
+fn half(bytes: &[u8], at: usize) -> u16 {
+    u16::from_le_bytes([bytes[at], bytes[at + 1]])
 }
