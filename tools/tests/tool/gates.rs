@@ -115,26 +115,26 @@ fn faults_say_what_was_expected() {
 /// Refusal 25 has no place, so the one that is too many is found in the text.
 #[test]
 fn counts_end_at_their_limits() {
-    let many = |count: usize, line: &dyn Fn(usize) -> String| {
+    type Line = fn(usize) -> String;
+    let many = |count: usize, line: Line| {
         let lines: String = (0..count).map(line).collect();
         assemble(&format!("gates\ninput a trusted\n{lines}"))
     };
-    let input = |n: usize| format!("input a{n} trusted\n");
-    let flipflop = |n: usize| format!("flipflop f{n} = a start 0 trusted\n");
-    let gate = |n: usize| format!("gate g{n} = nand a a\n");
-    let rows: [(&dyn Fn(usize) -> String, usize, &str); 3] = [
-        (&input, 255, "256 inputs"),
-        (&flipflop, 256, "256 flip-flops"),
-        (&gate, 4_096, "4096 gates"),
-    ];
-    for (line, most, words) in rows {
+    let input: Line = |n| format!("input a{n} trusted\n");
+    let flipflop: Line = |n| format!("flipflop f{n} = a start 0 trusted\n");
+    let gate: Line = |n| format!("gate g{n} = nand a a\n");
+    for (line, most, words) in [
+        (input, 255, "256 inputs"),
+        (flipflop, 256, "256 flip-flops"),
+        (gate, 4_096, "4096 gates"),
+    ] {
         assert!(many(most, line).is_ok(), "{words}");
         let message = many(most + 1, line).unwrap_err().to_string();
-        let expected = format!(
-            "line {}, column 1: expected at most {words}, found one more",
-            most + 3
+        let place = format!("line {}, column 1", most + 3);
+        assert_eq!(
+            message,
+            format!("{place}: expected at most {words}, found one more")
         );
-        assert_eq!(message, expected);
     }
 }
 
