@@ -1,4 +1,5 @@
-//! The limits and lengths of a design's table and of a gate table: those of `include/caisson.h`, where each stands once.
+//! The limits and lengths of a design's table and of a gate table: those of `include/caisson.h`, where each
+//! stands once.
 
 const HEADER: &[u8] = include_bytes!("../../../include/caisson.h");
 

@@ -1,8 +1,7 @@
-//! Why a call on a gate table was accepted or refused: the reasons that a comparison has to meet.
+//! Why a gate table was accepted or refused: the reasons that a comparison has to meet.
 
 use super::tally::Tally;
 use crate::answer::Answer;
-use crate::reference::gates::{check, wires, Signal, TRUSTED, UNTRUSTED};
 use crate::reference::limits::*;
 use crate::table::gates::GateTable;
 
@@ -115,187 +114,64 @@ fn note_accepted(tally: &mut Tally, table: &GateTable, accepted: bool) {
 
 /// The fields of the record at the place of 26.
 fn note_wrong(tally: &mut Tally, table: &GateTable, wrong: Option<usize>) {
-    let total = table.wires();
-    let own = wrong.unwrap_or(total);
-    let record = |first: usize| wrong?.checked_sub(first);
     let input = wrong.is_some_and(|wire| wire < table.inputs.len());
-    let flipflop = record(table.inputs.len()).and_then(|number| table.flipflops.get(number));
-    let flipflop = |is: &dyn Fn(usize, u8, u8) -> bool| {
-        flipflop.is_some_and(|one| is(one.next.into(), one.value, one.mark))
-    };
-    let gate = record(table.first_gate()).and_then(|number| table.gates.get(number));
-    let gate = |is: &dyn Fn(usize, usize) -> bool| {
-        gate.is_some_and(|&[first, second]| is(first.into(), second.into()))
-    };
+    let last = wrong.is_some_and(|wire| wire + 1 == table.wires());
+    tally.note("26, an input's mark", input);
+    tally.note("26, at wire 0", wrong == Some(0));
+    tally.note("26, at the last wire", last);
+    note_wrong_flipflop(tally, table, wrong);
+    note_wrong_gate(tally, table, wrong);
+}
+
+fn note_wrong_flipflop(tally: &mut Tally, table: &GateTable, wrong: Option<usize>) {
+    let number = wrong.and_then(|wire| wire.checked_sub(table.inputs.len()));
+    let record = number.and_then(|number| table.flipflops.get(number));
+    let total = table.wires();
+    let next = record.map_or(0, |record| usize::from(record.next));
+    let (value, mark) = record.map_or((0, 0), |record| (record.value, record.mark));
     for (reason, met) in [
-        ("26, an input's mark", input),
-        (
-            "26, a next wire one above the last",
-            flipflop(&|next, _, _| next == total),
-        ),
-        (
-            "26, a next wire further above",
-            flipflop(&|next, _, _| next > total),
-        ),
+        ("26, a next wire one above the last", next == total),
+        ("26, a next wire further above", next > total),
         (
             "26, a start value alone",
-            flipflop(&|next, value, mark| next < total && value > 1 && mark <= 1),
+            next < total && value > 1 && mark <= 1,
         ),
         (
             "26, a start mark alone",
-            flipflop(&|next, value, mark| next < total && value <= 1 && mark > 1),
+            next < total && value <= 1 && mark > 1,
         ),
+    ] {
+        tally.note(reason, record.is_some() && met);
+    }
+}
+
+fn note_wrong_gate(tally: &mut Tally, table: &GateTable, wrong: Option<usize>) {
+    let number = wrong.and_then(|wire| wire.checked_sub(table.first_gate()));
+    let record = number.and_then(|number| table.gates.get(number));
+    let own = wrong.unwrap_or(0);
+    let [first, second] = record.map_or([0; 2], |reads| reads.map(usize::from));
+    for (reason, met) in [
         (
             "26, a gate reads itself first",
-            gate(&|first, second| first == own && second < own),
+            first == own && second < own,
         ),
         (
             "26, a gate reads itself second",
-            gate(&|first, second| second == own && first < own),
+            second == own && first < own,
         ),
         (
             "26, a gate reads a higher wire first",
-            gate(&|first, second| first > own && second < own),
+            first > own && second < own,
         ),
         (
             "26, a gate reads a higher wire second",
-            gate(&|first, second| second > own && first < own),
-        ),
-        ("26, at wire 0", wrong == Some(0)),
-        (
-            "26, at the last wire",
-            wrong.is_some_and(|wire| wire + 1 == total),
+            second > own && first < own,
         ),
         (
-            "26, at a gate behind 256 inputs and 256 flip-flops",
-            gate(&|_, _| table.first_gate() == 512),
+            "26, a gate behind 256 inputs and 256 flip-flops",
+            table.first_gate() == 512,
         ),
     ] {
-        tally.note(reason, met);
+        tally.note(reason, record.is_some() && met);
     }
 }
-
-/// A cycle as it was lent.
-pub struct Lent<'a> {
-    pub table: &'a [u8],
-    pub inputs: &'a [u8],
-    pub flipflops: &'a [u8],
-}
-
-/// The reasons of a cycle's answer that are not those of its table.
-pub fn note_cycle(tally: &mut Tally, lent: &Lent, after: &[u8], answer: Answer) {
-    let table = GateTable::read(lent.table).unwrap_or_default();
-    note_lengths(tally, lent, &table, answer);
-    note_values(tally, lent, &table, answer);
-    note_signals(tally, lent, &table, answer);
-    let changes = lent
-        .flipflops
-        .chunks(PAIR_BYTES)
-        .zip(after.chunks(PAIR_BYTES));
-    let becomes = |mark: u8| {
-        let mut changes = changes.clone();
-        answer.number == 0 && changes.any(|(old, new)| old[1] != mark && new[1] == mark)
-    };
-    tally.note("a flip-flop becomes trusted", becomes(TRUSTED));
-    tally.note("a flip-flop becomes untrusted", becomes(UNTRUSTED));
-}
-
-/// Those of 14, and that it stands between the two of 26.
-fn note_lengths(tally: &mut Tally, lent: &Lent, table: &GateTable, answer: Answer) {
-    let inputs = (lent.inputs.len(), table.inputs.len());
-    let area = (lent.flipflops.len(), table.area());
-    let out_of_range = lent
-        .inputs
-        .iter()
-        .chain(lent.flipflops)
-        .any(|&byte| byte > 1);
-    for (reason, met) in [
-        ("14, one input too few", inputs.0 + 1 == inputs.1),
-        ("14, one input too many", inputs.0 == inputs.1 + 1),
-        ("14, no inputs lent", inputs.0 == 0 && inputs.1 != 0),
-        ("14, the area too short by 1", area.0 + 1 == area.1),
-        ("14, the area too long by 1", area.0 == area.1 + 1),
-        ("14, no area lent", area.0 == 0 && area.1 != 0),
-        ("14, where 26 for lent bytes would follow", out_of_range),
-    ] {
-        tally.note(reason, answer.number == 14 && met);
-    }
-    let before = answer.number == 26 && (inputs.0 != inputs.1 || area.0 != area.1);
-    tally.note("26 for the table, where 14 would follow", before);
-}
-
-/// Those of 26 for lent bytes.
-fn note_values(tally: &mut Tally, lent: &Lent, table: &GateTable, answer: Answer) {
-    let inputs = table.inputs.len();
-    let is_lent = answer.number == 26 && check(lent.table).number == 0;
-    let number = answer.place.checked_sub(inputs).filter(|_| is_lent);
-    let pair = number.and_then(|number| lent.flipflops.chunks(PAIR_BYTES).nth(number));
-    let pair = |is: &dyn Fn(u8, u8) -> bool| pair.is_some_and(|pair| is(pair[0], pair[1]));
-    let at_input = is_lent && answer.place < inputs;
-    for (reason, met) in [
-        ("26, an input's value", at_input),
-        (
-            "26, the last input's value",
-            at_input && answer.place + 1 == inputs,
-        ),
-        (
-            "26, an input before a flip-flop",
-            at_input && lent.flipflops.iter().any(|&byte| byte > 1),
-        ),
-        (
-            "26, a flip-flop's value alone",
-            pair(&|value, mark| value > 1 && mark <= 1),
-        ),
-        (
-            "26, a flip-flop's mark alone",
-            pair(&|value, mark| value <= 1 && mark > 1),
-        ),
-        (
-            "26, the last flip-flop",
-            number.is_some_and(|number| number + 1 == table.flipflops.len()),
-        ),
-    ] {
-        tally.note(reason, met);
-    }
-}
-
-/// What the gates of an accepted cycle have shown of the marks.
-fn note_signals(tally: &mut Tally, lent: &Lent, table: &GateTable, answer: Answer) {
-    let signals = match answer.number {
-        0 => wires(lent.table, lent.inputs, lent.flipflops).unwrap_or_default(),
-        _ => Vec::new(),
-    };
-    let outputs = signals.iter().skip(table.first_gate());
-    let some_gate = |mark: u8, one: Signal, other: Signal| {
-        let mut gates = table.gates.iter().zip(outputs.clone());
-        gates.any(|(reads, output)| {
-            let [a, b] = reads.map(|wire| signals[usize::from(wire)]);
-            output.mark == mark && [(a, b), (b, a)].contains(&(one, other))
-        })
-    };
-    for (reason, mark, one, other) in [
-        (
-            "a trusted 0 decides over an untrusted 0",
-            TRUSTED,
-            ZERO,
-            FREE_ZERO,
-        ),
-        (
-            "a trusted 0 decides over an untrusted 1",
-            TRUSTED,
-            ZERO,
-            FREE_ONE,
-        ),
-        ("a trusted 1 decides nothing", UNTRUSTED, ONE, FREE_ONE),
-        ("an untrusted 0 decides nothing", UNTRUSTED, ONE, FREE_ZERO),
-        ("two untrusted wires", UNTRUSTED, FREE_ZERO, FREE_ONE),
-        ("two trusted wires", TRUSTED, ONE, ONE),
-    ] {
-        tally.note(reason, some_gate(mark, one, other));
-    }
-}
-
-const ZERO: Signal = Signal::new(0, TRUSTED);
-const ONE: Signal = Signal::new(1, TRUSTED);
-const FREE_ZERO: Signal = Signal::new(0, UNTRUSTED);
-const FREE_ONE: Signal = Signal::new(1, UNTRUSTED);

@@ -2,7 +2,8 @@
 
 use super::areas::Area;
 use super::difference::Difference;
-use super::gate_reasons::{note_cycle, note_table, Lent};
+use super::gate_cycles::{note_cycle, Lent};
+use super::gate_reasons::note_table;
 use super::tally::Tally;
 use crate::answer::Answer;
 use crate::designs::gates as designs;

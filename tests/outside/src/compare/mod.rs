@@ -21,6 +21,8 @@ pub mod check;
 #[cfg(feature = "library")]
 mod engine;
 #[cfg(feature = "library")]
+mod gate_cycles;
+#[cfg(feature = "library")]
 pub mod gate_independence;
 #[cfg(feature = "library")]
 pub mod gates;
