@@ -353,7 +353,7 @@ caisson_answer caisson_gates_reset(const uint8_t *table, size_t table_len,
  * `inputs` has one value byte for each input of the table, and the marks of the inputs are never lent.
  * A value is 0 or 1, a mark CAISSON_TRUSTED or CAISSON_UNTRUSTED, else the wire is refused by 26, inputs
  * before flip-flops. Time is linear in the table. The values and marks of all wires lie on the call's own
- * stack: it takes TODO-STACK-GATES bytes of it, measured as above. Refusals: 25, then 26 for the table,
+ * stack: it takes 4,776 bytes of it, measured as above. Refusals: 25, then 26 for the table,
  * then 14 for the length of `inputs` or of the area, then 26 for the lent bytes.
  */
 CAISSON_LOOK_AT_ANSWER
