@@ -1,6 +1,7 @@
 -- The calls are lent no more bytes than the buffers hold.
 use Prim.Native.Nat.{ℕ, _+_, _≤_}
 use Rattle.model.specs.Limits.{largestImage}
+use Rattle.gates_model.specs.Limits.{largestTable}
 use Rattle.cases.specs.declared.Lent.{Lent}
 use Rattle.cases.specs.declared.Step.{Step}
 use Rattle.cases.specs.declared.Step.the-variants.{Next, Ended, Unwritten}
@@ -16,10 +17,19 @@ registersRoom = 264
 abbrev pub targetsRoom : ℕ
 targetsRoom = 72
 
+-- one byte more than the largest gate table
+abbrev pub tableRoom : ℕ
+tableRoom = largestTable + 1
+
+abbrev pub flipflopsRoom : ℕ
+flipflopsRoom = 520
+
 pub record Fits (lent : Lent) : Type 0 where
   pub image : lent .image ≤ imageRoom
   pub registers : lent .registers ≤ registersRoom
   pub targets : lent .targets ≤ targetsRoom
+  pub table : lent .table ≤ tableRoom
+  pub flipflops : lent .flipflops ≤ flipflopsRoom
 
 pub data StepFits : Step → Type 0 where
   next : {lent : Lent} → Fits lent → StepFits (Next lent)

@@ -13,14 +13,26 @@
 //   5  run of a cycles. Printed as `run A: NUMBER PLACE COUNT`, then the areas.
 //   6  the image is raised into an area of a bytes, at most 25,333, each of which is b % 256 before.
 //      Printed as `raise A: NUMBER PLACE COUNT`, then a line `  out` with the area's bytes.
+//   7  gate table: a bytes follow, at most 17,677: one more than the longest table. Checked, and kept
+//      for the calls on gates. Printed as `gates check: NUMBER PLACE COUNT`.
+//   8  flip-flops: a bytes follow, at most 520. Lent to the calls on gates as they stand.
+//   9  reset of the flip-flops. Printed as `gates reset: NUMBER PLACE COUNT`, then a line
+//      `  flipflops` with the area's bytes.
+//  10  a cycle: a input bytes follow, at most 264. Printed as `gates cycle: NUMBER PLACE COUNT`, then
+//      the line `  flipflops`.
 //
 // Numbers that a kind does not use are not looked at. The areas are two lines, `  registers` and
-// `  targets`, each with its bytes as numbers. Before the first image and the first areas they are
-// empty. A record that is cut off, too long or of another kind is printed as `bad record` and is
-// the last. So is record 65,536. Behind a write that failed the program writes one line to standard
-// error, and ends. A function that writes answers whether all of it was written.
+// `  targets`, each with its bytes as numbers. Before the first record that brings them, the image,
+// the areas, the gate table and the flip-flops are empty. A record that is cut off, too long or of
+// another kind is printed as `bad record` and is the last. So is record 65,536. Behind a write that
+// failed the program writes one line to standard error, and ends. A function that writes answers
+// whether all of it was written.
+mod gate_records;
+
 use calls::numbers::number;
 use design::Design;
+use gate_records::FLIPFLOPS;
+use gate_records::TABLE;
 use model::Answer;
 ghost use Prim.Native.Nat.{_+_, _*_, _≤_};
 ghost use mathlib.Core.Path.{_≡_};
@@ -51,6 +63,8 @@ struct Lent {
     image: usize,
     registers: usize,
     targets: usize,
+    table: usize,
+    flipflops: usize,
 }
 
 // What a record comes to: the next one, the end, or a write that failed.
@@ -236,6 +250,8 @@ fn new_image(image: &mut [u8], a: usize, lent: Lent) -> Step
         image: a,
         registers: lent.registers,
         targets: lent.targets,
+        table: lent.table,
+        flipflops: lent.flipflops,
     };
     next(written, lent)
 }
@@ -267,6 +283,8 @@ fn new_areas(
         image: lent.image,
         registers: a,
         targets: b,
+        table: lent.table,
+        flipflops: lent.flipflops,
     })
 }
 
@@ -311,6 +329,8 @@ fn followed(
     image: &mut [u8; IMAGE],
     registers: &mut [u8; REGISTERS],
     targets: &mut [u8; TARGETS],
+    table: &mut [u8; TABLE],
+    flipflops: &mut [u8; FLIPFLOPS],
     head: Head,
     lent: Lent,
 ) -> Step
@@ -326,6 +346,7 @@ fn followed(
         2 => new_areas(registers, targets, a, b, lent),
         3 | 4 | 5 => called(image, registers, targets, head, lent),
         6 => raised(image, a, (head.b % 256) as u8, lent),
+        7 | 8 | 9 | 10 => gate_records::followed(table, flipflops, kind, a, lent),
         _ => bad(),
     }
 }
@@ -335,6 +356,8 @@ fn record(
     image: &mut [u8; IMAGE],
     registers: &mut [u8; REGISTERS],
     targets: &mut [u8; TARGETS],
+    table: &mut [u8; TABLE],
+    flipflops: &mut [u8; FLIPFLOPS],
     lent: Lent,
 ) -> Step
     requires { ⌜ Fits lent ⌝ }
@@ -351,7 +374,8 @@ fn record(
     let kind = head[0];
     let a = word(head[1], head[2], head[3], head[4]);
     let b = word(head[5], head[6], head[7], head[8]);
-    followed(image, registers, targets, Head { kind, a, b }, lent)
+    let head = Head { kind, a, b };
+    followed(image, registers, targets, table, flipflops, head, lent)
 }
 
 // Reads the records and does what they say.
@@ -359,14 +383,25 @@ fn records() -> bool {
     let mut image = [0u8; IMAGE];
     let mut registers = [0u8; REGISTERS];
     let mut targets = [0u8; TARGETS];
+    let mut table = [0u8; TABLE];
+    let mut flipflops = [0u8; FLIPFLOPS];
     let mut lent = Lent {
         image: 0,
         registers: 0,
         targets: 0,
+        table: 0,
+        flipflops: 0,
     };
     let mut left = RECORDS;
     while 0 < left {
-        let step = record(&mut image, &mut registers, &mut targets, lent);
+        let step = record(
+            &mut image,
+            &mut registers,
+            &mut targets,
+            &mut table,
+            &mut flipflops,
+            lent,
+        );
         match step {
             Step::Next(next) => lent = next,
             Step::Ended => return true,

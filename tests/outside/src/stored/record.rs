@@ -32,7 +32,7 @@ impl Record {
             Record::WritePort { register, value } => record(4, *register, *value, &[]),
             Record::Run(cycles) => record(5, *cycles, 0, &[]),
             Record::Raise { length, fill } => record(6, *length, (*fill).into(), &[]),
-            Record::Bad => record(7, 0, 0, &[]),
+            Record::Bad => record(11, 0, 0, &[]),
         }
     }
 }
