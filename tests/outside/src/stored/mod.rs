@@ -2,6 +2,8 @@
 //! that it must print, as the reference has it.
 
 mod areas;
+mod gate_refusals;
+mod gates;
 mod images;
 mod lease;
 mod ports;
@@ -40,5 +42,7 @@ fn records() -> Vec<Record> {
     widths::add(&mut script);
     areas::add(&mut script);
     raising::add(&mut script);
+    gates::add(&mut script);
+    gate_refusals::add(&mut script);
     script.end()
 }

@@ -15,6 +15,11 @@ pub enum Record {
         length: u32,
         fill: u8,
     },
+    GateTable(Vec<u8>),
+    FlipFlops(Vec<u8>),
+    GatesReset,
+    /// A cycle with these values of the inputs.
+    GatesCycle(Vec<u8>),
     /// A record of no kind.
     Bad,
 }
@@ -32,6 +37,10 @@ impl Record {
             Record::WritePort { register, value } => record(4, *register, *value, &[]),
             Record::Run(cycles) => record(5, *cycles, 0, &[]),
             Record::Raise { length, fill } => record(6, *length, (*fill).into(), &[]),
+            Record::GateTable(table) => record(7, table.len() as u32, 0, &[table]),
+            Record::FlipFlops(area) => record(8, area.len() as u32, 0, &[area]),
+            Record::GatesReset => record(9, 0, 0, &[]),
+            Record::GatesCycle(inputs) => record(10, inputs.len() as u32, 0, &[inputs]),
             Record::Bad => record(11, 0, 0, &[]),
         }
     }

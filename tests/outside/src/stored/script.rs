@@ -1,6 +1,7 @@
 //! Adding records one by one.
 
 use super::record::Record;
+use crate::table::gates::GateTable;
 use crate::table::Table;
 
 #[derive(Default)]
@@ -53,6 +54,28 @@ impl Script {
     pub fn raise(&mut self, length: usize, fill: u8) -> &mut Script {
         let length = length as u32;
         self.add(Record::Raise { length, fill })
+    }
+
+    pub fn gate_table(&mut self, table: &[u8]) -> &mut Script {
+        self.add(Record::GateTable(table.to_vec()))
+    }
+
+    pub fn flipflops(&mut self, area: &[u8]) -> &mut Script {
+        self.add(Record::FlipFlops(area.to_vec()))
+    }
+
+    /// The gate table with an area of the right length.
+    pub fn gates(&mut self, table: &GateTable) -> &mut Script {
+        self.gate_table(&table.bytes());
+        self.flipflops(&vec![0xAA; table.area()])
+    }
+
+    pub fn gates_reset(&mut self) -> &mut Script {
+        self.add(Record::GatesReset)
+    }
+
+    pub fn gates_cycle(&mut self, inputs: &[u8]) -> &mut Script {
+        self.add(Record::GatesCycle(inputs.to_vec()))
     }
 
     /// The design, and one cycle for each pair of values in the ports r1 and r2.

@@ -2,13 +2,15 @@
 
 use super::record::Record;
 use crate::answer::Answer;
-use crate::reference;
+use crate::reference::{self, gates};
 
 #[derive(Default)]
 struct Lent {
     image: Vec<u8>,
     registers: Vec<u8>,
     targets: Vec<u8>,
+    table: Vec<u8>,
+    flipflops: Vec<u8>,
 }
 
 pub fn of(records: &[Record]) -> String {
@@ -48,6 +50,22 @@ impl Lent {
                 let mut out = vec![*fill; *length as usize];
                 let answer = reference::raise(&self.image, &mut out);
                 answered(&format!("raise {length}"), answer) + &line("out", &out)
+            }
+            Record::GateTable(table) => {
+                self.table = table.clone();
+                answered("gates check", gates::check(table))
+            }
+            Record::FlipFlops(area) => {
+                self.flipflops = area.clone();
+                String::new()
+            }
+            Record::GatesReset => {
+                let answer = gates::reset(&self.table, &mut self.flipflops);
+                answered("gates reset", answer) + &line("flipflops", &self.flipflops)
+            }
+            Record::GatesCycle(inputs) => {
+                let answer = gates::cycle(&self.table, inputs, &mut self.flipflops);
+                answered("gates cycle", answer) + &line("flipflops", &self.flipflops)
             }
             Record::Bad => "bad record\n".to_string(),
         }
