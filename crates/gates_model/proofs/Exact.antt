@@ -5,16 +5,15 @@ use mathlib.Core.Logic.{_↔_, Iff·trans, _⊎_, inl, inr}
 use mathlib.Core.Bool.{true, _&&_}
 use mathlib.Core.List.{List}
 use Rattle.model.specs.declared.Refusal.{Refusal}
-use Rattle.model.specs.declared.Answer.{Answer}
 use Rattle.model.specs.declared.Answer.the-variants.{Accepted, Refused}
 use Rattle.model.specs.Image.{byteAt}
 use Rattle.model.specs.Answers.{numbersOf}
-use Rattle.model.specs.Refusals.{Pass, AllKept, AnswersBy}
+use Rattle.model.specs.Refusals.{AllKept, AnswersBy}
 use Rattle.model.proofs.Laws.Equivalences.{less-iff, at-most-iff, equal-iff, and-iff, and-three-iff}
 use Rattle.model.proofs.Laws.Verdict.{refused-is-not-accepted}
 use Rattle.model.proofs.Laws.Broken.{Decides, decides-one, decides-before}
 use Rattle.model.proofs.Laws.Finds.{finds-each, finds-zero}
-use Rattle.model.proofs.Laws.Numbers.{told-accepted, told-refused}
+use Rattle.model.proofs.Refused.{answers-by}
 use Rattle.gates_model.specs.Tables.{Section, Inputs, FlipFlops, Gates, sectionKept, offsetsKept, directoryKept, Table, tableOf, markAt}
 use Rattle.gates_model.specs.Signals.{IsSound}
 use Rattle.gates_model.specs.Verdict.{isBit, inputKept, flipFlopKept, gateKept, wireKept, tableAnswer}
@@ -107,10 +106,6 @@ accepted-keeps table {count} e = go (table-decides table .either)
     go : (tableAnswer table ≡ Accepted 0) ⊎ ((refusal : Refusal) × (place : ℕ) × (tableAnswer table ≡ Refused refusal place)) → TableKeeps table
     go (inl h) = keeps-table table .1 (table-decides table .accepts .0 h)
     go (inr (refusal, place, h)) = absurd (refused-is-not-accepted refusal place count (sym h ∙ e))
-
-answers-by : {a : Answer} {passes : List Pass} → Decides a 0 passes → AnswersBy passes 0 (numbersOf a)
-answers-by {a} d =
-    record { accepted = Iff·trans (told-accepted a 0) (d .accepts); refused = λ r place. Iff·trans (told-refused a r place) (d .refuses r place) }
 
 pub check-answers : (table : List ℕ) → AnswersBy (checkTable table) 0 (numbersOf (gatesCheck table))
 unfolding gatesCheck
