@@ -1,7 +1,7 @@
 -- The number and the values that document 01 gives to each case of an answer. The promises about answers go through these definitions.
 use Prim.Native.Nat.{ℕ}
 use Rattle.model.specs.declared.Refusal.{Refusal}
-use Rattle.model.specs.declared.Refusal.the-variants.{Directory, LabelRow, RegisterRecord, StateRecord, NodeRecord, NodeUse, Depth, Shape, ChildLabel, AssignFlow, GotoFlow, FallFlow, NoPort, Area, CycleCount, PortAssigned, PortValue, NoRaising, GateDirectory, GateWire}
+use Rattle.model.specs.declared.Refusal.the-variants.{Directory, LabelRow, RegisterRecord, StateRecord, NodeRecord, NodeUse, Depth, Shape, ChildLabel, AssignFlow, GotoFlow, FallFlow, NoPort, Area, CycleCount, PortAssigned, PortValue, NoRaising, Parameter, RaiseParameters, GateDirectory, GateWire}
 use Rattle.model.specs.declared.Answer.{Answer}
 use Rattle.model.specs.declared.Answer.the-variants.{Accepted, Refused}
 
@@ -28,6 +28,9 @@ numberOf PortAssigned = 16
 numberOf PortValue = 17
 -- 02, E6
 numberOf NoRaising = 18
+-- 02, E8
+numberOf Parameter = 19
+numberOf RaiseParameters = 20
 -- 02, E13
 numberOf GateDirectory = 25
 numberOf GateWire = 26

@@ -2,19 +2,20 @@
 -- areas afterwards, refusals included. The contracts of the calls are equations with these.
 use Prim.Native.Nat.{ℕ, _*_}
 use mathlib.Core.Bool.{Bool, _&&_, cond}
-use mathlib.Core.List.{List}
+use mathlib.Core.List.{List, _++_}
 use lib.Dec.{leb, ltb, eqb}
-use lib.ListN.{length, getD, set}
+use lib.ListN.{length, getD, set, take, drop}
 use Rattle.model.specs.declared.Found.the-variants.{At, Nowhere}
 use Rattle.model.specs.declared.Refusal.the-variants.{NoPort, Area, CycleCount, PortValue}
 use Rattle.model.specs.declared.Answer.{Answer}
 use Rattle.model.specs.declared.Answer.the-variants.{Accepted, Refused}
-use Rattle.model.specs.Limits.{cyclesMax, wordLength}
+use Rattle.model.specs.Limits.{cyclesMax, wordLength, targetLength}
 use Rattle.model.specs.Indices.{lowestFailing}
 use Rattle.model.specs.Image.{Design, designOf}
 use Rattle.model.specs.States.{isPort}
 use Rattle.model.specs.Verdict.{verdict, refusedAt, atZeroUnless, _before_}
 use Rattle.model.specs.Values.{fits, wordsOf, bytesOf}
+use Rattle.model.specs.Bindings.{bindingSound}
 use Rattle.model.specs.Machine.{Areas, resetAreas, targetSound, afterCycles}
 
 -- the bytes of the two areas that the host lends
@@ -33,12 +34,12 @@ leaves (Accepted count) lent made = record { answer = Accepted count; lent = mad
 leaves (Refused refusal place) lent made = record { answer = Refused refusal place; lent = lent }
 
 module _ (d : Design) where
-  -- "registers, 4 bytes each, and targets, one byte per state"
+  -- "registers, 4 bytes each, and targets, one byte per state"; 02, E8: and behind them two bytes per state
   abbrev pub registerAreaKept : List ℕ → Bool
   registerAreaKept registers = eqb (length registers) (wordLength * length (d .registers))
 
   abbrev pub targetAreaKept : List ℕ → Bool
-  targetAreaKept targets = eqb (length targets) (length (d .states))
+  targetAreaKept targets = eqb (length targets) (targetLength * length (d .states))
 
   unfoldable pub registerAreaAnswer : List ℕ → Answer
   registerAreaAnswer registers = refusedAt Area (atZeroUnless (registerAreaKept registers))
@@ -55,8 +56,19 @@ module _ (d : Design) where
   unfoldable pub contentsAnswer : List ℕ → Answer
   contentsAnswer registers = refusedAt Area (lowestFailing (contentKept registers) (length (d .registers)))
 
+  -- the targets of a lent area, and the bindings behind them
+  abbrev pub targetsIn : List ℕ → List ℕ
+  targetsIn area = take (length (d .states)) area
+
+  abbrev pub bindingsIn : List ℕ → List ℕ
+  bindingsIn area = drop (length (d .states)) area
+
   unfoldable pub targetsAnswer : Lent → Answer
-  targetsAnswer lent = refusedAt Area (lowestFailing (targetSound d (lent .targets)) (length (d .states)))
+  targetsAnswer lent = refusedAt Area (lowestFailing (targetSound d (targetsIn (lent .targets))) (length (d .states)))
+
+  -- 02, E8: "else 14, after the targets"; decided: in one pass, at the lowest state
+  unfoldable pub bindingsAnswer : Lent → Answer
+  bindingsAnswer lent = refusedAt Area (lowestFailing (bindingSound d (targetsIn (lent .targets)) (bindingsIn (lent .targets))) (length (d .states)))
 
   -- refusal 13: "port write: no such register, or inner"; "the place is the register number given"
   unfoldable pub isWritable : ℕ → Bool
@@ -71,10 +83,11 @@ module _ (d : Design) where
 
   -- the values of lent areas, and the bytes of values
   unfoldable pub areasOf : Lent → Areas
-  areasOf lent = record { registers = wordsOf (length (d .registers)) (lent .registers); targets = lent .targets }
+  areasOf lent =
+      record { registers = wordsOf (length (d .registers)) (lent .registers); targets = targetsIn (lent .targets); bindings = bindingsIn (lent .targets) }
 
 unfoldable pub lentOf : Areas → Lent
-lentOf areas = record { registers = bytesOf (areas .registers); targets = areas .targets }
+lentOf areas = record { registers = bytesOf (areas .registers); targets = areas .targets ++ areas .bindings }
 
 -- refusal 15: "more than 1,000,000 cycles"
 unfoldable pub cyclesAnswer : ℕ → Answer
@@ -89,7 +102,7 @@ unfoldable pub registersLength : List ℕ → Answer
 registersLength image = verdict image before Accepted (wordLength * length (designOf image .registers))
 
 unfoldable pub targetsLength : List ℕ → Answer
-targetsLength image = verdict image before Accepted (length (designOf image .states))
+targetsLength image = verdict image before Accepted (targetLength * length (designOf image .states))
 
 module _ (image : List ℕ) (lent : Lent) where
   -- "A call that overwrites whole areas .. judges only their lengths."
@@ -106,6 +119,7 @@ module _ (image : List ℕ) (lent : Lent) where
       before lengthAnswer (designOf image) lent
       before contentsAnswer (designOf image) (lent .registers)
       before targetsAnswer (designOf image) lent
+      before bindingsAnswer (designOf image) lent
       before cyclesAnswer n
       before Accepted n
 

@@ -100,11 +100,17 @@ pub record Register : Type 0 where
   pub reset : ℕ
   pub width : ℕ
 
--- "states: 4 bytes: parent, label, 16-bit command number"
+-- "parent, label, 16-bit command number"; 02, E8: "after the old four a count of 0 to 2, then two pairs of lower and upper label". The label is a byte that may
+-- stand for a parameter's label.
 pub record State : Type 0 where
   pub parent : ℕ
   pub label : ℕ
   pub command : ℕ
+  pub parameters : ℕ
+  pub firstLower : ℕ
+  pub firstUpper : ℕ
+  pub secondLower : ℕ
+  pub secondUpper : ℕ
 
 -- "A command or expression is a node: byte 0 kind, byte 1 a register or state, then 16-bit fields a, b, c."
 pub record Node : Type 0 where
@@ -122,7 +128,17 @@ abbrev pub registerOf : List ℕ → Register
 registerOf bytes = record { label = byteAt bytes 0; kind = byteAt bytes 1; reset = word32At bytes 2; width = byteAt bytes 6 }
 
 abbrev pub stateOf : List ℕ → State
-stateOf bytes = record { parent = byteAt bytes 0; label = byteAt bytes 1; command = word16At bytes 2 }
+stateOf bytes =
+    record {
+      parent = byteAt bytes 0;
+      label = byteAt bytes 1;
+      command = word16At bytes 2;
+      parameters = byteAt bytes 4;
+      firstLower = byteAt bytes 5;
+      firstUpper = byteAt bytes 6;
+      secondLower = byteAt bytes 7;
+      secondUpper = byteAt bytes 8;
+    }
 
 abbrev pub nodeOf : List ℕ → Node
 nodeOf bytes = record { kind = byteAt bytes 0; item = byteAt bytes 1; a = word16At bytes 2; b = word16At bytes 4; c = word16At bytes 6 }
@@ -166,8 +182,11 @@ noRegister = record { label = 0; kind = 0; reset = 0; width = 0 }
 abbrev pub registerAt : Design → ℕ → Register
 registerAt d r = getD (d .registers) r noRegister
 
+abbrev pub noState : State
+noState = record { parent = 0; label = 0; command = 0; parameters = 0; firstLower = 0; firstUpper = 0; secondLower = 0; secondUpper = 0 }
+
 abbrev pub stateAt : Design → ℕ → State
-stateAt d s = getD (d .states) s (record { parent = 0; label = 0; command = 0 })
+stateAt d s = getD (d .states) s noState
 
 abbrev pub noNode : Node
 noNode = record { kind = 0; item = 0; a = 0; b = 0; c = 0 }

@@ -1,9 +1,10 @@
 -- 01: the kinds of nodes, each at the number that 01 gives it, and refusal 5: what a node of each kind must hold.
-use Prim.Native.Nat.{ℕ}
-use mathlib.Core.Bool.{Bool, false, _&&_}
+use Prim.Native.Nat.{ℕ, _+_}
+use mathlib.Core.Bool.{Bool, false, _&&_, _||_}
 use mathlib.Core.List.{[], _∷_}
-use lib.Dec.{ltb, eqb}
+use lib.Dec.{leb, ltb, eqb}
 use lib.ListN.{length, getD}
+use Rattle.model.specs.Limits.{parameterRegister, bindingLength}
 use Rattle.model.specs.Image.{Design, Node, commandAt, expressionAt}
 
 -- "Kinds 2 to 8 take two parts each, a and b: add, subtract, and, or, xor, equal, less."
@@ -48,8 +49,9 @@ unused field = eqb field 0
 
 -- Refusal 5: "node kind, unused byte, or part, register or state number". "A part of the same family has a number below its owner's."
 module _ (d : Design) (n : ℕ) where
+  -- a register's number, or one of the bytes that name a parameter (02, E8)
   abbrev pub isRegister : ℕ → Bool
-  isRegister r = ltb r (length (d .registers))
+  isRegister r = ltb r (length (d .registers)) || (leb parameterRegister r && ltb r (parameterRegister + bindingLength))
 
   abbrev pub isExpression : ℕ → Bool
   isExpression e = ltb e (length (d .expressions))
@@ -65,7 +67,8 @@ module _ (d : Design) (n : ℕ) where
   commandHolds assigns x = isRegister (x .item) && isExpression (x .a) && unused (x .b) && unused (x .c)
   commandHolds sequences x = unused (x .item) && isPart (x .a) && isPart (x .b) && unused (x .c)
   commandHolds falls x = unused (x .item) && unused (x .a) && unused (x .b) && unused (x .c)
-  commandHolds goes x = isState (x .item) && unused (x .a) && unused (x .b) && unused (x .c)
+  -- 02, E8: "Goto fields a and b carry the arguments"; 16 and 19 judge them
+  commandHolds goes x = isState (x .item) && unused (x .c)
   commandHolds branches x = unused (x .item) && isExpression (x .a) && isPart (x .b) && isPart (x .c)
   commandHolds unknownCommand x = false
 

@@ -51,7 +51,7 @@ unfoldable pub allFlowTo : List ℕ → List ℕ → ℕ → Bool
 allFlowTo rows [] to = Bool.true
 allFlowTo rows (from ∷ more) to = flowsTo rows from to && allFlowTo rows more to
 
--- the label of a register and of a state
+-- the label of a register, and the label byte of a state, which since 02, E8, may stand for a parameter's label
 abbrev pub registerLabel : Design → ℕ → ℕ
 registerLabel d r = registerAt d r .label
 

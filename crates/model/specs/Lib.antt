@@ -11,8 +11,10 @@ pub mod Kinds
 pub mod Trees
 pub mod Nodes
 pub mod Labelling
+pub mod Parameters
 -- 'Shape and flow'
 pub mod Shape
+pub mod Scopes
 pub mod Ports
 pub mod Falls
 pub mod Flow
@@ -20,6 +22,7 @@ pub mod Flow
 pub mod Signed
 pub mod Rounding
 pub mod Values
+pub mod Bindings
 pub mod Machine
 -- 'What a party sees'
 pub mod Parties

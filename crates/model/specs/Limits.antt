@@ -14,8 +14,9 @@ labelLength = 2
 abbrev pub registerLength : ℕ
 registerLength = 7
 
+-- 02, E8: "The state record becomes 9 bytes"; 01 has 4
 abbrev pub stateLength : ℕ
-stateLength = 4
+stateLength = 9
 
 abbrev pub nodeLength : ℕ
 nodeLength = 8
@@ -65,6 +66,26 @@ valueCount = 2 ^ 32
 -- the bytes that a register takes in its area
 abbrev pub wordLength : ℕ
 wordLength = 4
+
+-- 02, E8: "a count of 0 to 2": the most parameters of a state, and the most in its scope
+abbrev pub parametersMax : ℕ
+parametersMax = 2
+
+-- 02, E8: "Register bytes 64 and 65 name them": the byte of the first parameter in scope
+abbrev pub parameterRegister : ℕ
+parameterRegister = 64
+
+-- 02, E8: "state label bytes 16 and 17 stand for their labels": the byte of the first parameter in scope
+abbrev pub parameterLabel : ℕ
+parameterLabel = 16
+
+-- 02, E8: "After the targets their area gains two bytes per state"
+abbrev pub bindingLength : ℕ
+bindingLength = 2
+
+-- the bytes that a state takes in the area of the targets: its target and its bindings
+abbrev pub targetLength : ℕ
+targetLength = 3
 
 -- the length of the largest image: each section has as many records as it may have
 abbrev pub largestImage : ℕ

@@ -1,5 +1,5 @@
 -- 01, 'A cycle': evaluation, execution, reset, a goto, and one cycle with its walk.
-use Prim.Native.Nat.{ℕ, zero, suc}
+use Prim.Native.Nat.{ℕ, zero, suc, _*_}
 use mathlib.Core.Bool.{Bool, _&&_, _||_, not, cond}
 use mathlib.Core.List.{List, [], _∷_, map}
 use lib.Dec.{eqb}
@@ -7,16 +7,18 @@ use lib.ListN.{length, getD, set}
 use Rattle.model.specs.declared.Ending.the-variants.{Goto, Fall}
 use Rattle.model.specs.declared.Outcome.{Outcome}
 use Rattle.model.specs.declared.Outcome.the-variants.{Continued, Transferred}
+use Rattle.model.specs.Limits.{bindingLength}
 use Rattle.model.specs.Indices.{tabulate}
 use Rattle.model.specs.Image.{Design, Register}
 use Rattle.model.specs.States.{parent, isChild, hasChild, defaultTarget, within}
-use Rattle.model.specs.Trees.{Expr, constant, register, binary, Cmd, skip, assign, sequence, fall, goto, branch, bodyOf}
+use Rattle.model.specs.Trees.{Expr, constant, register, binary, Cmd, skip, assign, sequence, fall, goto, branch}
 use Rattle.model.specs.Values.{apply, stored}
+use Rattle.model.specs.Bindings.{bodyWith, boundBy}
 
 -- the value of an expression
 unfoldable pub eval : List ℕ → Expr → ℕ
 eval values (constant v) = v
-eval values (register r) = getD values r 0
+eval values (register n r) = getD values r 0
 eval values (binary o p q) = apply o (eval values p) (eval values q)
 
 -- what a command leaves: the registers, and what it came to
@@ -40,7 +42,7 @@ module _ (registers : List Register) where
       let second = exec (first .registers) q in
       unlessTransferred (first .outcome) first second
   exec values (fall n) = record { registers = values; outcome = Transferred Fall }
-  exec values (goto n t) = record { registers = values; outcome = Transferred (Goto t) }
+  exec values (goto n t a b) = record { registers = values; outcome = Transferred (Goto t a b) }
   -- "An if takes its first branch when the value is not 0"
   exec values (branch n e p q) =
       let isZero = eqb (eval values e) 0 in
@@ -48,15 +50,17 @@ module _ (registers : List Register) where
       let other = exec values q in
       cond isZero other taken
 
--- "The state is two lent areas: registers .. and targets, one byte per state": their values
+-- "The state is two lent areas: registers .. and targets, one byte per state": their values. 02, E8: "After the targets their area gains two bytes per state"
 pub record Areas : Type 0 where
   pub registers : List ℕ
   pub targets : List ℕ
+  pub bindings : List ℕ
 
--- a cycle's effect, and "The walk is the list of states whose commands ran."
+-- A cycle's effect; "The walk is the list of states whose commands ran."; and the bindings that they ran with: only a goto sets any, and it ends the cycle.
 pub record Cycle : Type 0 where
   pub after : Areas
   pub walk : List ℕ
+  pub ranWith : List ℕ
 
 -- the areas after the last of some cycles, which began from the areas given
 unfoldable pub afterLast : Areas → List Cycle → Areas
@@ -64,9 +68,14 @@ afterLast areas [] = areas
 afterLast areas (c ∷ more) = afterLast (c .after) more
 
 module _ (d : Design) where
-  -- "Reset writes the reset values and default children."
+  -- "Reset writes the reset values and default children." 02, E8: bindings are "0 at reset"
   unfoldable pub resetAreas : Areas
-  resetAreas = record { registers = map (λ (r : Register). r .reset) (d .registers); targets = tabulate (defaultTarget d) (length (d .states)) }
+  resetAreas =
+      record {
+        registers = map (λ (r : Register). r .reset) (d .registers);
+        targets = tabulate (defaultTarget d) (length (d .states));
+        bindings = tabulate (λ v. 0) (bindingLength * length (d .states));
+      }
 
   -- "A target is a child of its state; a childless state's is its own number."
   unfoldable pub targetSound : List ℕ → ℕ → Bool
@@ -83,16 +92,21 @@ module _ (d : Design) where
   -- What follows the body of s, by how it ended; `fell` is the cycle that goes on with the target's command. "A fall runs the target's command.
   -- A goto .. ends the cycle." A body that did not transfer, which no accepted design has, ends it too.
   unfoldable pub afterBody : Outcome → ℕ → Areas → Cycle → Cycle
-  afterBody Continued s areas fell = record { after = areas; walk = s ∷ [] }
-  afterBody (Transferred (Goto t)) s areas fell = record { after = record { registers = areas .registers; targets = goneTo t (areas .targets) }; walk = s ∷ [] }
-  afterBody (Transferred Fall) s areas fell = record { after = fell .after; walk = s ∷ fell .walk }
+  afterBody Continued s areas fell = record { after = areas; walk = s ∷ []; ranWith = areas .bindings }
+  afterBody (Transferred (Goto t a b)) s areas fell =
+      record {
+        after = record { registers = areas .registers; targets = goneTo t (areas .targets); bindings = boundBy d t a b (areas .bindings) };
+        walk = s ∷ [];
+        ranWith = areas .bindings;
+      }
+  afterBody (Transferred Fall) s areas fell = record { after = fell .after; walk = s ∷ fell .walk; ranWith = fell .ranWith }
 
   -- The command of s runs, and what follows it. A target has a higher number than its state, so no more bodies run than there are states.
   unfoldable pub runFrom : ℕ → ℕ → Areas → Cycle
-  runFrom zero s areas = record { after = areas; walk = [] }
+  runFrom zero s areas = record { after = areas; walk = []; ranWith = areas .bindings }
   runFrom (suc bodies) s areas =
-      let executed = exec (d .registers) (areas .registers) (bodyOf d s) in
-      let left : Areas = record { registers = executed .registers; targets = areas .targets } in
+      let executed = exec (d .registers) (areas .registers) (bodyWith d (areas .bindings) s) in
+      let left : Areas = record { registers = executed .registers; targets = areas .targets; bindings = areas .bindings } in
       let fell = runFrom bodies (getD (areas .targets) s 0) left in
       afterBody (executed .outcome) s left fell
 

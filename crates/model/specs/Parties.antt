@@ -7,12 +7,13 @@ use mathlib.Core.List.{List, [], _∷_, _++_, map}
 use lib.ListN.{length, getD}
 use Rattle.model.specs.declared.Answer.{Answer}
 use Rattle.model.specs.declared.Answer.the-variants.{Accepted, Refused}
-use Rattle.model.specs.Limits.{wordLength}
+use Rattle.model.specs.Limits.{wordLength, targetLength}
 use Rattle.model.specs.Indices.{joinBelow, tabulate}
 use Rattle.model.specs.Image.{Design, registerAt, designOf}
-use Rattle.model.specs.Lattice.{flowsTo, registerLabel, stateLabel}
+use Rattle.model.specs.Lattice.{flowsTo, registerLabel}
 use Rattle.model.specs.Verdict.{verdict}
 use Rattle.model.specs.Values.{wordsOf, bytesOf}
+use Rattle.model.specs.Bindings.{ownBound, labelWith}
 use Rattle.model.specs.Machine.{Cycle, cycles}
 use Rattle.model.specs.Calls.{Lent, Left, LeftRegisters, areasOf, reset, writePort, run}
 
@@ -55,10 +56,15 @@ unfoldable pub atEnd : List ℕ → Lent → List Call → Lent
 atEnd image lent [] = lent
 atEnd image lent (call ∷ more) = atEnd image (perform image lent call .lent) more
 
+-- A state of the walk as a party sees it. 02, E8: "for each state it sees, the numbers (not the contents) of the registers that were bound to it as it ran"
+pub record RanState : Type 0 where
+  pub state : ℕ
+  pub bound : List ℕ
+
 -- what one cycle shows to a party
 pub record Seen : Type 0 where
   pub values : List ℕ
-  pub walk : List ℕ
+  pub walk : List RanState
 
 -- what remains of a list for the comparison
 pub data Remaining : Type 0 where
@@ -72,24 +78,26 @@ module _ (d : Design) (level : ℕ) where
   abbrev pub registerSeen : ℕ → Bool
   registerSeen r = flowsTo (d .rows) (registerLabel d r) level
 
-  abbrev pub stateSeen : ℕ → Bool
-  stateSeen s = flowsTo (d .rows) (stateLabel d s) level
+  -- 02, E8: "A state that ran is seen by the label its binding gave it then"
+  abbrev pub stateSeen : List ℕ → ℕ → Bool
+  stateSeen bindings s = flowsTo (d .rows) (labelWith d bindings s) level
 
   -- "the values of all registers at or below the level"
   unfoldable pub valuesSeen : List ℕ → List ℕ
   valuesSeen values = joinBelow (λ r. cond (registerSeen r) (getD values r 0 ∷ []) []) (length (d .registers))
 
-  -- the "walk without the states not at or below the level"
-  unfoldable pub walkSeen : List ℕ → List ℕ
-  walkSeen [] = []
-  walkSeen (s ∷ more) = cond (stateSeen s) (s ∷ walkSeen more) (walkSeen more)
+  -- the "walk without the states not at or below the level", by the bindings that they ran with
+  unfoldable pub walkSeen : List ℕ → List ℕ → List RanState
+  walkSeen bindings [] = []
+  walkSeen bindings (s ∷ more) =
+      cond (stateSeen bindings s) (record { state = s; bound = ownBound d bindings s } ∷ walkSeen bindings more) (walkSeen bindings more)
 
   -- "for each cycle in order, the values .. after it, and its walk .."
   unfoldable pub view : List Event → List Seen
   view [] = []
   view (wasReset ∷ more) = view more
   view (wasWritten r v ∷ more) = view more
-  view (cycled c ∷ more) = record { values = valuesSeen (c .after .registers); walk = walkSeen (c .walk) } ∷ view more
+  view (cycled c ∷ more) = record { values = valuesSeen (c .after .registers); walk = walkSeen (c .ranWith) (c .walk) } ∷ view more
 
   -- "with refused calls and port writes to registers not at or below the level struck out, the same resets, port writes (register and value) and cycles
   -- remain"
@@ -106,7 +114,7 @@ module _ (d : Design) (level : ℕ) where
 -- "each has its own two areas of the right lengths"
 pub record RightLengths (d : Design) (lent : Lent) : Type 0 where
   pub registers : length (lent .registers) ≡ wordLength * length (d .registers)
-  pub targets : length (lent .targets) ≡ length (d .states)
+  pub targets : length (lent .targets) ≡ targetLength * length (d .states)
 
 -- One use of the box: two areas, the values given to registers, and a list of calls of any length. 02, E2: "registers set freely stay within their widths".
 pub record Use (d : Design) : Type 0 where

@@ -1,11 +1,11 @@
 -- 02, E6, 'Raise the labels for me': what a raising of an image is, how the least one is computed, and the call.
 use Prim.Native.Nat.{ℕ, zero, suc, _+_, _*_, _<_}
 use mathlib.Core.Path.{_≡_}
-use mathlib.Core.Bool.{Bool, true, false, _&&_}
+use mathlib.Core.Bool.{Bool, true, false, _&&_, not}
 use mathlib.Core.List.{List, [], _∷_, _++_, map}
 use lib.Dec.{eqb}
 use lib.ListN.{length, getD, set}
-use Rattle.model.specs.declared.Refusal.the-variants.{Area, NoRaising}
+use Rattle.model.specs.declared.Refusal.the-variants.{Area, NoRaising, RaiseParameters}
 use Rattle.model.specs.declared.Answer.{Answer}
 use Rattle.model.specs.declared.Answer.the-variants.{Accepted, Refused}
 use Rattle.model.specs.Limits.{registerLength}
@@ -15,6 +15,7 @@ use Rattle.model.specs.Lattice.{flowsTo, implies, allFlowTo, registerLab
 use Rattle.model.specs.States.{foundOr}
 use Rattle.model.specs.Trees.{Expr, Cmd, skip, assign, sequence, fall, goto, branch, bodyOf, registersRead}
 use Rattle.model.specs.Labelling.{labelsOf}
+use Rattle.model.specs.Parameters.{hasParameters}
 use Rattle.model.specs.Rules.{FlowsTo, Keeps}
 use Rattle.model.specs.Verdict.{_before_, refusedAt, atZeroUnless, structure, verdict}
 
@@ -64,7 +65,7 @@ module _ (d : Design) where
   raisedBy context (assign n r e) labels = set labels r (joinOf (d .rows) (getD labels r 0 ∷ (context ++ labelsReadBy labels e)))
   raisedBy context (sequence n p q) labels = raisedBy context q (raisedBy context p labels)
   raisedBy context (fall n) labels = labels
-  raisedBy context (goto n t) labels = labels
+  raisedBy context (goto n t a b) labels = labels
   raisedBy context (branch n e p q) labels = let inner = context ++ labelsReadBy labels e in raisedBy inner q (raisedBy inner p labels)
 
   -- the same by the bodies of the first n states, one after the other
@@ -111,10 +112,12 @@ leavesOut (Refused refusal place) out made = record { answer = Refused refusal p
 
 module _ (image out : List ℕ) where
   -- "Given an image that passes all checks up to 9, 16 included"; "An output area not as long as the image is refusal 14, judged after the image checks. It
-  -- refuses with 18, place 0 and after 14, exactly if no accepted raising exists."
+  -- refuses with 18, place 0 and after 14, exactly if no accepted raising exists." 02, E8: "raising refuses with 20, place 0, after its image checks and before
+  -- 14, an image that has parameters"
   unfoldable pub raiseAnswer : Answer
   raiseAnswer =
       structure image
+      before refusedAt RaiseParameters (atZeroUnless (not (hasParameters (designOf image))))
       before refusedAt Area (atZeroUnless (eqb (length out) (length image)))
       before refusedAt NoRaising (atZeroUnless (accepts (verdict (raisedImage image))))
 

@@ -6,17 +6,18 @@ use mathlib.Core.Logic.{_↔_, _⊎_}
 use mathlib.Core.List.{List, [], _∷_, _++_}
 use lib.ListN.{length, getD}
 use Rattle.model.specs.declared.Refusal.{Refusal}
-use Rattle.model.specs.declared.Refusal.the-variants.{Directory, LabelRow, RegisterRecord, StateRecord, NodeRecord, NodeUse, Depth, Shape, ChildLabel, AssignFlow, GotoFlow, FallFlow, NoPort, Area, CycleCount, PortAssigned, PortValue, NoRaising}
-use Rattle.model.specs.Limits.{expressionPlace, cyclesMax, wordLength}
-use Rattle.model.specs.Image.{Design, designOf, registerAt}
+use Rattle.model.specs.declared.Refusal.the-variants.{Directory, LabelRow, RegisterRecord, StateRecord, NodeRecord, NodeUse, Depth, Shape, ChildLabel, AssignFlow, GotoFlow, FallFlow, NoPort, Area, CycleCount, PortAssigned, PortValue, NoRaising, Parameter, RaiseParameters}
+use Rattle.model.specs.Limits.{expressionPlace, cyclesMax, wordLength, bindingLength}
+use Rattle.model.specs.Image.{Design, designOf, registerAt, stateAt}
 use Rattle.model.specs.Lattice.{registerLabel, stateLabel}
 use Rattle.model.specs.Trees.{Cmd, skip, assign, sequence, fall, goto, branch, bodyOf}
-use Rattle.model.specs.Flow.{labelsRead}
-use Rattle.model.specs.Rules.{DirectoryKeeps, LabelKeeps, RegisterKeeps, StateKeeps, CommandKeeps, ExpressionKeeps, CommandUsedOnce, ExpressionUsedOnce, CommandDepthKeeps, ExpressionDepthKeeps, ChildLabelKeeps, NamesNoPort}
-use Rattle.model.specs.Standing.{ChildOf, ShapeKeeps, AllFlow}
+use Rattle.model.specs.Parameters.{labelByte}
+use Rattle.model.specs.Flow.{labelsRead, namedLabel}
+use Rattle.model.specs.Rules.{DirectoryKeeps, LabelKeeps, RegisterKeeps, StateKeeps, CommandKeeps, ExpressionKeeps, CommandUsedOnce, ExpressionUsedOnce, CommandDepthKeeps, ExpressionDepthKeeps, ChildLabelKeeps, NamesNoPort, ParametersKeep, Within}
+use Rattle.model.specs.Standing.{ChildOf, ShapeKeeps, ScopeKeeps, EachFlow}
 use Rattle.model.specs.Values.{wordsOf}
 use Rattle.model.specs.Answers.{Numbers, numberOf}
-use Rattle.model.specs.Calls.{Lent}
+use Rattle.model.specs.Calls.{Lent, targetsIn, bindingsIn}
 use Rattle.model.specs.Raising.{AcceptedRaising}
 use Rattle.model.specs.Parties.{RightLengths, Call, resets, writes, runs}
 
@@ -74,12 +75,12 @@ pub record eachNode (d : Design) (P Q : ℕ → Type 0) (place : ℕ) : Type 0 w
 abbrev pub flowRules : Design → ℕ → List ℕ → Cmd → List Pass
 flowRules d s context (skip n) = []
 -- "Assign: the context and each register read flow to the label written."
-flowRules d s context (assign n r e) = (AssignFlow asks at n (AllFlow d (context ++ labelsRead d e) (registerLabel d r)) ∷ []) ∷ []
+flowRules d s context (assign n r e) = (AssignFlow asks at n (EachFlow d s (context ++ labelsRead d e) (labelByte d r)) ∷ []) ∷ []
 flowRules d s context (sequence n p q) = flowRules d s context p ++ flowRules d s context q
 -- "Fall: the context flows to the own state's label."
-flowRules d s context (fall n) = (FallFlow asks at n (AllFlow d context (stateLabel d s)) ∷ []) ∷ []
+flowRules d s context (fall n) = (FallFlow asks at n (EachFlow d s context (stateLabel d s)) ∷ []) ∷ []
 -- "Goto: the context flows to the named state's label."
-flowRules d s context (goto n t) = (GotoFlow asks at n (AllFlow d context (stateLabel d t)) ∷ []) ∷ []
+flowRules d s context (goto n t a b) = (GotoFlow asks at n (EachFlow d s context (namedLabel d t a b)) ∷ []) ∷ []
 flowRules d s context (branch n e p q) = flowRules d s (context ++ labelsRead d e) p ++ flowRules d s (context ++ labelsRead d e) q
 
 -- those of the first n states
@@ -88,7 +89,7 @@ flowTable d zero = []
 flowTable d (suc n) = flowTable d n ++ flowRules d n (stateLabel d n ∷ []) (bodyOf d n)
 
 -- ---- the table
--- the image checks but for 10 to 12, in the order of judging. 02, E1: 16 comes "after 8 and before 9".
+-- the image checks but for 10 to 12, in the order of judging. 02, E1: 16 comes "after 8 and before 9"; 02, E8: 19 "after 16 and before 9".
 abbrev pub structureTable : List ℕ → List Pass
 structureTable image =
     let d = designOf image in
@@ -101,6 +102,8 @@ structureTable image =
     ∷ (Depth asks eachNode d (CommandDepthKeeps d) (ExpressionDepthKeeps d) ∷ [])
     ∷ (Shape asks ShapeKeeps d ∷ [])
     ∷ (PortAssigned asks each (length (d .commands)) (NamesNoPort d) ∷ [])
+    ∷ (Parameter asks each (length (d .states)) (ParametersKeep d) ∷ [])
+    ∷ (Parameter asks ScopeKeeps d ∷ [])
     ∷ (ChildLabel asks each (length (d .states)) (ChildLabelKeeps d) ∷ [])
     ∷ []
 
@@ -115,6 +118,22 @@ TargetKeeps d targets s = ChildOf d s (getD targets s 0) ⊎ (((q : ℕ) → Chi
 -- 02, E2: no register holds "a value too large"
 abbrev pub ContentKeeps : Design → List ℕ → ℕ → Type 0
 ContentKeeps d registers r = getD (wordsOf (length (d .registers)) registers) r 0 < 2 ^ registerAt d r .width
+
+-- 02, E8: a state along the current targets
+pub data OnPath (d : Design) (targets : List ℕ) : ℕ → Type 0 where
+  root : OnPath d targets 0
+  target : {s q : ℕ} → OnPath d targets s → ChildOf d s q → getD targets s 0 ≡ q → OnPath d targets q
+
+-- 02, E8: "each is 0 or an existing register's number, and along the current targets each bound register exists, is no port and its label lies within its bounds"
+pub record BoundKeeps (d : Design) (v r : ℕ) : Type 0 where
+  pub exists : r < length (d .registers)
+  pub no-port : registerAt d r .kind ≡ 1 → ⊥
+  pub within : Within d v (registerLabel d r)
+
+pub record BindingKeeps (d : Design) (targets bindings : List ℕ) (s : ℕ) : Type 0 where
+  pub first : (getD bindings (bindingLength * s) 0 ≡ 0) ⊎ (getD bindings (bindingLength * s) 0 < length (d .registers))
+  pub second : (getD bindings (bindingLength * s + 1) 0 ≡ 0) ⊎ (getD bindings (bindingLength * s + 1) 0 < length (d .registers))
+  pub along : OnPath d targets s → (j : ℕ) → j < stateAt d s .parameters → BoundKeeps d (bindingLength * s + j) (getD bindings (bindingLength * s + j) 0)
 
 -- every register is within its width
 abbrev pub WithinWidths : Design → List ℕ → Type 0
@@ -137,21 +156,24 @@ module _ (image : List ℕ) where
       ∷ [])
 
   -- run: "In 14 a wrong length comes first, with place 0, then any fault that a request adds in the registers' contents, at the lowest register, then an
-  -- unsound target, at the lowest state."
+  -- unsound target, at the lowest state." 02, E8: then an unsound binding
   abbrev pub runTable : Lent → ℕ → List Pass
   runTable lent n =
       imageTable image
       ++ ((Area asks at 0 (RightLengths (designOf image) lent) ∷ [])
       ∷ (Area asks each (length (designOf image .registers)) (ContentKeeps (designOf image) (lent .registers)) ∷ [])
-      ∷ (Area asks each (length (designOf image .states)) (TargetKeeps (designOf image) (lent .targets)) ∷ [])
+      ∷ (Area asks each (length (designOf image .states)) (TargetKeeps (designOf image) (targetsIn (designOf image) (lent .targets))) ∷ [])
+      ∷ (Area asks each (length (designOf image .states)) (BindingKeeps (designOf image) (targetsIn (designOf image) (lent .targets)) (bindingsIn (designOf image) (lent .targets))) ∷ [])
       ∷ (CycleCount asks at 0 (n ≤ cyclesMax) ∷ [])
       ∷ [])
 
--- 02, E6, raising: 10 to 12 are not asked of the image; 14 "judged after the image checks"; "18, place 0 and after 14, exactly if no accepted raising exists"
+-- 02, E6, raising: 10 to 12 are not asked of the image; 14 "judged after the image checks"; "18, place 0 and after 14, exactly if no accepted raising exists".
+-- 02, E8: "raising refuses with 20, place 0, after its image checks and before 14, an image that has parameters"
 abbrev pub raiseTable : List ℕ → List ℕ → List Pass
 raiseTable image out =
     structureTable image
-    ++ ((Area asks at 0 (length out ≡ length image) ∷ [])
+    ++ ((RaiseParameters asks at 0 ((s : ℕ) → s < length (designOf image .states) → stateAt (designOf image) s .parameters ≡ 0) ∷ [])
+    ∷ (Area asks at 0 (length out ≡ length image) ∷ [])
     ∷ (NoRaising asks at 0 ((raised : List ℕ) × AcceptedRaising image raised) ∷ [])
     ∷ [])
 

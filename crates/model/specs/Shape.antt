@@ -15,7 +15,7 @@ transfers (skip n) = false
 transfers (assign n r e) = false
 transfers (sequence n p q) = transfers q
 transfers (fall n) = true
-transfers (goto n t) = true
+transfers (goto n t a b) = true
 transfers (branch n e p q) = transfers p && transfers q
 
 -- the node, unless its rule holds
@@ -33,7 +33,7 @@ module _ (d : Design) (s : ℕ) where
   -- "A fall needs a child."
   shapeFaults (fall n) = chargedUnless (hasChild d s) n
   -- "A goto names a sibling or the state itself; the root holds no goto."
-  shapeFaults (goto n t) = chargedUnless (siblingOrSelf d s t) n
+  shapeFaults (goto n t a b) = chargedUnless (siblingOrSelf d s t) n
   -- "An if has two transferring branches or none."
   shapeFaults (branch n e p q) = chargedUnless (Bool·beq (transfers p) (transfers q)) n ++ (shapeFaults p ++ shapeFaults q)
 

@@ -1,5 +1,5 @@
 -- 01, the last paragraph of 'The image': the tree of states. And refusals 3 and 4, which judge a register or a state by its record.
-use Prim.Native.Nat.{ℕ, zero, suc, _^_}
+use Prim.Native.Nat.{ℕ, zero, suc, _+_, _^_}
 use mathlib.Core.Bool.{Bool, false, _&&_, _||_, not}
 use lib.Dec.{leb, ltb, eqb}
 use lib.ListN.{length}
@@ -8,7 +8,7 @@ use Rattle.model.specs.declared.Found.the-variants.{At, Nowhere}
 use Rattle.model.specs.Indices.{lowest, someBelow, recursively}
 use Rattle.model.specs.Image.{Design, registerAt, stateAt}
 use Rattle.model.specs.Lattice.{stateLabel}
-use Rattle.model.specs.Limits.{widthMax}
+use Rattle.model.specs.Limits.{widthMax, parameterLabel, parametersMax, bindingLength}
 
 -- what was found, else s
 abbrev pub foundOr : ℕ → Found → ℕ
@@ -31,14 +31,19 @@ module _ (d : Design) where
   unfoldable pub registerKept : ℕ → Bool
   registerKept r = ltb (registerAt d r .label) (length (d .rows)) && leb (registerAt d r .kind) 1 && widthKept r
 
-  -- "State 0 is the root: parent 0, label 0. Any other parent has a lower number than its child."
+  -- 02, E8: "state label bytes 16 and 17 stand for their labels"
+  abbrev pub labelIsParameter : ℕ → Bool
+  labelIsParameter s = leb parameterLabel (stateLabel d s) && ltb (stateLabel d s) (parameterLabel + bindingLength)
+
+  -- "State 0 is the root: parent 0, label 0. Any other parent has a lower number than its child." Of label bytes 16 and 17 it says nothing: "19 judges all these
+  -- bytes, not 4 or 5".
   unfoldable pub parentKept : ℕ → Bool
-  parentKept zero = eqb (parent 0) 0 && eqb (stateLabel d 0) 0
+  parentKept zero = eqb (parent 0) 0 && (eqb (stateLabel d 0) 0 || labelIsParameter 0)
   parentKept (suc s) = ltb (parent (suc s)) (suc s)
 
   -- refusal 4: "state's parent, label or command number"
   unfoldable pub stateKept : ℕ → Bool
-  stateKept s = parentKept s && ltb (stateLabel d s) (length (d .rows)) && ltb (stateAt d s .command) (length (d .commands))
+  stateKept s = parentKept s && (ltb (stateLabel d s) (length (d .rows)) || labelIsParameter s) && ltb (stateAt d s .command) (length (d .commands))
 
   -- state q is a child of s
   unfoldable pub isChild : ℕ → ℕ → Bool

@@ -1,4 +1,4 @@
--- 01, 'When the box says no': the image checks, each with its place, in the order of the table; 02, E1, puts 16 between 8 and 9.
+-- 01, 'When the box says no': the image checks, each with its place, in the order of the table; 02, E1, puts 16 between 8 and 9, and E8 puts 19 behind 16.
 use Prim.Native.Nat.{ℕ, _+_}
 use mathlib.Core.Bool.{Bool, true, false}
 use mathlib.Core.List.{List}
@@ -6,7 +6,7 @@ use lib.ListN.{length}
 use Rattle.model.specs.declared.Found.{Found}
 use Rattle.model.specs.declared.Found.the-variants.{At, Nowhere}
 use Rattle.model.specs.declared.Refusal.{Refusal}
-use Rattle.model.specs.declared.Refusal.the-variants.{Directory, LabelRow, RegisterRecord, StateRecord, NodeRecord, NodeUse, Depth, Shape, ChildLabel, PortAssigned}
+use Rattle.model.specs.declared.Refusal.the-variants.{Directory, LabelRow, RegisterRecord, StateRecord, NodeRecord, NodeUse, Depth, Shape, ChildLabel, PortAssigned, Parameter}
 use Rattle.model.specs.declared.Answer.{Answer}
 use Rattle.model.specs.declared.Answer.the-variants.{Accepted, Refused}
 use Rattle.model.specs.Limits.{expressionPlace}
@@ -18,6 +18,8 @@ use Rattle.model.specs.Kinds.{commandKept, expressionKept}
 use Rattle.model.specs.Nodes.{commandUsedOnce, expressionUsedOnce, commandDepthKept, expressionDepthKept}
 use Rattle.model.specs.Shape.{shapeFault}
 use Rattle.model.specs.Ports.{namesNoPort}
+use Rattle.model.specs.Parameters.{parametersKept}
+use Rattle.model.specs.Scopes.{scopeFault}
 use Rattle.model.specs.Falls.{childLabelKept}
 use Rattle.model.specs.Flow.{flowAnswer}
 
@@ -48,7 +50,8 @@ unfoldable pub lowestNode : Design → (ℕ → Bool) → (ℕ → Bool) → Fou
 lowestNode d command expression =
     commandsFirst (lowestFailing command (length (d .commands))) (lowestFailing expression (length (d .expressions)))
 
--- refusals 2 to 9 and 16: the records, the nodes and their shape. 02, E1: "It refuses with 16 at the lowest such assignment, after 8 and before 9."
+-- refusals 2 to 9, 16 and 19: the records, the nodes and their shape. 02, E1: "It refuses with 16 at the lowest such assignment, after 8 and before 9." 02, E8: "It
+-- refuses with 19, after 16 and before 9, .. at the lowest state, else the lowest node".
 unfoldable pub designStructure : Design → Answer
 designStructure d =
     refusedAt LabelRow (lowestFailing (labelKept (d .rows)) (length (d .rows)))
@@ -59,12 +62,14 @@ designStructure d =
     before refusedAt Depth (lowestNode d (commandDepthKept d) (expressionDepthKept d))
     before refusedAt Shape (shapeFault d)
     before refusedAt PortAssigned (lowestFailing (namesNoPort d) (length (d .commands)))
+    before refusedAt Parameter (lowestFailing (parametersKept d) (length (d .states)))
+    before refusedAt Parameter (scopeFault d)
     before refusedAt ChildLabel (lowestFailing (childLabelKept d) (length (d .states)))
 
 -- the image checks but for 10 to 12
 unfoldable pub structure : List ℕ → Answer
 structure image = refusedAt Directory (atZeroUnless (directoryKept image)) before designStructure (designOf image)
 
--- the image checks, 1 to 12 and 16: what every call of 01 makes first
+-- the image checks, 1 to 12, 16 and 19: what every call of 01 makes first
 unfoldable pub verdict : List ℕ → Answer
 verdict image = structure image before flowAnswer (designOf image)

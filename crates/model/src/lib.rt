@@ -1,9 +1,9 @@
 // The vocabulary that the definitions in specs/ and the code share: how a body ends, what a command
 // comes to, what a search finds, and what a call answers. What each case means is said in specs/.
 
-// How a body ends: by a goto, with the state it names, or by a fall.
+// How a body ends: by a goto, with the state it names and the registers that are its arguments, or by a fall.
 pub enum Ending {
-    Goto(usize),
+    Goto(usize, usize, usize),
     Fall,
 }
 
@@ -39,6 +39,8 @@ pub enum Refusal {
     PortAssigned,
     PortValue,
     NoRaising,
+    Parameter,
+    RaiseParameters,
     GateDirectory,
     GateWire,
 }
