@@ -1,5 +1,9 @@
 -- Laws of the definitions, by file of specs/. Users cite the laws and do not unfold.
 pub mod Booleans
+pub mod Choices
+pub mod Scopes
+pub mod Bounds
+pub mod Paths
 pub mod Bits
 pub mod Equivalences
 pub mod Indices
@@ -8,6 +12,8 @@ pub mod Images
 pub mod Found
 pub mod States
 pub mod Gotos
+pub mod Spares
+pub mod Bindings
 pub mod Commands
 pub mod Cycles
 pub mod Verdict
@@ -22,6 +28,7 @@ pub mod Kinds
 pub mod Signed
 pub mod Trees
 pub mod Joins
+pub mod Plain
 pub mod Labelling
 pub mod Relabelling
 pub mod LabelBytes

@@ -38,6 +38,6 @@ module _ (registers : List Register) where
       let after = exec-length values p in
       sequence-all (λ x. length (x .registers) ≡ length values) values n p q after (exec-length (exec registers values p .registers) q ∙ after)
   exec-length values (fall n) = refl
-  exec-length values (goto n t) = refl
+  exec-length values (goto n t x y) = refl
   exec-length values (branch n e p q) =
       branch-all (λ x. length (x .registers) ≡ length values) values n e p q (exec-length values p) (exec-length values q)

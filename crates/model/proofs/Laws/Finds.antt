@@ -23,15 +23,18 @@ use Rattle.model.proofs.Laws.Broken.{Finds}
 same-place : {i j : ℕ} → At i ≡ At j → i ≡ j
 same-place e = cc
 
--- a rule of each index below n
-pub finds-each : {rule : ℕ → Bool} {n : ℕ} {P : ℕ → Type 0} → ((k : ℕ) → (rule k ≡ true) ↔ P k) → Finds (lowestFailing rule n) (each n P)
+-- a rule of each index below n, whose test says it there
+pub finds-below : {rule : ℕ → Bool} {n : ℕ} {P : ℕ → Type 0} → ((k : ℕ) → k < n → (rule k ≡ true) ↔ P k) → Finds (lowestFailing rule n) (each n P)
 unfolding lowestFailing
-finds-each {rule} {n} f =
+finds-below {rule} {n} f =
     record {
-      nowhere = λ e k l. f k .0 (failing-none rule n e k l);
-      broken = λ i e kept. let found = lowest-at (λ k. not (rule k)) n i e in true-or-false (rule i) (f i .1 (kept (found .below))) (not-true (rule i) (found .passes));
-      lower = λ i e k l below. let found = lowest-at (λ k. not (rule k)) n i e in f k .0 (not-false (rule k) (found .none-lower k l));
+      nowhere = λ e k l. f k l .0 (failing-none rule n e k l);
+      broken = λ i e kept. let found = lowest-at (λ k. not (rule k)) n i e in true-or-false (rule i) (f i (found .below) .1 (kept (found .below))) (not-true (rule i) (found .passes));
+      lower = λ i e k l below. let found = lowest-at (λ k. not (rule k)) n i e in f k below .0 (not-false (rule k) (found .none-lower k l));
     }
+
+pub finds-each : {rule : ℕ → Bool} {n : ℕ} {P : ℕ → Type 0} → ((k : ℕ) → (rule k ≡ true) ↔ P k) → Finds (lowestFailing rule n) (each n P)
+finds-each f = finds-below (λ k l. f k)
 
 -- a test that is charged to one place
 pub finds-charged : {b : Bool} {P : Type 0} (r : ℕ) → ((b ≡ true) ↔ P) → Finds (cond b Nowhere (At r)) (at r P)

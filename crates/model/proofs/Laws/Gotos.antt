@@ -10,11 +10,11 @@ use native.Mathlib.Decide.{decLe, ℕ-discrete}
 use lib.Dec.{ltb, eqb}
 use lib.ListN.{length, getD, length-set}
 use lib.Seq.{getD-set-same, getD-set-other}
-use borrow.Author.Tests.{ltb-true, eq-eqb, ne-eqb}
+use borrow.Author.Tests.{ltb-true, eqb-true, eq-eqb, ne-eqb}
 use Rattle.model.specs.Image.{Design}
 use Rattle.model.specs.States.{parent, defaultTarget, within}
 use Rattle.model.specs.Machine.{targetSound, cleared, goneTo}
-use Rattle.model.proofs.Laws.Booleans.{decide, and-both, or-first, or-second, or-neither, false-not, true-or-false, cond-true, cond-false}
+use Rattle.model.proofs.Laws.Booleans.{decide, and-second, and-both, or-cases, or-first, or-second, or-neither, false-not, true-or-false, cond-true, cond-false}
 use Rattle.model.proofs.Laws.Indices.{length-tabulate, getD-tabulate, recursively-step, onlyBelow, only-below-at, nothing-below-zero}
 use Rattle.model.proofs.Laws.States.{ChildOf, is-child, child-sound, default-sound}
 
@@ -62,6 +62,18 @@ module _ (d : Design) where
       go : Dec (s ≤ q) → s ≤ q
       go (yes l) = l
       go (no k) = absurd (true-or-false (within d s q) h (within-below s q (omega arith)))
+
+  -- a state within s other than s has its parent within s
+  pub within-parent : (s q : ℕ) → q ≢ s → within d s q ≡ true → within d s (parent d q) ≡ true
+  within-parent s q other h = go (or-cases (eqb q s) _ (rw (within-step s q) at h))
+    where
+      below : (b : Bool) → ltb (parent d q) q ≡ b → onlyBelow false q (within d s) (parent d q) ≡ true → within d s (parent d q) ≡ true
+      below true e k = rw (only-below-at false q (parent d q) (within d s) (ltb-true (parent d q) q e)) at k
+      below false e k = let none : false ≡ true = rw (e, onlyBelow) at k in absurd (true-or-false false none refl)
+
+      go : (eqb q s ≡ true) ⊎ ((not (eqb q 0) && onlyBelow false q (within d s) (parent d q)) ≡ true) → within d s (parent d q) ≡ true
+      go (inl e) = absurd (other (eqb-true q s e))
+      go (inr k) = below (ltb (parent d q) q) refl (and-second (not (eqb q 0)) _ k)
 
   -- ---- the table after a goto
   pub length-cleared : (t : ℕ) (targets : List ℕ) → length (cleared d t targets) ≡ length targets

@@ -7,7 +7,7 @@ use native.Mathlib.Nat.{add-zero, add-assoc}
 use lib.ListN.{length, getD, drop}
 use lib.Seq.{getD-drop, drop-drop}
 use Rattle.model.specs.Limits.{labelLength, registerLength, stateLength, nodeLength}
-use Rattle.model.specs.Image.{Section, Labels, Registers, States, Commands, Expressions, byteAt, word16At, word32At, recordLength, offset, count, recordsOf, sectionOf, Register, State, Node, rowOf, registerOf, stateOf, nodeOf, designOf, noRegister, registerAt, stateAt, commandAt, expressionAt, noNode}
+use Rattle.model.specs.Image.{Section, Labels, Registers, States, Commands, Expressions, byteAt, word16At, word32At, recordLength, offset, count, recordsOf, sectionOf, Register, State, Node, rowOf, registerOf, stateOf, nodeOf, designOf, noRegister, registerAt, stateAt, commandAt, expressionAt, noState, noNode}
 use Rattle.model.proofs.Laws.Words.{length-recordsOf}
 
 -- ---- records
@@ -76,16 +76,26 @@ module _ (image : List ℕ) where
     pub parent : stateAt (designOf image) s .parent ≡ byteAt image k
     pub label : stateAt (designOf image) s .label ≡ byteAt image (k + 1)
     pub command : stateAt (designOf image) s .command ≡ word16At image (k + 2)
+    pub parameters : stateAt (designOf image) s .parameters ≡ byteAt image (k + 4)
+    pub first-lower : stateAt (designOf image) s .firstLower ≡ byteAt image (k + 5)
+    pub first-upper : stateAt (designOf image) s .firstUpper ≡ byteAt image (k + 6)
+    pub second-lower : stateAt (designOf image) s .secondLower ≡ byteAt image (k + 7)
+    pub second-upper : stateAt (designOf image) s .secondUpper ≡ byteAt image (k + 8)
 
   pub state-is : (s : ℕ) → s < count image States → StateIs s (offset image States + stateLength * s)
   unfolding designOf
   state-is s l =
       let k = offset image States + stateLength * s in
-      let at = section-at stateOf image States s (record { parent = 0; label = 0; command = 0 }) l in
+      let at = section-at stateOf image States s noState l in
       record {
         parent = ap (λ (x : State). x .parent) at ∙ first-byte image k;
         label = ap (λ (x : State). x .label) at ∙ byte-behind image k 1;
         command = ap (λ (x : State). x .command) at ∙ word16-behind image k 2;
+        parameters = ap (λ (x : State). x .parameters) at ∙ byte-behind image k 4;
+        first-lower = ap (λ (x : State). x .firstLower) at ∙ byte-behind image k 5;
+        first-upper = ap (λ (x : State). x .firstUpper) at ∙ byte-behind image k 6;
+        second-lower = ap (λ (x : State). x .secondLower) at ∙ byte-behind image k 7;
+        second-upper = ap (λ (x : State). x .secondUpper) at ∙ byte-behind image k 8;
       }
 
   pub record NodeIs (x : Node) (k : ℕ) : Type 0 where

@@ -7,7 +7,7 @@ use mathlib.Core.List.{[], _∷_}
 use native.Mathlib.Omega.{arith}
 use lib.ListN.{getD}
 use Rattle.model.specs.declared.Refusal.{Refusal}
-use Rattle.model.specs.declared.Refusal.the-variants.{Directory, LabelRow, RegisterRecord, StateRecord, NodeRecord, NodeUse, Depth, Shape, ChildLabel, AssignFlow, GotoFlow, FallFlow, NoPort, Area, CycleCount, PortAssigned, PortValue, NoRaising, GateDirectory, GateWire}
+use Rattle.model.specs.declared.Refusal.the-variants.{Directory, LabelRow, RegisterRecord, StateRecord, NodeRecord, NodeUse, Depth, Shape, ChildLabel, AssignFlow, GotoFlow, FallFlow, NoPort, Area, CycleCount, PortAssigned, PortValue, NoRaising, Parameter, RaiseParameters, GateDirectory, GateWire}
 use Rattle.model.specs.declared.Answer.{Answer}
 use Rattle.model.specs.declared.Answer.the-variants.{Accepted, Refused}
 use Rattle.model.specs.Answers.{Numbers, numberOf, numbersOf}
@@ -34,8 +34,8 @@ numbered n =
     ∷ PortAssigned
     ∷ PortValue
     ∷ NoRaising
-    ∷ Directory
-    ∷ Directory
+    ∷ Parameter
+    ∷ RaiseParameters
     ∷ Directory
     ∷ Directory
     ∷ Directory
@@ -65,6 +65,8 @@ numbered-back CycleCount = refl
 numbered-back PortAssigned = refl
 numbered-back PortValue = refl
 numbered-back NoRaising = refl
+numbered-back Parameter = refl
+numbered-back RaiseParameters = refl
 numbered-back GateDirectory = refl
 numbered-back GateWire = refl
 

@@ -1,6 +1,8 @@
--- A design with other labels keeps the rules behind refusals 2 to 9 and 16: of these only refusal 3 reads a register's label, and no tree does.
+-- A design without parameters keeps under other labels the rules behind refusals 2 to 9, 16 and 19: of these only refusal 3 reads a register's label there, and no
+-- tree does.
 use Prim.Native.Nat.{ℕ, zero, suc, _<_}
 use mathlib.Core.Path.{_≡_, refl, sym, _∙_, ap}
+use mathlib.Core.Logic.{inl, inr}
 use mathlib.Core.List.{List, [], _∷_, map}
 use native.Mathlib.Omega.{arith}
 use native.Mathlib.Decide.{decLt}
@@ -10,13 +12,16 @@ use Rattle.model.specs.Image.{Design, Register, Node, noRegister, comman
 use Rattle.model.specs.Lattice.{registerLabel}
 use Rattle.model.specs.States.{isChild, hasChild, siblingOrSelf}
 use Rattle.model.specs.Kinds.{CommandKind, skips, assigns, sequences, falls, goes, branches, unknownCommand, ExpressionKind, constants, reads, unknownExpression, operates, commandKind, expressionKind}
-use Rattle.model.specs.Trees.{Expr, Cmd, skip, assign, sequence, fall, goto, branch, registersRead, exprStep, exprOf, cmdStep, cmdOf, bodyOf}
+use Rattle.model.specs.Trees.{Expr, constant, register, binary, Cmd, skip, assign, sequence, fall, goto, branch, registersRead, exprStep, exprOf, cmdStep, cmdOf, bodyOf}
 use Rattle.model.specs.Nodes.{commandUses, expressionUses}
+use Rattle.model.specs.Parameters.{ownParameters, scopeOf}
+use Rattle.model.specs.Scopes.{nameKept}
 use Rattle.model.specs.Flow.{labelsRead}
 use Rattle.model.specs.Labelling.{labelsOf, withLabels, relabelled}
 use Rattle.model.specs.Raising.{labelsReadBy}
-use Rattle.model.specs.Rules.{CommandHolds, ExpressionHolds, Shaped, StructureKeeps}
+use Rattle.model.specs.Rules.{IsChoice, none-chosen, one-more, RegisterByte, CommandHolds, ExpressionHolds, ReadsScoped, Scoped, Shaped, StructureKeeps}
 use Rattle.model.proofs.Laws.Labelling.{length-with-labels, relabelled-label, relabelled-kind, relabelled-reset, relabelled-width, relabelled-own}
+use Rattle.model.proofs.Laws.Plain.{Plain, plainRead, plain-arguments, plain-reads}
 
 -- ---- the labels of a design
 pub length-labels : (d : Design) → length (labelsOf d) ≡ length (d .registers)
@@ -60,19 +65,48 @@ module _ (d : Design) (labels : List ℕ) (same : length labels ≡ length (d .r
       ext-getD 0 (labelsOf (relabelled d labels)) labels long (λ r l. label-at (relabelled d labels) r ∙ register-label r)
 
   -- the labels that an expression reads
-  pub labels-read : (e : Expr) → labelsRead (relabelled d labels) e ≡ labelsReadBy labels e
-  unfolding labelsRead labelsReadBy
-  labels-read e = all (registersRead e)
+  pub plain-labels-read : (e : Expr) → plainRead (relabelled d labels) e ≡ labelsReadBy labels e
+  unfolding labelsReadBy
+  plain-labels-read e = all (registersRead e)
     where
       all : (rs : List ℕ) → map (registerLabel (relabelled d labels)) rs ≡ map (λ r. getD labels r 0) rs
       all [] = refl
       all (r ∷ rs) = rw (register-label r, all rs)
 
+-- ---- scopes: they read no register's record
+module _ (d : Design) (labels : List ℕ) where
+  pub relabelled-scope : (s : ℕ) → scopeOf (relabelled d labels) s ≡ scopeOf d s
+  unfolding scopeOf ownParameters
+  relabelled-scope s = refl
+
+  pub relabelled-name : (s r : ℕ) → nameKept (relabelled d labels) s r ≡ nameKept d s r
+  unfolding nameKept scopeOf ownParameters
+  relabelled-name s r = refl
+
+  pub reads-relabelled : (s : ℕ) (e : Expr) → ReadsScoped d s e → ReadsScoped (relabelled d labels) s e
+  reads-relabelled s (constant v) h = h
+  reads-relabelled s (register n r) h = relabelled-name s r ∙ h
+  reads-relabelled s (binary o p q) h = (reads-relabelled s p (h .0), reads-relabelled s q (h .1))
+
+  -- the labels that an expression reads, where no state has a parameter
+  pub labels-read : length labels ≡ length (d .registers) → Plain d → (s : ℕ) (e : Expr) → ReadsScoped d s e → labelsRead (relabelled d labels) e ≡ labelsReadBy labels e
+  labels-read same plain s e scoped = plain-reads (relabelled d labels) plain s e (reads-relabelled s e scoped) ∙ plain-labels-read d labels same e
+
+  -- a label within bounds, and a choice
+  relabelled-choice : (scope choice : List ℕ) → IsChoice (relabelled d labels) scope choice → IsChoice d scope choice
+  relabelled-choice [] [] none-chosen = none-chosen
+  relabelled-choice (v ∷ scope) (label ∷ choice) (one-more l within more) =
+      one-more l (record { above = within .above; below = within .below }) (relabelled-choice scope choice more)
+
 -- ---- the rules of structure
 module _ (d : Design) (labels : List ℕ) where
+  register-byte : (r : ℕ) → RegisterByte d r → RegisterByte (relabelled d labels) r
+  register-byte r (inl l) = let same = length-with-labels (d .registers) labels in inl (omega arith)
+  register-byte r (inr byte) = inr byte
+
   command-holds : (n : ℕ) (kind : CommandKind) (x : Node) → CommandHolds d n kind x → CommandHolds (relabelled d labels) n kind x
   command-holds n skips x h = h
-  command-holds n assigns x h = let same = length-with-labels (d .registers) labels in (omega (arith, h .0), h .1, h .2, h .3)
+  command-holds n assigns x h = (register-byte (x .item) (h .0), h .1, h .2, h .3)
   command-holds n sequences x h = h
   command-holds n falls x h = h
   command-holds n goes x h = h
@@ -81,7 +115,7 @@ module _ (d : Design) (labels : List ℕ) where
 
   expression-holds : (n : ℕ) (kind : ExpressionKind) (x : Node) → ExpressionHolds d n kind x → ExpressionHolds (relabelled d labels) n kind x
   expression-holds n constants x h = h
-  expression-holds n reads x h = let same = length-with-labels (d .registers) labels in (omega (arith, h .0), h .1, h .2, h .3)
+  expression-holds n reads x h = (register-byte (x .item) (h .0), h .1, h .2, h .3)
   expression-holds n (operates o) x h = h
   expression-holds n unknownExpression x h = h
 
@@ -91,12 +125,21 @@ module _ (d : Design) (labels : List ℕ) where
   shaped-same s (assign n r e) h = h
   shaped-same s (sequence n p q) h = (h .0, shaped-same s p (h .1), shaped-same s q (h .2))
   shaped-same s (fall n) h = h
-  shaped-same s (goto n t) h = h
+  shaped-same s (goto n t x y) h = h
   shaped-same s (branch n e p q) h = (h .0, shaped-same s p (h .1), shaped-same s q (h .2))
 
-  pub structure-relabelled : StructureKeeps d → Labelled d labels → StructureKeeps (relabelled d labels)
-  unfolding isChild exprStep exprOf cmdStep cmdOf bodyOf commandUses expressionUses
-  structure-relabelled keeps own =
+  -- without parameters, no goto has an argument whose label would count
+  scoped-same : Plain d → (s : ℕ) (c : Cmd) → Scoped d s c → Scoped (relabelled d labels) s c
+  scoped-same plain s (skip n) h = h
+  scoped-same plain s (assign n r e) h = (relabelled-name d labels s r ∙ h .0, reads-relabelled d labels s e (h .1))
+  scoped-same plain s (sequence n p q) h = (scoped-same plain s p (h .0), scoped-same plain s q (h .1))
+  scoped-same plain s (fall n) h = h
+  scoped-same plain s (goto n t a b) h = plain-arguments (relabelled d labels) plain s t a b ∙ sym (plain-arguments d plain s t a b) ∙ h
+  scoped-same plain s (branch n e p q) h = (reads-relabelled d labels s e (h .0), scoped-same plain s p (h .1), scoped-same plain s q (h .2))
+
+  pub structure-relabelled : Plain d → StructureKeeps d → Labelled d labels → StructureKeeps (relabelled d labels)
+  unfolding isChild scopeOf ownParameters exprStep exprOf cmdStep cmdOf bodyOf commandUses expressionUses
+  structure-relabelled plain keeps own =
       let same = length-with-labels (d .registers) labels in
       record {
         lattice = keeps .lattice;
@@ -120,6 +163,27 @@ module _ (d : Design) (labels : List ℕ) where
         expressions-depth = keeps .expressions-depth;
         transferring = keeps .transferring;
         shaped = λ s l. shaped-same s (bodyOf d s) (keeps .shaped s l);
-        ports = λ n l is port. keeps .ports n l is (rw (relabelled-kind d labels (commandAt d n .item)) at port);
-        child-labels = λ q l s holds child. keeps .child-labels q l s holds (record { child = child .child; lowest = child .lowest });
+        ports = λ n l.
+            let old = keeps .ports n l in
+            record {
+              assigned = λ is port. old .assigned is (rw (relabelled-kind d labels (commandAt d n .item)) at port);
+              first-argument = λ is used port. old .first-argument is used (rw (relabelled-kind d labels (commandAt d n .a)) at port);
+              second-argument = λ is used port. old .second-argument is used (rw (relabelled-kind d labels (commandAt d n .b)) at port);
+            };
+        parameters = λ s l.
+            let old = keeps .parameters s l in
+            record {
+              count = old .count;
+              root-none = old .root-none;
+              default-none = λ q child. plain s l;
+              scope = old .scope;
+              first-pair = λ used. let pair = old .first-pair used in record { lower-label = pair .lower-label; upper-label = pair .upper-label; flows = pair .flows };
+              first-unused = λ unused. let pair = old .first-unused unused in record { lower-zero = pair .lower-zero; upper-zero = pair .upper-zero };
+              second-pair = λ used. let pair = old .second-pair used in record { lower-label = pair .lower-label; upper-label = pair .upper-label; flows = pair .flows };
+              second-unused = λ unused. let pair = old .second-unused unused in record { lower-zero = pair .lower-zero; upper-zero = pair .upper-zero };
+              label = old .label;
+            };
+        scoped = λ s l. scoped-same plain s (bodyOf d s) (keeps .scoped s l);
+        child-labels = λ q l s holds child choice chosen.
+            keeps .child-labels q l s holds (record { child = child .child; lowest = child .lowest }) choice (relabelled-choice d labels (scopeOf d q) choice chosen);
       }

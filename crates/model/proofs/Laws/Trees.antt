@@ -28,7 +28,7 @@ module _ (d : Design) (n : ℕ) where
   unfolding exprStep exprOfKind
   expr-constant k = expr-step d n ∙ rw k
 
-  pub expr-register : expressionKind (expressionAt d n .kind) ≡ reads → exprOf d n ≡ register (expressionAt d n .item)
+  pub expr-register : expressionKind (expressionAt d n .kind) ≡ reads → exprOf d n ≡ register n (expressionAt d n .item)
   unfolding exprStep exprOfKind
   expr-register k = expr-step d n ∙ rw k
 
@@ -64,7 +64,7 @@ module _ (d : Design) (n : ℕ) where
   unfolding cmdStep cmdOfKind
   cmd-fall k = cmd-step d n ∙ rw k
 
-  pub cmd-goto : commandKind (commandAt d n .kind) ≡ goes → cmdOf d n ≡ goto n (commandAt d n .item)
+  pub cmd-goto : commandKind (commandAt d n .kind) ≡ goes → cmdOf d n ≡ goto n (commandAt d n .item) (commandAt d n .a) (commandAt d n .b)
   unfolding cmdStep cmdOfKind
   cmd-goto k = cmd-step d n ∙ rw k
 
@@ -92,20 +92,20 @@ flat-command branches n x e p q r s b = absurd (b refl)
 flat-command unknownCommand n x e p q r s b = refl
 
 flat-expression :
-    (kind : ExpressionKind) (x : Node) (p q : Expr)
+    (kind : ExpressionKind) (n : ℕ) (x : Node) (p q : Expr)
     → ((o : Operation) → kind ≡ operates o → ⊥)
-    → exprDepth (exprOfKind kind x p q) ≡ 1
+    → exprDepth (exprOfKind kind n x p q) ≡ 1
 unfolding exprOfKind exprDepth
-flat-expression constants x p q h = refl
-flat-expression reads x p q h = refl
-flat-expression (operates o) x p q h = absurd (h o refl)
-flat-expression unknownExpression x p q h = refl
+flat-expression constants n x p q h = refl
+flat-expression reads n x p q h = refl
+flat-expression (operates o) n x p q h = absurd (h o refl)
+flat-expression unknownExpression n x p q h = refl
 
 module _ (d : Design) (n : ℕ) where
   -- a node without parts of its family has depth 1
   pub expr-flat-depth : ((o : Operation) → expressionKind (expressionAt d n .kind) ≡ operates o → ⊥) → exprDepth (exprOf d n) ≡ 1
   unfolding exprStep
-  expr-flat-depth h = ap exprDepth (expr-step d n) ∙ flat-expression (expressionKind (expressionAt d n .kind)) _ _ _ h
+  expr-flat-depth h = ap exprDepth (expr-step d n) ∙ flat-expression (expressionKind (expressionAt d n .kind)) _ _ _ _ h
 
   pub cmd-flat-depth :
       (commandKind (commandAt d n .kind) ≡ sequences → ⊥)
