@@ -3,7 +3,7 @@ use Prim.Native.Nat.{ℕ}
 use mathlib.Core.Path.{_≡_}
 use mathlib.Core.Logic.{_↔_, Iff·trans}
 use mathlib.Core.List.{List}
-use Rattle.model.specs.declared.Refusal.the-variants.{Directory, LabelRow, RegisterRecord, StateRecord, NodeRecord, NodeUse, Depth, Shape, ChildLabel, PortAssigned}
+use Rattle.model.specs.declared.Refusal.the-variants.{Directory, LabelRow, RegisterRecord, StateRecord, NodeRecord, NodeUse, Depth, Shape, ChildLabel, PortAssigned, Parameter}
 use Rattle.model.specs.declared.Answer.the-variants.{Accepted}
 use Rattle.model.specs.Answers.{numbersOf}
 use Rattle.model.specs.Calls.{check}
@@ -18,12 +18,16 @@ use Labels.{lattice-iff}
 use Falls.{child-label-iff}
 use Records.{register-iff, state-iff, port-iff, command-iff, expression-iff, command-used-iff, expression-used-iff, command-depth-iff, expression-depth-iff}
 use Shapes.{shape-iff}
+use Parameters.{parameters-iff}
+use Scopes.{scope-iff}
 use Flows.{flow-iff}
 pub mod Directories
 pub mod Labels
 pub mod Records
 pub mod Falls
 pub mod Shapes
+pub mod Parameters
+pub mod Scopes
 pub mod Flows
 
 -- a pair, written without brackets; `before-iff` pairs a stage with all that follow it
@@ -31,7 +35,7 @@ infixr 5 _and_
 _and_ : {P Q : Type 0} → P → Q → P × Q
 p and q = (p, q)
 
--- checks 2 to 9 and 16
+-- checks 2 to 9, 16 and 19
 pub design-structure-exact : (d : Design) → (designStructure d ≡ Accepted 0) ↔ StructureKeeps d
 unfolding designStructure
 design-structure-exact d =
@@ -44,8 +48,10 @@ design-structure-exact d =
     (before-iff Depth (node-iff d (command-depth-iff d) (expression-depth-iff d))
     (before-iff Shape (shape-iff d)
     (before-iff PortAssigned (failing-iff (port-iff d))
-    (searched-iff ChildLabel (failing-iff (child-label-iff d))))))))))) (
-      λ (lattice, (registers, (states, (nodes, (uses, (depths, (shapes, (ports, children)))))))).
+    (before-iff Parameter (failing-iff (parameters-iff d))
+    (before-iff Parameter (scope-iff d)
+    (searched-iff ChildLabel (failing-iff (child-label-iff d))))))))))))) (
+      λ (lattice, (registers, (states, (nodes, (uses, (depths, (shapes, (ports, (parameters, (scopes, children)))))))))).
           record {
             lattice = lattice;
             registers = registers;
@@ -59,6 +65,8 @@ design-structure-exact d =
             transferring = λ s l. shapes s l .0;
             shaped = λ s l. shapes s l .1;
             ports = ports;
+            parameters = parameters;
+            scoped = scopes;
             child-labels = children;
           },
       λ k.
@@ -70,6 +78,8 @@ design-structure-exact d =
           and (k .commands-depth and k .expressions-depth)
           and (λ s l. k .transferring s l and k .shaped s l)
           and k .ports
+          and k .parameters
+          and k .scoped
           and k .child-labels,
     )
 
@@ -90,7 +100,9 @@ structure-counts-nothing image =
     (before-counts-nothing _ _
     (before-counts-nothing _ _
     (before-counts-nothing _ _
-    (searched-counts-nothing ChildLabel _)))))))))
+    (before-counts-nothing _ _
+    (before-counts-nothing _ _
+    (searched-counts-nothing ChildLabel _)))))))))))
 
 -- all image checks
 pub verdict-exact : (image : List ℕ) → (verdict image ≡ Accepted 0) ↔ Keeps image

@@ -7,10 +7,12 @@ use Rattle.model.specs.Image.{Design}
 use Rattle.model.specs.Lattice.{stateLabel}
 use Rattle.model.specs.States.{parent, isChild, defaultTarget}
 use Rattle.model.specs.Trees.{Cmd, skip, assign, sequence, fall, goto, branch, bodyOf}
+use Rattle.model.specs.Parameters.{labelUnder, isDefaultChild}
 use Rattle.model.specs.Falls.{holdsFall, isFallenInto, childLabelKept}
-use Rattle.model.specs.Rules.{FlowsTo, HoldsFall, itself, in-first, in-second, in-then, in-else, ChildLabelKeeps}
+use Rattle.model.specs.Rules.{FlowsTo, HoldsFall, itself, in-first, in-second, in-then, in-else, EveryChoice, ChildLabelKeeps}
 use Rattle.model.proofs.Laws.Booleans.{or-cases, or-first, or-second, true-or-false}
 use Rattle.model.proofs.Laws.Equivalences.{equal-iff, and-three-iff, implies-iff}
+use Rattle.model.proofs.Laws.Choices.{every-choice-iff}
 use Rattle.model.proofs.Laws.States.{child-of, default-is, default-least}
 
 -- ---- a fall in a command
@@ -20,7 +22,7 @@ holds-fall (skip n) h = absurd (true-or-false false h refl)
 holds-fall (assign n r e) h = absurd (true-or-false false h refl)
 holds-fall (sequence n p q) h = ⊎-elim (λ (k : holdsFall p ≡ true). in-first (holds-fall p k)) (λ (k : holdsFall q ≡ true). in-second (holds-fall q k)) (or-cases (holdsFall p) (holdsFall q) h)
 holds-fall (fall n) h = itself
-holds-fall (goto n t) h = absurd (true-or-false false h refl)
+holds-fall (goto n t x y) h = absurd (true-or-false false h refl)
 holds-fall (branch n e p q) h = ⊎-elim (λ (k : holdsFall p ≡ true). in-then (holds-fall p k)) (λ (k : holdsFall q ≡ true). in-else (holds-fall q k)) (or-cases (holdsFall p) (holdsFall q) h)
 
 fall-held : {c : Cmd} → HoldsFall c → holdsFall c ≡ true
@@ -37,12 +39,12 @@ holds-iff {c} = (holds-fall c, fall-held)
 -- ---- the label of a default child
 module _ (d : Design) where
   pub fallen-iff : (q : ℕ) → (isFallenInto d q ≡ true) ↔ ((isChild d (parent d q) q ≡ true) × (defaultTarget d (parent d q) ≡ q) × HoldsFall (bodyOf d (parent d q)))
-  unfolding isFallenInto
+  unfolding isFallenInto isDefaultChild
   fallen-iff q = and-three-iff (λ e. e, λ e. e) equal-iff holds-iff
 
-  tested : (q : ℕ) → (childLabelKept d q ≡ true) ↔ ((isChild d (parent d q) q ≡ true) × (defaultTarget d (parent d q) ≡ q) × HoldsFall (bodyOf d (parent d q)) → FlowsTo (d .rows) (stateLabel d (parent d q)) (stateLabel d q))
+  tested : (q : ℕ) → (childLabelKept d q ≡ true) ↔ ((isChild d (parent d q) q ≡ true) × (defaultTarget d (parent d q) ≡ q) × HoldsFall (bodyOf d (parent d q)) → EveryChoice d q (λ choice. FlowsTo (d .rows) (labelUnder choice (stateLabel d (parent d q))) (labelUnder choice (stateLabel d q))))
   unfolding childLabelKept
-  tested q = implies-iff (fallen-iff q) (λ e. e, λ e. e)
+  tested q = implies-iff (fallen-iff q) (every-choice-iff d q (λ choice. (λ e. e, λ e. e)))
 
   pub child-label-iff : (q : ℕ) → (childLabelKept d q ≡ true) ↔ ChildLabelKeeps d q
   child-label-iff q =

@@ -21,7 +21,7 @@ module _ (d : Design) where
     flow-faults context (assign n r e) = faults-unless _ _ n
     flow-faults context (sequence n p q) = faults-append (flow-faults context p) (flow-faults context q)
     flow-faults context (fall n) = faults-unless _ _ n
-    flow-faults context (goto n t) = faults-unless _ _ n
+    flow-faults context (goto n t x y) = faults-unless _ _ n
     flow-faults context (branch n e p q) = faults-append (flow-faults _ p) (flow-faults _ q)
 
     pub state-flow-faults : FaultsOf (stateFlowFaults d s) (Flows d s (stateLabel d s ∷ []) (bodyOf d s))

@@ -33,7 +33,7 @@ module _ (d : Design) where
     shaped-iff (assign n r e) = (λ e. tt, λ k. refl)
     shaped-iff (sequence n p q) = parts-iff n not-iff (shaped-iff p) (shaped-iff q)
     shaped-iff (fall n) = charged-iff n Iff·rfl
-    shaped-iff (goto n t) = charged-iff n Iff·rfl
+    shaped-iff (goto n t x y) = charged-iff n Iff·rfl
     shaped-iff (branch n e p q) = parts-iff n same-iff (shaped-iff p) (shaped-iff q)
 
     state-shape-iff : (stateShapeFaults d s ≡ []) ↔ ((transfers (bodyOf d s) ≡ true) × Shaped d s (bodyOf d s))

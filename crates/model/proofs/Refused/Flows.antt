@@ -12,8 +12,9 @@ use Rattle.model.specs.declared.Refusal.{Refusal}
 use Rattle.model.specs.Indices.{joinBelow}
 use Rattle.model.specs.Image.{Design}
 use Rattle.model.specs.Lattice.{stateLabel}
+use Rattle.model.specs.Parameters.{labelByte}
 use Rattle.model.specs.Trees.{Cmd, skip, assign, sequence, fall, goto, branch, bodyOf}
-use Rattle.model.specs.Flow.{labelsRead, refusedUnless, flowFaults, stateFlowFaults, firstOf, flowAnswer}
+use Rattle.model.specs.Flow.{labelsRead, namedLabel, refusedUnless, flowFaults, stateFlowFaults, firstOf, flowAnswer}
 use Rattle.model.specs.Verdict.{refusedAt}
 use Rattle.model.specs.Standing.{Stands, whole, in-first, in-second, in-then, in-else, AssignKeeps, GotoKeeps, FallKeeps}
 use Rattle.model.specs.Refusals.{_asks_, at, AllKept, flowRules, flowTable}
@@ -22,7 +23,7 @@ use Rattle.model.proofs.Laws.Firsts.{first-append, refusals-join}
 use Rattle.model.proofs.Laws.Broken.{Decides, decides-one, decides-before, decides-none, all-kept-append}
 use Rattle.model.proofs.Laws.Finds.{finds-charged}
 use Rattle.model.proofs.Exact.Flows.{flow-faults, state-flow-faults}
-use Rattle.model.proofs.Refused.Standing.{assign-flows-iff, goto-flows-iff, fall-flows-iff}
+use Rattle.model.proofs.Refused.Standing.{each-flow-iff}
 
 -- a command's own fault decides its own rule
 own-decides : {P : Type 0} (b : Bool) (refusal : Refusal) (n : ℕ) → ((b ≡ true) ↔ P) → Decides (firstOf (refusedUnless b refusal n)) 0 ((refusal asks at n P ∷ []) ∷ [])
@@ -34,11 +35,11 @@ module _ (d : Design) where
   rules-decide : (s : ℕ) (context : List ℕ) (c : Cmd) → Decides (firstOf (flowFaults d s context c)) 0 (flowRules d s context c)
   unfolding flowFaults firstOf
   rules-decide s context (skip n) = decides-none 0
-  rules-decide s context (assign n r e) = own-decides _ _ n (assign-flows-iff d context r e)
+  rules-decide s context (assign n r e) = own-decides _ _ n (each-flow-iff d s (context ++ labelsRead d e) (labelByte d r))
   rules-decide s context (sequence n p q) =
       rw (first-append (flowFaults d s context q) (flow-faults d s context p .refusals)) (decides-before (rules-decide s context p) (λ kept. rules-decide s context q))
-  rules-decide s context (fall n) = own-decides _ _ n (fall-flows-iff d context s)
-  rules-decide s context (goto n t) = own-decides _ _ n (goto-flows-iff d context t)
+  rules-decide s context (fall n) = own-decides _ _ n (each-flow-iff d s context (stateLabel d s))
+  rules-decide s context (goto n t x y) = own-decides _ _ n (each-flow-iff d s context (namedLabel d t x y))
   rules-decide s context (branch n e p q) =
       let inner = context ++ labelsRead d e in
       rw (first-append (flowFaults d s inner q) (flow-faults d s inner p .refusals)) (decides-before (rules-decide s inner p) (λ kept. rules-decide s inner q))
@@ -79,7 +80,7 @@ module _ (d : Design) where
   kept-stands keeps {s} {context} (sequence n p q) stands =
       all-kept-append (flowRules d s context p) (flowRules d s context q) .1 (kept-stands keeps p (in-first stands), kept-stands keeps q (in-second stands))
   kept-stands keeps {s} {context} (fall n) stands = (λ place. (λ same. keeps n .2 s context stands, tt), tt)
-  kept-stands keeps {s} {context} (goto n t) stands = (λ place. (λ same. keeps n .1 s t context stands, tt), tt)
+  kept-stands keeps {s} {context} (goto n t x y) stands = (λ place. (λ same. keeps n .1 s t x y context stands, tt), tt)
   kept-stands keeps {s} {context} (branch n e p q) stands =
       all-kept-append (flowRules d s (context ++ labelsRead d e) p) (flowRules d s (context ++ labelsRead d e) q) .1 (kept-stands keeps p (in-then stands), kept-stands keeps q (in-else stands))
 
@@ -93,7 +94,7 @@ module _ (d : Design) where
   flow-table-stands = (
     λ kept n. (
       λ s r context e stands. stands-kept kept stands .0 n .0 refl,
-      λ s t context stands. stands-kept kept stands .0 n .0 refl,
+      λ s t a b context stands. stands-kept kept stands .0 n .0 refl,
       λ s context stands. stands-kept kept stands .0 n .0 refl,
     ),
     λ keeps. kept-table keeps (length (d .states)) (le-refl (length (d .states))),

@@ -63,7 +63,7 @@ module _ (d : Design) where
     fault-breaks k (fall n) kept stands h =
         let charged = charged-cases k (hasChild d s) n h in
         true-or-false (hasChild d s) (has-child-iff d s .1 ((rw (charged .0) at kept) .fall-child stands)) (charged .1)
-    fault-breaks k (goto n t) kept stands h =
+    fault-breaks k (goto n t x y) kept stands h =
         let charged = charged-cases k (siblingOrSelf d s t) n h in
         true-or-false (siblingOrSelf d s t) (sibling-iff d s t .1 ((rw (charged .0) at kept) .goto-sibling stands)) (charged .1)
     fault-breaks k (branch n e p q) kept stands h =

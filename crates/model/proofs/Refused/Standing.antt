@@ -3,18 +3,21 @@ use Prim.Native.Nat.{ℕ}
 use mathlib.Core.Path.{_≡_, refl, sym, _∙_}
 use mathlib.Core.Logic.{_↔_, Iff·trans, Iff·rfl, ⊎-elim}
 use mathlib.Core.Bool.{Bool, true, false, false≢true}
-use mathlib.Core.List.{List, [], _∷_, _++_, List·Memᴰ, List·Memᴰ·head, List·Memᴰ·tail, List·Memᴰ·not-nil, List·Memᴰ·cases-cons}
+use mathlib.Core.List.{List, [], _∷_, map, List·Memᴰ, List·Memᴰ·head, List·Memᴰ·tail, List·Memᴰ·not-nil, List·Memᴰ·cases-cons}
 use lib.Dec.{eqb}
 use borrow.Author.Tests.{eqb-true, eq-eqb}
 use Rattle.model.specs.Image.{Design}
-use Rattle.model.specs.Lattice.{allFlowTo, registerLabel, stateLabel}
+use Rattle.model.specs.Lattice.{allFlowTo}
 use Rattle.model.specs.States.{parent, isChild, hasChild, siblingOrSelf}
-use Rattle.model.specs.Trees.{Expr, Cmd, skip, assign, sequence, fall, goto, branch}
+use Rattle.model.specs.Trees.{Cmd, skip, assign, sequence, fall, goto, branch}
 use Rattle.model.specs.Shape.{transfers}
-use Rattle.model.specs.Flow.{labelsRead, assignFlows, gotoFlows, fallFlows}
-use Rattle.model.specs.Standing.{Transfers, by-fall, by-goto, by-second, by-branches, ChildOf, AllFlow}
+use Rattle.model.specs.Parameters.{labelUnder}
+use Rattle.model.specs.Flow.{flowsEach}
+use Rattle.model.specs.Rules.{FlowsTo}
+use Rattle.model.specs.Standing.{Transfers, by-fall, by-goto, by-second, by-branches, ChildOf, EachFlow}
 use Rattle.model.proofs.Laws.Booleans.{true-or-false, false-unless-true, and-first, and-second, and-both}
 use Rattle.model.proofs.Laws.Equivalences.{less-iff, equal-iff, not-iff, and-iff, and-three-iff, some-iff}
+use Rattle.model.proofs.Laws.Choices.{every-choice-iff}
 
 -- ---- transferring
 pub transfers-true : {c : Cmd} → Transfers c → transfers c ≡ true
@@ -30,7 +33,7 @@ transfers-made (skip n) e = absurd (false≢true e)
 transfers-made (assign n r x) e = absurd (false≢true e)
 transfers-made (sequence n p q) e = by-second (transfers-made q e)
 transfers-made (fall n) e = by-fall
-transfers-made (goto n t) e = by-goto
+transfers-made (goto n t x y) e = by-goto
 transfers-made (branch n x p q) e =
     by-branches (transfers-made p (and-first (transfers p) (transfers q) e)) (transfers-made q (and-second (transfers p) (transfers q) e))
 
@@ -67,22 +70,20 @@ module _ (d : Design) where
   sibling-iff s t = and-iff (Iff·trans not-iff not-equal-iff) (child-iff (parent d s) t)
 
   -- ---- flow
-  all-flow-iff : (labels : List ℕ) (to : ℕ) → (allFlowTo (d .rows) labels to ≡ true) ↔ AllFlow d labels to
+  under-choice-iff :
+      (choice labels : List ℕ) (to : ℕ)
+      → (allFlowTo (d .rows) (map (labelUnder choice) labels) (labelUnder choice to) ≡ true)
+      ↔ ((label : ℕ) → List·Memᴰ label labels → FlowsTo (d .rows) (labelUnder choice label) (labelUnder choice to))
   unfolding allFlowTo
-  all-flow-iff [] to = (λ e label h. absurd (List·Memᴰ·not-nil h), λ h. refl)
-  all-flow-iff (one ∷ more) to =
+  under-choice-iff choice [] to = (λ e label h. absurd (List·Memᴰ·not-nil h), λ h. refl)
+  under-choice-iff choice (one ∷ more) to =
       Iff·trans
-      (and-iff Iff·rfl (all-flow-iff more to)) (
+      (and-iff Iff·rfl (under-choice-iff choice more to)) (
         λ h label among. ⊎-elim (λ (e : label ≡ one). rw e (h .0)) (λ (k : List·Memᴰ label more). h .1 label k) (List·Memᴰ·cases-cons among),
         λ h. (h one (List·Memᴰ·head refl), λ label k. h label (List·Memᴰ·tail k)),
       )
 
   -- the rules of the verdict are those of the table
-  pub assign-flows-iff : (context : List ℕ) (r : ℕ) (e : Expr) → (assignFlows d context r e ≡ true) ↔ AllFlow d (context ++ labelsRead d e) (registerLabel d r)
-  assign-flows-iff context r e = all-flow-iff (context ++ labelsRead d e) (registerLabel d r)
-
-  pub goto-flows-iff : (context : List ℕ) (t : ℕ) → (gotoFlows d context t ≡ true) ↔ AllFlow d context (stateLabel d t)
-  goto-flows-iff context t = all-flow-iff context (stateLabel d t)
-
-  pub fall-flows-iff : (context : List ℕ) (s : ℕ) → (fallFlows d context s ≡ true) ↔ AllFlow d context (stateLabel d s)
-  fall-flows-iff context s = all-flow-iff context (stateLabel d s)
+  pub each-flow-iff : (s : ℕ) (labels : List ℕ) (to : ℕ) → (flowsEach d s labels to ≡ true) ↔ EachFlow d s labels to
+  unfolding flowsEach
+  each-flow-iff s labels to = every-choice-iff d s (λ choice. under-choice-iff choice labels to)
