@@ -1,5 +1,6 @@
 -- The independence of parties: demand 3, proved about the definitions.
 pub mod Relation
+pub mod Instances
 pub mod Labels
 pub mod Endings
 pub mod Unnumbered

@@ -6,16 +6,18 @@ use mathlib.Core.Bool.{true, false}
 use mathlib.Core.List.{List}
 use lib.Dec.{leb}
 use lib.ListN.{length, getD, set, length-set}
+use lib.Seq.{take-append-seam, drop-append-seam}
+use Rattle.model.specs.Bindings.{bindingSound}
 use borrow.Author.Tests.{eq-eqb}
 use Rattle.model.specs.declared.Refusal.the-variants.{NoPort, CycleCount, PortValue}
 use Rattle.model.specs.declared.Answer.the-variants.{Accepted, Refused}
 use Rattle.model.specs.Limits.{valueCount, wordLength, cyclesMax}
 use Rattle.model.specs.Image.{Design, designOf}
 use Rattle.model.specs.Verdict.{verdict, refusedAt, _before_}
-use Rattle.model.specs.Rules.{DesignKeeps}
+use Rattle.model.specs.Rules.{StructureKeeps}
 use Rattle.model.specs.Values.{fits, wordsOf, bytesOf}
 use Rattle.model.specs.Machine.{Areas, resetAreas, afterCycles, targetSound}
-use Rattle.model.specs.Calls.{Lent, registerAreaAnswer, lengthAnswer, contentKept, contentsAnswer, targetsAnswer, isWritable, portAnswer, valueAnswer, areasOf, lentOf, cyclesAnswer, resetAnswer, reset, runAnswer, run, writePortAnswer, writePort}
+use Rattle.model.specs.Calls.{Lent, registerAreaAnswer, lengthAnswer, contentKept, contentsAnswer, targetsIn, bindingsIn, targetsAnswer, bindingsAnswer, isWritable, portAnswer, valueAnswer, areasOf, lentOf, cyclesAnswer, resetAnswer, reset, runAnswer, run, writePortAnswer, writePort}
 use Rattle.model.specs.Parties.{perform, writes, runs, RightLengths}
 use Rattle.model.proofs.Laws.Indices.{failing-nowhere}
 use Rattle.model.proofs.Laws.Words.{length-bytesOf, words-of-bytes-bounded}
@@ -23,11 +25,18 @@ use Rattle.model.proofs.Independence.Relation.{Good}
 use Rattle.model.proofs.Independence.Widths.{fitting-bounded}
 
 -- ---- bytes and values
-module _ (d : Design) (keeps : DesignKeeps d) where
+module _ (d : Design) (keeps : StructureKeeps d) where
   -- the areas that a call writes are read back
   pub areas-of-lent : (areas : Areas) → Good d areas → areasOf d (lentOf areas) ≡ areas
   unfolding areasOf lentOf
-  areas-of-lent areas good = rw (← good .registers-length, words-of-bytes-bounded (areas .registers) (fitting-bounded d keeps (areas .registers) (good .fitting)))
+  areas-of-lent areas good =
+      rw (
+        ← good .registers-length,
+        words-of-bytes-bounded (areas .registers) (fitting-bounded d keeps (areas .registers) (good .fitting)),
+        ← good .targets-length,
+        take-append-seam (areas .targets) (areas .bindings),
+        drop-append-seam (areas .targets) (areas .bindings),
+      )
 
   pub length-lent : (areas : Areas) → Good d areas → length (lentOf areas .registers) ≡ wordLength * length (d .registers)
   unfolding lentOf
@@ -84,23 +93,30 @@ module _ (image : List ℕ) (accepted : verdict image ≡ Accepted 0) (lent : Le
       unfolding perform writePort portAnswer valueAnswer refusedAt _before_
       write-accepted r v e l = rw (write-answer r v, e, l)
 
-      -- a run is judged by its count, where the targets are sound
-      module _ (sound : (s : ℕ) → s < length (designOf image .states) → targetSound (designOf image) (lent .targets) s ≡ true) where
-        targets-accepted : targetsAnswer (designOf image) lent ≡ Accepted 0
-        unfolding targetsAnswer refusedAt
-        targets-accepted = rw (failing-nowhere (targetSound (designOf image) (lent .targets)) (length (designOf image .states)) sound)
+      -- a run is judged by its count, where the targets and the bindings are sound
+      module _
+          (sound : (s : ℕ) → s < length (designOf image .states) → targetSound (designOf image) (targetsIn (designOf image) (lent .targets)) s ≡ true)
+          (bound : (s : ℕ) → s < length (designOf image .states) → bindingSound (designOf image) (targetsIn (designOf image) (lent .targets)) (bindingsIn (designOf image) (lent .targets)) s ≡ true)
+        where
+          targets-accepted : targetsAnswer (designOf image) lent ≡ Accepted 0
+          unfolding targetsAnswer refusedAt
+          targets-accepted = rw (failing-nowhere (targetSound (designOf image) (targetsIn (designOf image) (lent .targets))) (length (designOf image .states)) sound)
 
-        run-answer : (n : ℕ) → runAnswer image lent n ≡ (cyclesAnswer n before Accepted n)
-        unfolding runAnswer _before_
-        run-answer n = rw (accepted, length-accepted, contents-accepted, targets-accepted)
+          bindings-accepted : bindingsAnswer (designOf image) lent ≡ Accepted 0
+          unfolding bindingsAnswer refusedAt
+          bindings-accepted = rw (failing-nowhere (bindingSound (designOf image) (targetsIn (designOf image) (lent .targets)) (bindingsIn (designOf image) (lent .targets))) (length (designOf image .states)) bound)
 
-        pub run-refused : (n : ℕ) → leb n cyclesMax ≡ false
-            → perform image lent (runs n) ≡ record { answer = Refused CycleCount 0; lent = lent }
-        unfolding perform run cyclesAnswer refusedAt _before_
-        run-refused n e = rw (run-answer n, e)
+          run-answer : (n : ℕ) → runAnswer image lent n ≡ (cyclesAnswer n before Accepted n)
+          unfolding runAnswer _before_
+          run-answer n = rw (accepted, length-accepted, contents-accepted, targets-accepted, bindings-accepted)
 
-        pub run-accepted : (n : ℕ) → leb n cyclesMax ≡ true
-            → perform image lent (runs n)
-            ≡ record { answer = Accepted n; lent = lentOf (afterCycles (designOf image) n (areasOf (designOf image) lent)) }
-        unfolding perform run cyclesAnswer refusedAt _before_
-        run-accepted n e = rw (run-answer n, e)
+          pub run-refused : (n : ℕ) → leb n cyclesMax ≡ false
+              → perform image lent (runs n) ≡ record { answer = Refused CycleCount 0; lent = lent }
+          unfolding perform run cyclesAnswer refusedAt _before_
+          run-refused n e = rw (run-answer n, e)
+
+          pub run-accepted : (n : ℕ) → leb n cyclesMax ≡ true
+              → perform image lent (runs n)
+              ≡ record { answer = Accepted n; lent = lentOf (afterCycles (designOf image) n (areasOf (designOf image) lent)) }
+          unfolding perform run cyclesAnswer refusedAt _before_
+          run-accepted n e = rw (run-answer n, e)

@@ -7,16 +7,16 @@ use mathlib.Core.List.{List, [], _∷_, map}
 use native.Mathlib.Omega.{arith}
 use native.Mathlib.Decide.{decLt}
 use lib.ListN.{length, List·getD-eq-default}
-use Rattle.model.specs.Image.{Design, Register, State}
-use Rattle.model.specs.Lattice.{flowsTo, allFlowTo, registerLabel, stateLabel}
+use Rattle.model.specs.Image.{Design, Register}
+use Rattle.model.specs.Lattice.{flowsTo, allFlowTo, registerLabel}
 use Rattle.model.specs.Trees.{Expr, registersRead}
-use Rattle.model.specs.Flow.{labelsRead}
-use Rattle.model.specs.Rules.{FlowsTo, DesignKeeps}
+use Rattle.model.specs.Rules.{FlowsTo}
 use Rattle.model.proofs.Laws.Booleans.{and-first, and-second, and-both, false-unless-true, true-or-false}
 use Rattle.model.proofs.Laws.Joins.{AreLabels}
+use Rattle.model.proofs.Independence.Instances.{AcceptedDesign, readLabels}
 
 -- ---- a level
-module _ (d : Design) (level : ℕ) (keeps : DesignKeeps d) (isLabel : level < length (d .rows)) where
+module _ (d : Design) (level : ℕ) (keeps : AcceptedDesign d) (isLabel : level < length (d .rows)) where
   -- a label that is at or below the level
   abbrev pub Seen : ℕ → Type 0
   Seen l = FlowsTo (d .rows) l level
@@ -45,7 +45,7 @@ module _ (d : Design) (level : ℕ) (keeps : DesignKeeps d) (isLabel : level < l
   context-unseen context l labels k h u =
       false-unless-true (flowsTo (d .rows) l level) (λ s. true-or-false (allFlowTo (d .rows) context level) (context-seen context l labels k h s) u)
 
-  -- every register's label is one of the labels, and so is every state's; past the end both are label 0
+  -- every register's label is one of the labels; past the end it is label 0
   pub register-label : (r : ℕ) → registerLabel d r < length (d .rows)
   register-label r = go (decLt r (length (d .registers)))
     where
@@ -55,19 +55,10 @@ module _ (d : Design) (level : ℕ) (keeps : DesignKeeps d) (isLabel : level < l
           let past : registerLabel d r ≡ 0 = ap (λ (x : Register). x .label) (List·getD-eq-default (d .registers) _ {n = r} (omega arith)) in
           omega arith
 
-  pub state-label : (s : ℕ) → stateLabel d s < length (d .rows)
-  state-label s = go (decLt s (length (d .states)))
-    where
-      go : Dec (s < length (d .states)) → stateLabel d s < length (d .rows)
-      go (yes h) = keeps .structure .states s h .label
-      go (no h) =
-          let past : stateLabel d s ≡ 0 = ap (λ (x : State). x .label) (List·getD-eq-default (d .states) _ {n = s} (omega arith)) in
-          omega arith
-
   labels-of : (rs : List ℕ) → AreLabels (d .rows) (map (registerLabel d) rs)
   labels-of [] = tt
   labels-of (r ∷ rs) = (register-label r, labels-of rs)
 
-  pub labels-read : (e : Expr) → AreLabels (d .rows) (labelsRead d e)
-  unfolding labelsRead
+  pub labels-read : (e : Expr) → AreLabels (d .rows) (readLabels d e)
+  unfolding readLabels
   labels-read e = labels-of (registersRead e)

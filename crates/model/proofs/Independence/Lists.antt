@@ -1,17 +1,19 @@
 -- A relation that no call breaks makes every list of calls show what one canonical run of what remains of it shows: a refused call and a write that is
 -- not seen leave the relation as it is, and any other call makes the same step in both runs. So two lists of which the same remains show the same.
-use Prim.Native.Nat.{ℕ, zero, suc, _*_, _<_}
+use Prim.Native.Nat.{ℕ, zero, suc, _+_, _*_, _<_}
 use mathlib.Core.Path.{_≡_, refl, sym, _∙_, ap}
 use mathlib.Core.Bool.{Bool, true, false, cond}
 use mathlib.Core.List.{List, [], _∷_, _++_, map}
 use lib.Dec.{leb}
 use lib.Pow.{pow-pos}
-use lib.ListN.{length, set, length-set}
+use lib.ListN.{length, set, take, drop, length-set, length-append, take-append-drop}
+use native.Mathlib.Omega.{arith}
+use Rattle.model.specs.Limits.{bindingLength}
 use Rattle.model.specs.declared.Refusal.{Refusal}
 use Rattle.model.specs.declared.Answer.the-variants.{Accepted, Refused}
 use Rattle.model.specs.Limits.{wordLength, cyclesMax}
 use Rattle.model.specs.Image.{Design, registerAt, designOf}
-use Rattle.model.specs.Rules.{DesignKeeps}
+use Rattle.model.specs.Rules.{StructureKeeps}
 use Rattle.model.specs.Verdict.{verdict}
 use Rattle.model.specs.Values.{modulus, fits, wordsOf}
 use Rattle.model.specs.Machine.{Areas, Cycle, resetAreas, cycle, cycles, afterLast, afterCycles}
@@ -28,7 +30,7 @@ use Rattle.model.proofs.Independence.Widths.{set-fitting, fitting-bound
 module _ (d : Design) (level : ℕ) where
   -- what a cycle shows
   abbrev pub shown : Cycle → Seen
-  shown c = record { values = valuesSeen d level (c .after .registers); walk = walkSeen d level (c .walk) }
+  shown c = record { values = valuesSeen d level (c .after .registers); walk = walkSeen d level (c .ranWith) (c .walk) }
 
   pub followed : Areas → List Remaining → List Seen
   followed areas [] = []
@@ -100,8 +102,8 @@ module _
     pub area : length (lent .registers) ≡ wordLength * length (designOf image .registers)
     pub related : Related (areasOf (designOf image) lent) areas
 
-  keeps : DesignKeeps (designOf image)
-  keeps = verdict-exact image .0 accepted .design
+  keeps : StructureKeeps (designOf image)
+  keeps = verdict-exact image .0 accepted .design .structure
 
   follows-lent : (a b : Areas) → Related a b → Follows (lentOf a) b
   follows-lent a b h =
@@ -113,7 +115,13 @@ module _
 
   right-lengths : (lent : Lent) (b : Areas) → Follows lent b → RightLengths (designOf image) lent
   unfolding areasOf
-  right-lengths lent b h = record { registers = h .area; targets = good-lent lent b h .targets-length }
+  right-lengths lent b h =
+      let n = length (designOf image .states) in
+      let good = good-lent lent b h in
+      let first : length (take n (lent .targets)) ≡ n = good .targets-length in
+      let second : length (drop n (lent .targets)) ≡ bindingLength * n = good .bindings-length in
+      let both : length (lent .targets) ≡ length (take n (lent .targets)) + length (drop n (lent .targets)) = ap length (sym (take-append-drop n (lent .targets))) ∙ length-append (take n (lent .targets)) (drop n (lent .targets)) in
+      record { registers = h .area; targets = omega arith }
 
   -- the contents are never at fault
   contents : (lent : Lent) (b : Areas) → Follows lent b → (r : ℕ) → r < length (designOf image .registers) → contentKept (designOf image) (lent .registers) r ≡ true
@@ -206,9 +214,9 @@ module _
         go true e =
             claim-left
             (runs n)
-            (run-accepted image accepted lent lengths (contents lent b h) (good-lent lent b h .sound) n e)
+            (run-accepted image accepted lent lengths (contents lent b h) (good-lent lent b h .sound) (good-lent lent b h .bound) n e)
             (agrees-cycles same n areas b (h .related) (λ c k. rest (lentOf after) c (follows-lent after c k)))
-        go false e = claim-refused (runs n) (run-refused image accepted lent lengths (contents lent b h) (good-lent lent b h .sound) n e)
+        go false e = claim-refused (runs n) (run-refused image accepted lent lengths (contents lent b h) (good-lent lent b h .sound) (good-lent lent b h .bound) n e)
 
   pub follows : (calls : List Call) (lent : Lent) (b : Areas) → Follows lent b → Claim calls lent b
   unfolding events atEnd view remaining followed followedEnd areasOf

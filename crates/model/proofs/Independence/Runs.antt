@@ -1,35 +1,43 @@
 -- The relation that holds between two runs from reset, and that no step of a list of calls breaks: both areas are good, labels rise along both live paths,
 -- and the registers and the beginnings of the paths that are seen agree.
-use Prim.Native.Nat.{ℕ, zero, suc, _≤_, _<_}
+use Prim.Native.Nat.{ℕ, zero, suc, _+_, _*_, _≤_, _<_}
 use mathlib.Core.Path.{_≡_, refl, sym, _∙_, ap}
 use mathlib.Core.Logic.{_⊎_, inl, inr}
 use mathlib.Core.Bool.{Bool, true, false, cond}
 use mathlib.Core.List.{List, [], _∷_}
 use native.Mathlib.Omega.{arith}
-use native.Mathlib.Decide.{decLt}
+use native.Mathlib.Decide.{decLt, ℕ-discrete}
+use lib.Dec.{eqb}
+use borrow.Author.Tests.{eq-eqb}
 use lib.Pow.{pow-pos}
 use lib.ListN.{length, getD, length-set, List·getD-eq-default}
 use Rattle.model.specs.declared.Ending.the-variants.{Goto, Fall}
 use Rattle.model.specs.declared.Outcome.{Outcome}
 use Rattle.model.specs.declared.Outcome.the-variants.{Continued, Transferred}
-use Rattle.model.specs.Indices.{tabulate, joinBelow}
-use Rattle.model.specs.Image.{Design, noRegister}
-use Rattle.model.specs.Lattice.{stateLabel}
-use Rattle.model.specs.States.{defaultTarget}
-use Rattle.model.specs.Trees.{bodyOf}
-use Rattle.model.specs.Rules.{DesignKeeps}
+use Rattle.model.specs.Indices.{tabulate, tabulateFrom, joinBelow}
+use Rattle.model.specs.Image.{Design, stateAt, noRegister}
+use Rattle.model.specs.States.{parent, defaultTarget}
+use Rattle.model.specs.Trees.{Cmd}
+use Rattle.model.specs.Limits.{bindingLength}
+use Rattle.model.specs.Parameters.{ownParameters, allOf}
+use Rattle.model.specs.Bindings.{labelWith, bodyWith, boundIn, onPath, byteSound, boundSound, bindingSound}
+use Rattle.model.specs.Rules.{DefaultChild}
 use Rattle.model.specs.Values.{modulus}
 use Rattle.model.specs.Machine.{Areas, resetAreas, runFrom, cycle}
 use Rattle.model.specs.Parties.{registerSeen, valuesSeen, walkSeen, givenUnseen}
-use Rattle.model.proofs.Laws.Booleans.{decide, cond-true}
+use Rattle.model.proofs.Laws.Booleans.{decide, cond-true, or-first}
 use Rattle.model.proofs.Laws.Indices.{length-tabulate, getD-tabulate, join-same}
 use Rattle.model.proofs.Laws.Cycles.{reset-length}
-use Rattle.model.proofs.Laws.States.{default-sound, sibling-no-root}
+use Rattle.model.proofs.Laws.States.{is-child, default-least, default-sound, sibling-no-root}
 use Rattle.model.proofs.Independence.Relation.{Good, withRegister, startAreas, Bisimulation}
 use Rattle.model.proofs.Independence.Endings.{Ended}
 use Rattle.model.proofs.Independence.Agreement.{Agree, agree-self, agree-trans, agree-sym, agree-unseen, agree-set}
 use Rattle.model.proofs.Independence.Widths.{Fitting, set-fitting, reset-fitting}
-use Rattle.model.proofs.Independence.Path.{entryOf, ran, entry, ended, run-good}
+use Rattle.model.proofs.Laws.Scopes.{all-own-iff, scope-root}
+use Rattle.model.proofs.Laws.Paths.{path-above}
+use Rattle.model.proofs.Laws.Bindings.{sound-make}
+use Rattle.model.proofs.Independence.Instances.{AcceptedDesign}
+use Rattle.model.proofs.Independence.Path.{entryOf, ran, entry, live-sound, root-live, parent-lower, ended, run-good, run-ran}
 use Rattle.model.proofs.Independence.Rising.{Rising, Defaults, run-rises, default-rises}
 use Rattle.model.proofs.Independence.Cycle.{Alike, pathSeen, default-paths, same-register-seen, agree-alike, Together, run-together}
 
@@ -39,27 +47,66 @@ module _ (d : Design) where
   unfolding resetAreas
   reset-defaults = record { default = λ q p l. getD-tabulate (defaultTarget d) (length (d .states)) q 0 l; closed = λ q c p child. tt }
 
-  -- areas whose targets are those of reset
-  pub reset-good : (values : List ℕ) → length values ≡ length (d .registers) → Fitting (d .registers) values → Good d (record { registers = values; targets = resetAreas d .targets })
-  unfolding resetAreas
-  reset-good values size fitting =
-      record {
-        registers-length = size;
-        targets-length = length-tabulate (defaultTarget d) (length (d .states));
-        fitting = fitting;
-        sound = λ s l. default-sound d (tabulate (defaultTarget d) (length (d .states))) s (getD-tabulate (defaultTarget d) (length (d .states)) s 0 l);
-      }
-
   -- ---- a cycle runs from the root, and goes on from the root
-  module _ (keeps : DesignKeeps d) where
-    root-stays : (o : Outcome) (context : List ℕ) → Ended d 0 context (bodyOf d 0) o → entryOf o 0 ≡ 0
-    root-stays Continued context e = refl
-    root-stays (Transferred Fall) context e = refl
-    root-stays (Transferred (Goto t)) context e = absurd (sibling-no-root d 0 t (e .1) refl)
+  module _ (keeps : AcceptedDesign d) where
+    -- along the targets of reset no state has parameters
+    reset-none : (s : ℕ) → s < length (d .states) → onPath d (resetAreas d .targets) s ≡ true → stateAt d s .parameters ≡ 0
+    reset-none s l on = go (ℕ-discrete s 0)
+      where
+        go : Dec (s ≡ 0) → stateAt d s .parameters ≡ 0
+        go (yes e) = keeps .structure .parameters s l .root-none e
+        go (no no-root) =
+            let low = parent-lower d keeps s l no-root in
+            let above = path-above d (resetAreas d .targets) s no-root low on in
+            let is : defaultTarget d (parent d s) ≡ s = sym (reset-defaults .default (parent d s) tt (omega arith)) ∙ above .1 in
+            let child : DefaultChild d (parent d s) s = record { child = is-child d (parent d s) s (record { no-root = no-root; state = l; parent-is = refl }); lowest = λ r h. rw is at (default-least d (parent d s) r h) } in
+            keeps .structure .parameters s l .default-none (parent d s) child
 
-    pub entry-root : (f : ℕ) (a : Areas) → 0 < length (d .states) → entry d f 0 a ≡ 0
-    entry-root zero a l = refl
-    entry-root (suc f) a l = root-stays (ran d 0 a .outcome) (stateLabel d 0 ∷ []) (ended d keeps 0 l a)
+    reset-zero : (v : ℕ) → getD (resetAreas d .bindings) v 0 ≡ 0
+    unfolding resetAreas
+    reset-zero v = go (decLt v (bindingLength * length (d .states)))
+      where
+        go : Dec (v < bindingLength * length (d .states)) → getD (resetAreas d .bindings) v 0 ≡ 0
+        go (yes l) = getD-tabulate (λ v. 0) (bindingLength * length (d .states)) v 0 l
+        go (no h) =
+            let size : length (resetAreas d .bindings) ≡ bindingLength * length (d .states) = length-tabulate (λ v. 0) (bindingLength * length (d .states)) in
+            List·getD-eq-default (resetAreas d .bindings) 0 {n = v} (omega arith)
+
+    reset-byte : (v : ℕ) → byteSound d (resetAreas d .bindings) v ≡ true
+    unfolding byteSound
+    reset-byte v = or-first (eqb (getD (resetAreas d .bindings) v 0) 0) _ (eq-eqb (getD (resetAreas d .bindings) v 0) 0 (reset-zero v))
+
+    reset-bound : (s : ℕ) → s < length (d .states) → bindingSound d (resetAreas d .targets) (resetAreas d .bindings) s ≡ true
+    reset-bound s l =
+        sound-make d (resetAreas d .targets) (resetAreas d .bindings) s (reset-byte (bindingLength * s)) (reset-byte (bindingLength * s + 1)) (λ on.
+        let none = reset-none s l on in
+        all-own-iff d s (boundSound d (resetAreas d .bindings)) .1 (λ j m. absurd (omega arith)))
+
+    -- areas whose targets and bindings are those of reset
+    pub reset-good : (values : List ℕ) → length values ≡ length (d .registers) → Fitting (d .registers) values → Good d (record { registers = values; targets = resetAreas d .targets; bindings = resetAreas d .bindings })
+    unfolding resetAreas
+    reset-good values size fitting =
+        record {
+          registers-length = size;
+          targets-length = length-tabulate (defaultTarget d) (length (d .states));
+          fitting = fitting;
+          sound = λ s l. default-sound d (tabulate (defaultTarget d) (length (d .states))) s (getD-tabulate (defaultTarget d) (length (d .states)) s 0 l);
+          bindings-length = length-tabulate (λ v. 0) (bindingLength * length (d .states));
+          bound = reset-bound;
+        }
+
+    pub nothing-bound : 0 < length (d .states) → (bindings : List ℕ) → boundIn d bindings 0 ≡ []
+    unfolding boundIn ownParameters tabulateFrom
+    nothing-bound l bindings = rw (scope-root d, keeps .structure .parameters 0 l .root-none refl) refl
+
+    root-stays : (o : Outcome) (bindings context : List ℕ) (c : Cmd) → Ended d bindings 0 context c o → entryOf o 0 ≡ 0
+    root-stays Continued bindings context c e = refl
+    root-stays (Transferred Fall) bindings context c e = refl
+    root-stays (Transferred (Goto t x y)) bindings context c e = absurd (sibling-no-root d 0 t (e .1) refl)
+
+    pub entry-root : (f : ℕ) (a : Areas) → 0 < length (d .states) → Good d a → entry d f 0 a ≡ 0
+    entry-root zero a l good = refl
+    entry-root (suc f) a l good = root-stays (ran d 0 a .outcome) (a .bindings) (labelWith d (a .bindings) 0 ∷ []) (bodyWith d (a .bindings) 0) (ended d keeps 0 a good (root-live d keeps a l))
 
   -- ---- the start: what is seen has its reset value
   module _ (level : ℕ) (given : ℕ → ℕ) (values : List ℕ) where
@@ -97,15 +144,15 @@ module _ (d₁ d₂ : Design) (level : ℕ) where
   pub record Related (a b : Areas) : Type 0 where
     pub good₁ : Good d₁ a
     pub good₂ : Good d₂ b
-    pub rising₁ : Rising d₁ (length (d₁ .states)) 0 (a .targets)
-    pub rising₂ : Rising d₂ (length (d₁ .states)) 0 (b .targets)
+    pub rising₁ : Rising d₁ (length (d₁ .states)) 0 (a .bindings) (a .targets)
+    pub rising₂ : Rising d₂ (length (d₁ .states)) 0 (b .bindings) (b .targets)
     pub agree : Agree d₁ level (a .registers) (b .registers)
-    pub paths : pathSeen d₁ level (length (d₁ .states)) 0 (a .targets) ≡ pathSeen d₂ level (length (d₁ .states)) 0 (b .targets)
+    pub paths : pathSeen d₁ level (length (d₁ .states)) 0 (a .bindings) (a .targets) ≡ pathSeen d₂ level (length (d₁ .states)) 0 (b .bindings) (b .targets)
 
   module _
       (alike : Alike d₁ d₂ level)
-      (keeps₁ : DesignKeeps d₁)
-      (keeps₂ : DesignKeeps d₂)
+      (keeps₁ : AcceptedDesign d₁)
+      (keeps₂ : AcceptedDesign d₂)
       (rooted : 0 < length (d₁ .states))
       (isLabel : level < length (d₁ .rows))
     where
@@ -119,16 +166,24 @@ module _ (d₁ d₂ : Design) (level : ℕ) where
       unfolding resetAreas
       same-reset = rw (alike .registers) refl
 
-      -- areas with the targets of reset, and registers that agree
-      from-reset : (v w : List ℕ) → length v ≡ length (d₁ .registers) → Fitting (d₁ .registers) v → Fitting (d₂ .registers) w → Agree d₁ level v w → Related (record { registers = v; targets = resetAreas d₁ .targets }) (record { registers = w; targets = resetAreas d₂ .targets })
+      -- the root has no parameters
+      root-bound : boundIn d₁ (resetAreas d₁ .bindings) 0 ≡ boundIn d₂ (resetAreas d₂ .bindings) 0
+      root-bound = nothing-bound d₁ keeps₁ rooted (resetAreas d₁ .bindings) ∙ sym (nothing-bound d₂ keeps₂ rooted₂ (resetAreas d₂ .bindings))
+
+      -- areas with the targets and the bindings of reset, and registers that agree
+      from-reset : (v w : List ℕ) → length v ≡ length (d₁ .registers) → Fitting (d₁ .registers) v → Fitting (d₂ .registers) w → Agree d₁ level v w → Related (record { registers = v; targets = resetAreas d₁ .targets; bindings = resetAreas d₁ .bindings }) (record { registers = w; targets = resetAreas d₂ .targets; bindings = resetAreas d₂ .bindings })
       from-reset v w size fitting₁ fitting₂ agree =
+          let good₁ = reset-good d₁ keeps₁ v size fitting₁ in
+          let good₂ = reset-good d₂ keeps₂ w (sym (agree .lengths) ∙ size ∙ ap length (alike .registers)) fitting₂ in
+          let root₁ = root-live d₁ keeps₁ (record { registers = v; targets = resetAreas d₁ .targets; bindings = resetAreas d₁ .bindings }) rooted in
+          let root₂ = root-live d₂ keeps₂ (record { registers = w; targets = resetAreas d₂ .targets; bindings = resetAreas d₂ .bindings }) rooted₂ in
           record {
-            good₁ = reset-good d₁ v size fitting₁;
-            good₂ = reset-good d₂ w (sym (agree .lengths) ∙ size ∙ ap length (alike .registers)) fitting₂;
-            rising₁ = default-rises d₁ keeps₁ (λ q. Unit {0}) (resetAreas d₁ .targets) (reset-defaults d₁) (length (d₁ .states)) 0 tt rooted;
-            rising₂ = default-rises d₂ keeps₂ (λ q. Unit {0}) (resetAreas d₂ .targets) (reset-defaults d₂) (length (d₁ .states)) 0 tt rooted₂;
+            good₁ = good₁;
+            good₂ = good₂;
+            rising₁ = default-rises d₁ keeps₁ (resetAreas d₁ .bindings) (λ q. Unit {0}) (resetAreas d₁ .targets) (reset-defaults d₁) (length (d₁ .states)) 0 tt rooted (live-sound d₁ keeps₁ _ good₁ 0 root₁);
+            rising₂ = default-rises d₂ keeps₂ (resetAreas d₂ .bindings) (λ q. Unit {0}) (resetAreas d₂ .targets) (reset-defaults d₂) (length (d₁ .states)) 0 tt rooted₂ (live-sound d₂ keeps₂ _ good₂ 0 root₂);
             agree = agree;
-            paths = default-paths d₁ d₂ level alike keeps₁ (λ q. Unit {0}) (resetAreas d₁ .targets) (resetAreas d₂ .targets) (reset-defaults d₁) (reset-defaults d₂) (length (d₁ .states)) 0 tt rooted;
+            paths = default-paths d₁ d₂ level alike keeps₁ keeps₂ (λ q. Unit {0}) (resetAreas d₁ .bindings) (resetAreas d₂ .bindings) (resetAreas d₁ .targets) (resetAreas d₂ .targets) (reset-defaults d₁) (reset-defaults d₂) (length (d₁ .states)) 0 tt rooted root-bound;
           }
 
       starts : (given₁ given₂ : ℕ → ℕ) → ((r : ℕ) → r < length (d₁ .registers) → given₁ r < modulus (d₁ .registers) r) → ((r : ℕ) → r < length (d₂ .registers) → given₂ r < modulus (d₂ .registers) r) → Related (startAreas d₁ level given₁) (startAreas d₂ level given₂)
@@ -139,12 +194,12 @@ module _ (d₁ d₂ : Design) (level : ℕ) where
           (givenUnseen d₁ level given₁ (resetAreas d₁ .registers))
           (givenUnseen d₂ level given₂ (resetAreas d₂ .registers))
           (length-given d₁ level given₁ (resetAreas d₁ .registers))
-          (given-fitting d₁ level given₁ (resetAreas d₁ .registers) (reset-fitting d₁ keeps₁) h)
-          (given-fitting d₂ level given₂ (resetAreas d₂ .registers) (reset-fitting d₂ keeps₂) k)
+          (given-fitting d₁ level given₁ (resetAreas d₁ .registers) (reset-fitting d₁ (keeps₁ .structure)) h)
+          (given-fitting d₂ level given₂ (resetAreas d₂ .registers) (reset-fitting d₂ (keeps₂ .structure)) k)
           (agree-trans d₁ level (given-agrees d₁ level given₁ (resetAreas d₁ .registers) (reset-length d₁)) (agree-sym d₁ level agree₂))
 
       reset-related : Related (resetAreas d₁) (resetAreas d₂)
-      reset-related = from-reset (resetAreas d₁ .registers) (resetAreas d₂ .registers) (reset-length d₁) (reset-fitting d₁ keeps₁) (reset-fitting d₂ keeps₂) (rw same-reset (agree-self d₁ level (resetAreas d₂ .registers)))
+      reset-related = from-reset (resetAreas d₁ .registers) (resetAreas d₂ .registers) (reset-length d₁) (reset-fitting d₁ (keeps₁ .structure)) (reset-fitting d₂ (keeps₂ .structure)) (rw same-reset (agree-self d₁ level (resetAreas d₂ .registers)))
 
       values-same : (a b : Areas) → Related a b → valuesSeen d₁ level (a .registers) ≡ valuesSeen d₂ level (b .registers)
       unfolding valuesSeen
@@ -162,7 +217,7 @@ module _ (d₁ d₂ : Design) (level : ℕ) where
         unfolding cycle
         as-many = ap (λ (n : ℕ). runFrom d₂ n 0 b) (sym (alike .states))
 
-        together : Together d₁ d₂ level alike (length (d₁ .states)) 0 0 (cycle d₁ a) (runFrom d₂ (length (d₁ .states)) 0 b)
+        together : Together d₁ d₂ level alike (length (d₁ .states)) 0 0 (a .bindings) (b .bindings) (cycle d₁ a) (runFrom d₂ (length (d₁ .states)) 0 b)
         unfolding cycle
         together =
             let run =
@@ -179,31 +234,32 @@ module _ (d₁ d₂ : Design) (level : ℕ) where
             0
             a
             b
-            rooted
-            rooted₂
+            (root-live d₁ keeps₁ a rooted)
+            (root-live d₂ keeps₂ b rooted₂)
             (related .good₁)
             (related .good₂)
             (related .rising₁)
             (related .rising₂)
             (related .agree)
             (related .paths) in
-            rw (entry-root d₁ keeps₁ (length (d₁ .states)) a rooted, entry-root d₂ keeps₂ (length (d₁ .states)) b rooted₂) at run
+            rw (entry-root d₁ keeps₁ (length (d₁ .states)) a rooted (related .good₁), entry-root d₂ keeps₂ (length (d₁ .states)) b rooted₂ (related .good₂)) at run
 
-        cycle-walks : walkSeen d₁ level (cycle d₁ a .walk) ≡ walkSeen d₂ level (cycle d₂ b .walk)
-        cycle-walks = rw as-many (together .walks)
+        cycle-walks : walkSeen d₁ level (cycle d₁ a .ranWith) (cycle d₁ a .walk) ≡ walkSeen d₂ level (cycle d₂ b .ranWith) (cycle d₂ b .walk)
+        unfolding cycle
+        cycle-walks = rw (as-many, run-ran d₁ (length (d₁ .states)) 0 a, run-ran d₂ (length (d₁ .states)) 0 b) (together .walks)
 
         cycle-related : Related (cycle d₁ a .after) (cycle d₂ b .after)
         unfolding cycle
         cycle-related =
-            let root₁ = entry-root d₁ keeps₁ (length (d₁ .states)) a rooted in
-            let root₂ = entry-root d₂ keeps₂ (length (d₁ .states)) b rooted₂ in
+            let root₁ = entry-root d₁ keeps₁ (length (d₁ .states)) a rooted (related .good₁) in
+            let root₂ = entry-root d₂ keeps₂ (length (d₁ .states)) b rooted₂ (related .good₂) in
             rw
             as-many
             (record {
-              good₁ = run-good d₁ keeps₁ (length (d₁ .states)) 0 a rooted (related .good₁);
-              good₂ = run-good d₂ keeps₂ (length (d₁ .states)) 0 b rooted₂ (related .good₂);
-              rising₁ = rw root₁ at (run-rises d₁ keeps₁ level isLabel (length (d₁ .states)) 0 a rooted (related .good₁) (related .rising₁));
-              rising₂ = rw root₂ at (run-rises d₂ keeps₂ level isLabel₂ (length (d₁ .states)) 0 b rooted₂ (related .good₂) (related .rising₂));
+              good₁ = run-good d₁ keeps₁ (length (d₁ .states)) 0 a (root-live d₁ keeps₁ a rooted) (related .good₁);
+              good₂ = run-good d₂ keeps₂ (length (d₁ .states)) 0 b (root-live d₂ keeps₂ b rooted₂) (related .good₂);
+              rising₁ = rw root₁ at (run-rises d₁ keeps₁ level isLabel (length (d₁ .states)) 0 a (root-live d₁ keeps₁ a rooted) (related .good₁) (related .rising₁));
+              rising₂ = rw root₂ at (run-rises d₂ keeps₂ level isLabel₂ (length (d₁ .states)) 0 b (root-live d₂ keeps₂ b rooted₂) (related .good₂) (related .rising₂));
               agree = together .registers;
               paths = together .paths;
             })
@@ -216,6 +272,8 @@ module _ (d₁ d₂ : Design) (level : ℕ) where
             targets-length = good .targets-length;
             fitting = set-fitting (d .registers) (a .registers) r v l (good .fitting);
             sound = good .sound;
+            bindings-length = good .bindings-length;
+            bound = good .bound;
           }
 
       pub related-bisimulation : Bisimulation d₁ d₂ level Related

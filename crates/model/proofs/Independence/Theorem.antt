@@ -6,14 +6,16 @@ use mathlib.Core.List.{List}
 use native.Mathlib.Omega.{arith}
 use lib.ListN.{length, drop}
 use Rattle.model.specs.Limits.{stateLength}
-use Rattle.model.specs.Image.{States, count, offset, stateOf, sectionOf, designOf}
-use Rattle.model.specs.Rules.{DirectoryKeeps}
+use Rattle.model.specs.Image.{Labels, Registers, States, count, offset, stateOf, sectionOf, designOf}
+use Rattle.model.specs.Rules.{DirectoryKeeps, Keeps}
 use Rattle.model.specs.Parties.{Independent}
 use Rattle.model.proofs.Laws.Words.{length-recordsOf}
 use Rattle.model.proofs.Exact.{verdict-exact}
 use Rattle.model.proofs.Independence.Relation.{Bisimulation}
 use Rattle.model.proofs.Independence.Cycle.{alike-self}
 use Rattle.model.proofs.Independence.Runs.{Related, related-bisimulation}
+use Rattle.model.proofs.Laws.Images.{label-count, register-count}
+use Rattle.model.proofs.Independence.Instances.{AcceptedDesign}
 use Rattle.model.proofs.Independence.Lists.{lists-independent}
 
 -- an image that keeps the rules has a state
@@ -23,6 +25,16 @@ rooted image kept =
     let some : 1 ≤ count image States = kept .sections States .at-least in
     let size : length (designOf image .states) ≡ count image States = length-recordsOf stateOf stateLength (count image States) (drop (offset image States) image) in
     omega arith
+
+-- no label and no register of an accepted image has the byte of a parameter
+pub accepted-design : (image : List ℕ) → Keeps image → AcceptedDesign (designOf image)
+accepted-design image keeps =
+    record {
+      structure = keeps .design .structure;
+      flowing = keeps .design .flowing;
+      few-labels = let most = keeps .directory .sections Labels .at-most in let count = label-count image in omega arith;
+      few-registers = let most = keeps .directory .sections Registers .at-most in let count = register-count image in omega arith;
+    }
 
 pub independent : Independent
 independent image accepted level isLabel one other same =
@@ -34,8 +46,8 @@ independent image accepted level isLabel one other same =
     d
     level
     (alike-self d level)
-    (keeps .design)
-    (keeps .design)
+    (accepted-design image keeps)
+    (accepted-design image keeps)
     (rooted image (keeps .directory))
     isLabel in
     lists-independent image image accepted accepted level (Related d d level) (Related d d level) related related one other same

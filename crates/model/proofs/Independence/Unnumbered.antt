@@ -3,31 +3,43 @@ use Prim.Native.Nat.{ℕ}
 use mathlib.Core.Path.{_≡_, refl, sym, _∙_, ap}
 use mathlib.Core.List.{List}
 use Rattle.model.specs.Image.{Register}
-use Rattle.model.specs.Trees.{Cmd, skip, assign, sequence, fall, goto, branch}
-use Rattle.model.specs.Machine.{Executed, unlessTransferred, exec}
+use Rattle.model.specs.Trees.{Expr, constant, register, binary, Cmd, skip, assign, sequence, fall, goto, branch}
+use Rattle.model.specs.Bindings.{exprWith, cmdWith}
+use Rattle.model.specs.Machine.{eval, Executed, unlessTransferred, exec}
 use Rattle.model.specs.Falls.{holdsFall}
 
--- the command with 0 for every node number
+-- the expression and the command with 0 for every node number
+unfoldable pub unnumberedExpr : Expr → Expr
+unnumberedExpr (constant v) = constant v
+unnumberedExpr (register m r) = register 0 r
+unnumberedExpr (binary o p q) = binary o (unnumberedExpr p) (unnumberedExpr q)
+
 unfoldable pub unnumbered : Cmd → Cmd
 unnumbered (skip n) = skip 0
-unnumbered (assign n r e) = assign 0 r e
+unnumbered (assign n r e) = assign 0 r (unnumberedExpr e)
 unnumbered (sequence n p q) = sequence 0 (unnumbered p) (unnumbered q)
 unnumbered (fall n) = fall 0
-unnumbered (goto n t) = goto 0 t
-unnumbered (branch n e p q) = branch 0 e (unnumbered p) (unnumbered q)
+unnumbered (goto n t x y) = goto 0 t x y
+unnumbered (branch n e p q) = branch 0 (unnumberedExpr e) (unnumbered p) (unnumbered q)
+
+eval-unnumbered : (values : List ℕ) (e : Expr) → eval values e ≡ eval values (unnumberedExpr e)
+unfolding eval unnumberedExpr
+eval-unnumbered values (constant v) = refl
+eval-unnumbered values (register m r) = refl
+eval-unnumbered values (binary o p q) = rw (eval-unnumbered values p, eval-unnumbered values q) refl
 
 module _ (registers : List Register) where
   exec-unnumbered : (values : List ℕ) (c : Cmd) → exec registers values c ≡ exec registers values (unnumbered c)
   unfolding exec unnumbered
   exec-unnumbered values (skip n) = refl
-  exec-unnumbered values (assign n r e) = refl
+  exec-unnumbered values (assign n r e) = rw (eval-unnumbered values e) refl
   exec-unnumbered values (sequence n p q) = same (exec registers values p) (exec registers values (unnumbered p)) (exec-unnumbered values p) (exec-unnumbered (exec registers values p .registers) q)
     where
       same : (first other : Executed) → first ≡ other → exec registers (first .registers) q ≡ exec registers (first .registers) (unnumbered q) → unlessTransferred (first .outcome) first (exec registers (first .registers) q) ≡ unlessTransferred (other .outcome) other (exec registers (other .registers) (unnumbered q))
       same first other e h = rw (h, e) refl
   exec-unnumbered values (fall n) = refl
-  exec-unnumbered values (goto n t) = refl
-  exec-unnumbered values (branch n e p q) = rw (exec-unnumbered values p, exec-unnumbered values q) refl
+  exec-unnumbered values (goto n t x y) = refl
+  exec-unnumbered values (branch n e p q) = rw (eval-unnumbered values e, exec-unnumbered values p, exec-unnumbered values q) refl
 
 holds-unnumbered : (c : Cmd) → holdsFall c ≡ holdsFall (unnumbered c)
 unfolding holdsFall unnumbered
@@ -35,7 +47,7 @@ holds-unnumbered (skip n) = refl
 holds-unnumbered (assign n r e) = refl
 holds-unnumbered (sequence n p q) = rw (holds-unnumbered p, holds-unnumbered q) refl
 holds-unnumbered (fall n) = refl
-holds-unnumbered (goto n t) = refl
+holds-unnumbered (goto n t x y) = refl
 holds-unnumbered (branch n e p q) = rw (holds-unnumbered p, holds-unnumbered q) refl
 
 -- commands that differ at most in node numbers run alike and hold falls alike
@@ -44,3 +56,22 @@ exec-alike registers p q values e = exec-unnumbered registers values p ∙ ap (e
 
 pub holds-alike : (p q : Cmd) → unnumbered p ≡ unnumbered q → holdsFall p ≡ holdsFall q
 holds-alike p q e = holds-unnumbered p ∙ ap holdsFall e ∙ sym (holds-unnumbered q)
+
+-- with registers bound to their parameters they still differ at most in node numbers
+expr-unnumbered-with : (bound : List ℕ) (e : Expr) → unnumberedExpr (exprWith bound e) ≡ exprWith bound (unnumberedExpr e)
+unfolding unnumberedExpr exprWith
+expr-unnumbered-with bound (constant v) = refl
+expr-unnumbered-with bound (register m r) = refl
+expr-unnumbered-with bound (binary o p q) = rw (expr-unnumbered-with bound p, expr-unnumbered-with bound q) refl
+
+unnumbered-with : (bound : List ℕ) (c : Cmd) → unnumbered (cmdWith bound c) ≡ cmdWith bound (unnumbered c)
+unfolding unnumbered cmdWith
+unnumbered-with bound (skip n) = refl
+unnumbered-with bound (assign n r e) = rw (expr-unnumbered-with bound e) refl
+unnumbered-with bound (sequence n p q) = rw (unnumbered-with bound p, unnumbered-with bound q) refl
+unnumbered-with bound (fall n) = refl
+unnumbered-with bound (goto n t x y) = refl
+unnumbered-with bound (branch n e p q) = rw (expr-unnumbered-with bound e, unnumbered-with bound p, unnumbered-with bound q) refl
+
+pub alike-with : (bound : List ℕ) (p q : Cmd) → unnumbered p ≡ unnumbered q → unnumbered (cmdWith bound p) ≡ unnumbered (cmdWith bound q)
+alike-with bound p q e = unnumbered-with bound p ∙ ap (cmdWith bound) e ∙ sym (unnumbered-with bound q)

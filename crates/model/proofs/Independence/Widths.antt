@@ -11,7 +11,7 @@ use lib.ListN.{length, getD, set, List·getD-map, List·getD-eq-default}
 use Rattle.model.specs.Limits.{valueCount, widthMax}
 use Rattle.model.specs.Image.{Design, Register, noRegister, registerAt}
 use Rattle.model.specs.Trees.{Cmd, skip, assign, sequence, fall, goto, branch}
-use Rattle.model.specs.Rules.{DesignKeeps}
+use Rattle.model.specs.Rules.{StructureKeeps}
 use Rattle.model.specs.Values.{modulus, stored}
 use Rattle.model.specs.Machine.{eval, exec, resetAreas}
 use Rattle.model.proofs.Laws.Commands.{sequence-all, branch-all}
@@ -53,12 +53,12 @@ module _ (registers : List Register) where
       let after = exec-fitting values p h in
       sequence-all registers (λ x. Fitting registers (x .registers)) values n p q after (exec-fitting (exec registers values p .registers) q after)
   exec-fitting values (fall n) h = h
-  exec-fitting values (goto n t) h = h
+  exec-fitting values (goto n t x y) h = h
   exec-fitting values (branch n e p q) h =
       branch-all registers (λ x. Fitting registers (x .registers)) values n e p q (exec-fitting values p h) (exec-fitting values q h)
 
 -- ---- a design that keeps the rules
-module _ (d : Design) (keeps : DesignKeeps d) where
+module _ (d : Design) (keeps : StructureKeeps d) where
   -- what holds of every register's record, and of none, holds at every number
   each-register : (P : Register → Type 0) → P noRegister → ((r : ℕ) → r < length (d .registers) → P (registerAt d r)) → (r : ℕ) → P (registerAt d r)
   each-register P none each r = go (decLt r (length (d .registers)))
@@ -68,7 +68,7 @@ module _ (d : Design) (keeps : DesignKeeps d) where
       go (no l) = rw (List·getD-eq-default (d .registers) noRegister {n = r} (omega arith)) none
 
   pub modulus-most : (r : ℕ) → modulus (d .registers) r ≤ valueCount
-  modulus-most = each-register (λ x. 2 ^ x .width ≤ valueCount) (omega arith) (λ r l. pow-mono (keeps .structure .registers r l .width-most))
+  modulus-most = each-register (λ x. 2 ^ x .width ≤ valueCount) (omega arith) (λ r l. pow-mono (keeps .registers r l .width-most))
 
   pub fitting-bounded : (values : List ℕ) → Fitting (d .registers) values → (r : ℕ) → getD values r 0 < valueCount
   fitting-bounded values h r = lt-of-lt-of-le (h r) (modulus-most r)
@@ -78,4 +78,4 @@ module _ (d : Design) (keeps : DesignKeeps d) where
   reset-fitting r =
       rw
       (List·getD-map (λ (x : Register). x .reset) (d .registers) r noRegister)
-      (each-register (λ x. x .reset < 2 ^ x .width) (omega arith) (λ s l. keeps .structure .registers s l .reset) r)
+      (each-register (λ x. x .reset < 2 ^ x .width) (omega arith) (λ s l. keeps .registers s l .reset) r)
