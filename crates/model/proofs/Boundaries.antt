@@ -8,11 +8,17 @@ pub mod Depths
 pub mod Bodies
 pub mod Ports
 pub mod Falls
+pub mod Parameters
+pub mod Arguments
+pub mod Choices
 pub mod Widths
 pub mod Flows
 pub mod Raising
 pub mod Cycles
+pub mod Bindings
+pub mod Unsound
 pub mod Signed
 pub mod Calls
 pub mod Lists
+pub mod Views
 pub mod Listings

@@ -1,8 +1,8 @@
 -- The table of proved cases: document 01's P1 to P10, its examples and document 02's, and the small points that are decided. Each holds because both sides compute to the same.
-use Prim.Native.Nat.{_+_}
+use Prim.Native.Nat.{ℕ, _+_}
 use mathlib.Core.Path.{_≡_, refl, ap}
-use mathlib.Core.List.{[], _∷_, _++_, map}
-use lib.ListN.{length}
+use mathlib.Core.List.{List, [], _∷_, _++_, map}
+use lib.ListN.{length, replicate, getD, drop}
 use Rattle.model.specs.declared.Found.the-variants.{At, Nowhere}
 use Rattle.model.specs.declared.Refusal.the-variants.{Depth, Shape, Area, CycleCount}
 use Rattle.model.specs.declared.Answer.the-variants.{Accepted, Refused}
@@ -16,9 +16,9 @@ use Rattle.model.specs.Values.{apply}
 use Rattle.model.specs.Machine.{goneTo, cycle, afterCycles}
 use Rattle.model.specs.Calls.{leaves, areasOf, lentOf, check, reset, runAnswer, run}
 use Rattle.model.specs.Listing.{bytesOfText, decimal, lines, listing}
-use Rattle.model.specs.Parties.{resets, writes, runs, perform, events, atEnd}
-use Rattle.model.proofs.Opened.{checks, everything, accepted, refused, judged, told, lent, areas, faultOfRows, cyclesOf, walks, pairOf, anyLent, resetLent, shortLent, longLent, longTargets, unsoundLent, groupsLent}
-use Rattle.model.proofs.Designs.{lease, deep, deepCondition, twoGroups, tower, ofRows, smallest, kindTwo, ownParent, noCommands, kindSix, expressionKindTwelve, sharedCommand, twiceInSequence, halfTransferring, halfInside, transfersFirst, onlySkips, rootGoes, gotoRoot, rootAlone, portAssigned, lowUnderHigh, highToLow, acrossLabels, secretBranch, flatLease, secretGotos, gotoBelowAssign, secretFalls, fallOrGoto}
+use Rattle.model.specs.Parties.{Call, RanState, Seen, resets, writes, runs, perform, events, atEnd, view}
+use Rattle.model.proofs.Opened.{checks, everything, sights, accepted, refused, judged, told, lent, lentBound, areas, faultOfRows, cyclesOf, walks, pairOf, anyLent, resetLent, shortLent, longLent, longTargets, unsoundLent, groupsLent, oneGroupLent}
+use Rattle.model.proofs.Designs.{lease, deep, deepCondition, twoGroups, oneGroup, tower, ofRows, smallest, kindTwo, ownParent, noCommands, kindSix, expressionKindTwelve, sharedCommand, twiceInSequence, halfTransferring, halfInside, transfersFirst, onlySkips, rootGoes, gotoRoot, rootAlone, portAssigned, lowUnderHigh, highToLow, acrossLabels, secretBranch, flatLease, secretGotos, gotoBelowAssign, secretFalls, fallOrGoto}
 
 -- 01, 'Proved cases, one table'.
 
@@ -74,14 +74,14 @@ p10-refused = unfold checks in refl
 
 -- 01, 'The lease design'.
 
--- "208 bytes"; with 02's E2, which gives each of its two registers a byte more, 210
-lease-length : length lease ≡ 210
+-- "208 bytes"; with 02's E2, which gives each of its two registers a byte more, and E8, which gives each of its five states five, 235
+lease-length : length lease ≡ 235
 lease-length = refl
 
--- "with pairs 20,4 24,12 36,20 56,104 160,48"; with E2 the registers take 14
+-- "with pairs 20,4 24,12 36,20 56,104 160,48"; with E2 the registers take 14, and with E8 the states 45
 lease-directory
     : map (pairOf lease) (Labels ∷ Registers ∷ States ∷ Commands ∷ Expressions ∷ [])
-    ≡ (20, 4) ∷ (24, 14) ∷ (38, 20) ∷ (58, 104) ∷ (162, 48) ∷ []
+    ≡ (20, 4) ∷ (24, 14) ∷ (38, 45) ∷ (83, 104) ∷ (187, 48) ∷ []
 lease-directory = refl
 
 -- check accepts it
@@ -181,11 +181,11 @@ depth-of-condition : verdict (deepCondition 63) ≡ Accepted 0
 depth-of-condition = unfold checks in refl
 
 -- "a node without parts of its own family has depth 1"
-depth-of-expressions : map exprDepth (constant 7 ∷ register 0 ∷ binary add (constant 7) (register 0) ∷ []) ≡ 1 ∷ 1 ∷ 2 ∷ []
+depth-of-expressions : map exprDepth (constant 7 ∷ register 0 0 ∷ binary add (constant 7) (register 0 0) ∷ []) ≡ 1 ∷ 1 ∷ 2 ∷ []
 depth-of-expressions = unfold checks in refl
 
 depth-of-commands
-    : map cmdDepth (skip 0 ∷ assign 0 0 (binary add (constant 7) (register 0)) ∷ fall 0 ∷ goto 0 1 ∷ sequence 2 (skip 0) (fall 1) ∷ [])
+    : map cmdDepth (skip 0 ∷ assign 0 0 (binary add (constant 7) (register 0 0)) ∷ fall 0 ∷ goto 0 1 0 0 ∷ sequence 2 (skip 0) (fall 1) ∷ [])
     ≡ 1 ∷ 1 ∷ 1 ∷ 1 ∷ 2 ∷ []
 depth-of-commands = unfold checks in refl
 
@@ -345,13 +345,13 @@ accepted-run-of-4 = unfold everything in refl
 -- "An assignment shows at the next read": state 2 takes 1 from r0 = 1, reads 0 and goes to 1
 assignment-shows
     : cycle (designOf lease) (areas (1 ∷ 0 ∷ []) (2 ∷ 1 ∷ 3 ∷ 3 ∷ 4 ∷ []))
-    ≡ record { after = areas (0 ∷ 0 ∷ []) (1 ∷ 1 ∷ 3 ∷ 3 ∷ 4 ∷ []); walk = 0 ∷ 2 ∷ [] }
+    ≡ record { after = areas (0 ∷ 0 ∷ []) (1 ∷ 1 ∷ 3 ∷ 3 ∷ 4 ∷ []); walk = 0 ∷ 2 ∷ []; ranWith = replicate 10 0 }
 assignment-shows = unfold everything in refl
 
 -- "An if takes its first branch when the value is not 0": state 3 with r1 = 7 goes to 4
 if-not-0
     : cycle (designOf lease) (areas (3 ∷ 7 ∷ []) (2 ∷ 1 ∷ 3 ∷ 3 ∷ 4 ∷ []))
-    ≡ record { after = areas (2 ∷ 7 ∷ []) (2 ∷ 1 ∷ 4 ∷ 3 ∷ 4 ∷ []); walk = 0 ∷ 2 ∷ 3 ∷ [] }
+    ≡ record { after = areas (2 ∷ 7 ∷ []) (2 ∷ 1 ∷ 4 ∷ 3 ∷ 4 ∷ []); walk = 0 ∷ 2 ∷ 3 ∷ []; ranWith = replicate 10 0 }
 if-not-0 = unfold everything in refl
 
 -- "adding and subtracting wrap"
@@ -376,7 +376,7 @@ tower-accepted = unfold checks in refl
 -- "sets s and all its descendants to default children": 2, its child 3 and its grandchild 4, and not the group 8, which keeps its choice 10
 goto-clears-descendants
     : cycle (designOf tower) (areas [] (1 ∷ 1 ∷ 3 ∷ 7 ∷ 6 ∷ 5 ∷ 6 ∷ 7 ∷ 10 ∷ 9 ∷ 10 ∷ []))
-    ≡ record { after = areas [] (2 ∷ 1 ∷ 3 ∷ 4 ∷ 5 ∷ 5 ∷ 6 ∷ 7 ∷ 10 ∷ 9 ∷ 10 ∷ []); walk = 0 ∷ 1 ∷ [] }
+    ≡ record { after = areas [] (2 ∷ 1 ∷ 3 ∷ 4 ∷ 5 ∷ 5 ∷ 6 ∷ 7 ∷ 10 ∷ 9 ∷ 10 ∷ []); walk = 0 ∷ 1 ∷ []; ranWith = replicate 22 0 }
 goto-clears-descendants = unfold everything in refl
 
 -- "then the parent's target to s": at the root, its own parent, the second step is seen
@@ -400,3 +400,77 @@ two-groups-after-4
     : atEnd twoGroups groupsLent (resets ∷ runs 2 ∷ writes 2 1 ∷ runs 2 ∷ [])
     ≡ lent (0 ∷ 0 ∷ 0 ∷ 0 ∷ 1 ∷ 0 ∷ 0 ∷ 0 ∷ 1 ∷ 0 ∷ 0 ∷ 0 ∷ 0 ∷ 0 ∷ 0 ∷ 0 ∷ []) (1 ∷ 1 ∷ 5 ∷ 6 ∷ 4 ∷ 5 ∷ 6 ∷ 7 ∷ [])
 two-groups-after-4 = unfold everything in refl
+
+-- Document 004, figure 2(c): one group with a parameter for both parties.
+
+-- check accepts it
+one-group-accepted : verdict oneGroup ≡ Accepted 0
+one-group-accepted = unfold checks in refl
+
+-- its walk is that of the two groups, with group 2 for 3, and 3 and 4 for 4 and 5 and for 6 and 7; r4 and r5 are as r2 and r3
+one-group-lines
+    : lines 1 (cyclesOf (events oneGroup oneGroupLent (resets ∷ runs 2 ∷ writes 2 1 ∷ runs 4 ∷ [])))
+    ≡ bytesOfText "1;0 1;3 1 0 0 0 0\n2;0 2 3;2 1 0 0 0 0\n3;0 2 4;1 1 1 0 1 0\n4;0 2;0 1 1 0 1 0\n5;0 1;3 0 1 0 1 0\n6;0 2 3;2 0 1 0 1 0\n"
+one-group-lines = unfold everything in refl
+
+-- after cycle 5 r5 is bound to the group, and the group keeps no choice
+one-group-after-5
+    : atEnd oneGroup oneGroupLent (resets ∷ runs 5 ∷ [])
+    ≡ lentBound (3 ∷ replicate 23 0) (2 ∷ 1 ∷ 3 ∷ 3 ∷ 4 ∷ []) (0 ∷ 0 ∷ 0 ∷ 0 ∷ 5 ∷ replicate 5 0)
+one-group-after-5 = unfold everything in refl
+
+-- What a party sees of one group is what it sees of two, with the state that stands for each of the eight, the register bound to it, and behind the registers the copies of those from r2 on.
+abbrev ran : ℕ → List ℕ → RanState
+ran s bound = record { state = s; bound = bound }
+
+abbrev inOneGroup : RanState → RanState
+inOneGroup x = getD (ran 0 [] ∷ ran 1 [] ∷ ran 2 (4 ∷ []) ∷ ran 2 (5 ∷ []) ∷ ran 3 [] ∷ ran 4 [] ∷ ran 3 [] ∷ ran 4 [] ∷ []) (x .state) (ran 9 [])
+
+abbrev ofOneGroup : Seen → Seen
+ofOneGroup x = record { values = x .values ++ drop 2 (x .values); walk = map inOneGroup (x .walk) }
+
+-- r3 is 1 from reset on and r2 from cycle 3 on; both groups run
+abbrev bothPorts : List Call
+bothPorts = resets ∷ writes 3 1 ∷ runs 2 ∷ writes 2 1 ∷ runs 7 ∷ []
+
+abbrev seen : List ℕ → List RanState → Seen
+seen values walk = record { values = values; walk = walk }
+
+-- the low party sees no state below the group while r4 is bound to it, and the high party sees all
+abbrev seenLow : List Seen
+seenLow =
+    seen (3 ∷ 1 ∷ 1 ∷ 1 ∷ []) (ran 0 [] ∷ ran 1 [] ∷ [])
+    ∷ seen (2 ∷ 1 ∷ 1 ∷ 1 ∷ []) (ran 0 [] ∷ ran 2 (4 ∷ []) ∷ [])
+    ∷ seen (1 ∷ 1 ∷ 1 ∷ 1 ∷ []) (ran 0 [] ∷ ran 2 (4 ∷ []) ∷ [])
+    ∷ seen (0 ∷ 1 ∷ 1 ∷ 1 ∷ []) (ran 0 [] ∷ ran 2 (4 ∷ []) ∷ [])
+    ∷ seen (3 ∷ 0 ∷ 1 ∷ 1 ∷ []) (ran 0 [] ∷ ran 1 [] ∷ [])
+    ∷ seen (2 ∷ 0 ∷ 1 ∷ 1 ∷ []) (ran 0 [] ∷ ran 2 (5 ∷ []) ∷ ran 3 [] ∷ [])
+    ∷ seen (1 ∷ 0 ∷ 1 ∷ 1 ∷ []) (ran 0 [] ∷ ran 2 (5 ∷ []) ∷ ran 3 [] ∷ [])
+    ∷ seen (0 ∷ 0 ∷ 1 ∷ 1 ∷ []) (ran 0 [] ∷ ran 2 (5 ∷ []) ∷ [])
+    ∷ seen (3 ∷ 1 ∷ 1 ∷ 1 ∷ []) (ran 0 [] ∷ ran 1 [] ∷ [])
+    ∷ []
+
+abbrev seenHigh : List Seen
+seenHigh =
+    seen (3 ∷ 1 ∷ 0 ∷ 1 ∷ 0 ∷ 1 ∷ []) (ran 0 [] ∷ ran 1 [] ∷ [])
+    ∷ seen (2 ∷ 1 ∷ 0 ∷ 1 ∷ 0 ∷ 1 ∷ []) (ran 0 [] ∷ ran 2 (4 ∷ []) ∷ ran 3 [] ∷ [])
+    ∷ seen (1 ∷ 1 ∷ 1 ∷ 1 ∷ 1 ∷ 1 ∷ []) (ran 0 [] ∷ ran 2 (4 ∷ []) ∷ ran 4 [] ∷ [])
+    ∷ seen (0 ∷ 1 ∷ 1 ∷ 1 ∷ 1 ∷ 1 ∷ []) (ran 0 [] ∷ ran 2 (4 ∷ []) ∷ [])
+    ∷ seen (3 ∷ 0 ∷ 1 ∷ 1 ∷ 1 ∷ 1 ∷ []) (ran 0 [] ∷ ran 1 [] ∷ [])
+    ∷ seen (2 ∷ 0 ∷ 1 ∷ 1 ∷ 1 ∷ 1 ∷ []) (ran 0 [] ∷ ran 2 (5 ∷ []) ∷ ran 3 [] ∷ [])
+    ∷ seen (1 ∷ 0 ∷ 1 ∷ 1 ∷ 1 ∷ 1 ∷ []) (ran 0 [] ∷ ran 2 (5 ∷ []) ∷ ran 3 [] ∷ [])
+    ∷ seen (0 ∷ 0 ∷ 1 ∷ 1 ∷ 1 ∷ 1 ∷ []) (ran 0 [] ∷ ran 2 (5 ∷ []) ∷ [])
+    ∷ seen (3 ∷ 1 ∷ 1 ∷ 1 ∷ 1 ∷ 1 ∷ []) (ran 0 [] ∷ ran 1 [] ∷ [])
+    ∷ []
+
+one-group-seen-low : view (designOf oneGroup) 0 (events oneGroup oneGroupLent bothPorts) ≡ seenLow
+one-group-seen-low = unfold sights in refl
+
+two-groups-seen-low : map ofOneGroup (view (designOf twoGroups) 0 (events twoGroups groupsLent bothPorts)) ≡ seenLow
+two-groups-seen-low = unfold sights in refl
+
+one-group-seen-high : view (designOf oneGroup) 1 (events oneGroup oneGroupLent bothPorts) ≡ seenHigh
+one-group-seen-high = unfold sights in refl
+
+two-groups-seen-high : map ofOneGroup (view (designOf twoGroups) 1 (events twoGroups groupsLent bothPorts)) ≡ seenHigh
+two-groups-seen-high = unfold sights in refl

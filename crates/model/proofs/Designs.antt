@@ -22,9 +22,13 @@ widthRecord label kind reset width = label ∷ kind ∷ word32 reset ++ (width �
 abbrev pub registerRecord : ℕ → ℕ → ℕ → List ℕ
 registerRecord label kind reset = widthRecord label kind reset 32
 
--- parent, label, command number
+-- parent, label, command number, count of parameters, and two pairs of lower and upper label; and a state without parameters
+abbrev pub stateWith : ℕ → ℕ → ℕ → ℕ → ℕ → ℕ → ℕ → ℕ → List ℕ
+stateWith parent label command count firstLower firstUpper secondLower secondUpper =
+    parent ∷ label ∷ word16 command ++ (count ∷ firstLower ∷ firstUpper ∷ secondLower ∷ secondUpper ∷ [])
+
 abbrev pub stateRecord : ℕ → ℕ → ℕ → List ℕ
-stateRecord parent label command = parent ∷ label ∷ word16 command
+stateRecord parent label command = stateWith parent label command 0 0 0 0 0
 
 -- kind, register or state, and the fields a, b, c
 abbrev pub node : ℕ → ℕ → ℕ → ℕ → ℕ → List ℕ
@@ -45,6 +49,13 @@ falls = node 3 0 0 0 0
 
 abbrev pub goesTo : ℕ → List ℕ
 goesTo s = node 4 s 0 0 0
+
+-- a goto with one argument, and with two
+abbrev pub goesWith : ℕ → ℕ → List ℕ
+goesWith s a = node 4 s a 0 0
+
+abbrev pub goesWithBoth : ℕ → ℕ → ℕ → List ℕ
+goesWithBoth s a b = node 4 s a b 0
 
 abbrev pub branches : ℕ → ℕ → ℕ → List ℕ
 branches e p q = node 5 0 e p q
@@ -95,6 +106,10 @@ rows (x ∷ xs) = word16 x ∷ rows xs
 abbrev pub assemble : List ℕ → List (List ℕ) → List (List ℕ) → List (List ℕ) → List (List ℕ) → List ℕ
 assemble labels registers states commands expressions =
     fromSections (joined (rows labels)) (joined registers) (joined states) (joined commands) (joined expressions)
+
+-- two labels, one above the other
+abbrev pub chain : List ℕ
+chain = 3 ∷ 2 ∷ []
 
 -- 01, 'The lease design'
 abbrev pub lease : List ℕ
@@ -192,6 +207,28 @@ twoGroups =
     ++ isZero 24 3
     ++ isZero 27 3)
 
+-- The lease controller with one group for both parties (document 004, figure 2(c)). "Ports are never arguments" (02, E8), so the root takes both readings into inner
+-- registers first: r4 := r2; r5 := r3; fall. State 1 is as above, and goes to the group 2 with r4 or with r5. The group has the parameter p, from label 0 to label 1; its two
+-- states have the label of p, and each goes to the other while p is 0.
+abbrev pub oneGroup : List ℕ
+oneGroup =
+    assemble
+    chain
+    (registerRecord 0 0 3
+    ∷ registerRecord 0 0 0
+    ∷ registerRecord 1 1 0
+    ∷ registerRecord 0 1 0
+    ∷ registerRecord 1 0 0
+    ∷ registerRecord 0 0 0
+    ∷ [])
+    (stateRecord 0 0 4 ∷ stateRecord 0 0 13 ∷ stateWith 0 0 18 1 0 1 0 0 ∷ stateRecord 2 16 21 ∷ stateRecord 2 16 24 ∷ [])
+    ((assigns 4 0 ∷ assigns 5 1 ∷ falls ∷ sequences 1 2 ∷ sequences 0 3 ∷ [])
+    ++ (assigns 0 2 ∷ assigns 1 6 ∷ goesWith 2 4 ∷ sequences 6 7 ∷ assigns 1 7 ∷ goesWith 2 5 ∷ sequences 9 10 ∷ branches 5 8 11 ∷ sequences 5 12 ∷ [])
+    ++ group 14 10 13
+    ++ goesOneWay 19 16 4 3
+    ++ goesOneWay 22 19 3 4)
+    ((reads 2 ∷ reads 3 ∷ constant 3 ∷ []) ++ isZero 3 1 ++ (constant 1 ∷ constant 0 ∷ []) ++ countedDown 8 ++ isZero 11 0 ++ isZero 14 64 ++ isZero 17 64)
+
 -- States 2 > 3 > 4 > 5, one below the other, with 6 beside 5 and 7 beside 4, and the group 8 of 9 and 10 apart. State 1 goes to 2.
 abbrev pub tower : List ℕ
 tower =
@@ -218,12 +255,16 @@ abbrev pub oneState : List ℕ → List (List ℕ) → ℕ → List (List ℕ) �
 oneState labels registers body commands expressions =
     assemble labels registers (stateRecord 0 0 0 ∷ stateRecord 0 0 body ∷ []) (falls ∷ commands) expressions
 
--- two labels, one above the other; r0 with label 0 and r1 with label 1
-abbrev pub chain : List ℕ
-chain = 3 ∷ 2 ∷ []
-
+-- r0 with label 0 and r1 with label 1
 abbrev pub lowAndHigh : List (List ℕ)
 lowAndHigh = registerRecord 0 0 0 ∷ registerRecord 1 0 0 ∷ []
+
+-- four labels, of which 1 and 2 cannot be compared and 3 is the top; and a register of each: r0 to r3
+abbrev pub diamond : List ℕ
+diamond = 15 ∷ 10 ∷ 12 ∷ 8 ∷ []
+
+abbrev pub oneOfEach : List (List ℕ)
+oneOfEach = registerRecord 0 0 0 ∷ registerRecord 1 0 0 ∷ registerRecord 2 0 0 ∷ registerRecord 3 0 0 ∷ []
 
 -- no registers, and state 1 goes to itself: accepted where the rows are a lattice
 abbrev pub ofRows : List ℕ → List ℕ

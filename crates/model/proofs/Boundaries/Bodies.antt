@@ -10,7 +10,7 @@ use Rattle.model.proofs.Designs.{assemble, oneState, chain, lowAndHigh,
 
 -- "A command transfers if it is a fall or goto"
 shows-transfers
-    : map transfers (fall 0 ∷ goto 0 1 ∷ skip 0 ∷ assign 0 0 (Expr.constant 1) ∷ []) ≡ true ∷ true ∷ false ∷ false ∷ []
+    : map transfers (fall 0 ∷ goto 0 1 0 0 ∷ skip 0 ∷ assign 0 0 (Expr.constant 1) ∷ []) ≡ true ∷ true ∷ false ∷ false ∷ []
 shows-transfers = unfold checks in refl
 
 -- "a sequence whose second part transfers"

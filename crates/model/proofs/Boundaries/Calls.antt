@@ -7,7 +7,7 @@ use Rattle.model.specs.declared.Answer.the-variants.{Accepted, Refused}
 use Rattle.model.specs.Answers.{numbersOf}
 use Rattle.model.specs.Calls.{Lent, check, registersLength, targetsLength, runAnswer}
 use Rattle.model.specs.Parties.{resets, writes, runs, perform}
-use Rattle.model.proofs.Opened.{everything, accepted, refused, told, lent, anyLent, resetLent, shortLent, groupsLent}
+use Rattle.model.proofs.Opened.{everything, accepted, refused, told, lent, lentBound, anyLent, resetLent, shortLent, groupsLent}
 use Rattle.model.proofs.Designs.{lease, twoGroups, smallest, highToLow}
 
 -- "Every call makes the image checks .. first": check too, and every call where areas, register and count are right
@@ -32,10 +32,10 @@ shows-length-before-15 = unfold everything in refl
 
 -- "No lent byte changes": areas of wrong lengths, with bytes that a reset would not leave, and with targets that are unsound from state 2 on
 abbrev shortTargets : Lent
-shortTargets = lent (replicate 8 9) (1 ∷ 1 ∷ 9 ∷ 9 ∷ [])
+shortTargets = lentBound (replicate 8 9) (1 ∷ 1 ∷ 9 ∷ 9 ∷ 9 ∷ []) (replicate 9 9)
 
 abbrev manyTargets : Lent
-manyTargets = lent (replicate 8 9) (1 ∷ 1 ∷ 9 ∷ 9 ∷ 9 ∷ 9 ∷ [])
+manyTargets = lentBound (replicate 8 9) (1 ∷ 1 ∷ 9 ∷ 9 ∷ 9 ∷ []) (replicate 11 9)
 
 abbrev shortRegisters : Lent
 shortRegisters = lent (replicate 7 9) (1 ∷ 1 ∷ 9 ∷ 9 ∷ 9 ∷ [])
@@ -48,7 +48,7 @@ shows-short-targets = unfold everything in refl
 
 -- the same where every target that is there is sound
 shows-short-sound-targets
-    : map (λ call. numbersOf (perform lease (lent (replicate 8 9) (1 ∷ 1 ∷ 3 ∷ 3 ∷ [])) call .answer)) (resets ∷ runs 0 ∷ runs 1 ∷ [])
+    : map (λ call. numbersOf (perform lease (lentBound (replicate 8 9) (1 ∷ 1 ∷ 3 ∷ 3 ∷ 4 ∷ []) (replicate 9 0)) call .answer)) (resets ∷ runs 0 ∷ runs 1 ∷ [])
     ≡ refused 14 0 ∷ refused 14 0 ∷ refused 14 0 ∷ []
 shows-short-sound-targets = unfold everything in refl
 
@@ -70,12 +70,12 @@ shows-piece-of-register
 shows-piece-of-register = unfold everything in refl
 
 -- port write "takes the register area only": it judges no target, and leaves them all
-shows-write-any-targets : told (perform lease anyLent (writes 1 7)) ≡ (accepted 0, lent (9 ∷ 9 ∷ 9 ∷ 9 ∷ 7 ∷ 0 ∷ 0 ∷ 0 ∷ []) (replicate 5 9))
+shows-write-any-targets : told (perform lease anyLent (writes 1 7)) ≡ (accepted 0, lentBound (9 ∷ 9 ∷ 9 ∷ 9 ∷ 7 ∷ 0 ∷ 0 ∷ 0 ∷ []) (replicate 15 9) [])
 shows-write-any-targets = unfold everything in refl
 
 -- "sets its register to its value": all 32 bits of it; 02, E2: a value that does not fit is refused by 17
 shows-write-largest
-    : told (perform lease anyLent (writes 1 4294967295)) ≡ (accepted 0, lent (9 ∷ 9 ∷ 9 ∷ 9 ∷ 255 ∷ 255 ∷ 255 ∷ 255 ∷ []) (replicate 5 9))
+    : told (perform lease anyLent (writes 1 4294967295)) ≡ (accepted 0, lentBound (9 ∷ 9 ∷ 9 ∷ 9 ∷ 255 ∷ 255 ∷ 255 ∷ 255 ∷ []) (replicate 15 9) [])
 shows-write-largest = unfold everything in refl
 
 shows-write-33-bits
@@ -94,7 +94,7 @@ shows-ports = unfold everything in refl
 
 -- "and changes nothing else": neither the registers before it nor the one behind it
 shows-write-between
-    : told (perform twoGroups groupsLent (writes 2 7)) ≡ (accepted 0, lent (replicate 8 9 ++ (7 ∷ 0 ∷ 0 ∷ 0 ∷ 9 ∷ 9 ∷ 9 ∷ 9 ∷ [])) (replicate 8 9))
+    : told (perform twoGroups groupsLent (writes 2 7)) ≡ (accepted 0, lentBound (replicate 8 9 ++ (7 ∷ 0 ∷ 0 ∷ 0 ∷ 9 ∷ 9 ∷ 9 ∷ 9 ∷ [])) (replicate 24 9) [])
 shows-write-between = unfold everything in refl
 
 -- 15: "more than 1,000,000 cycles", also where few of the count's bits would be a lower count
@@ -107,16 +107,16 @@ shows-counts = unfold everything in refl
 
 -- "with 0 it changes nothing": areas that are not as reset leaves them
 abbrev someLent : Lent
-someLent = lent (1 ∷ 2 ∷ 3 ∷ 4 ∷ 5 ∷ 6 ∷ 7 ∷ 8 ∷ []) (2 ∷ 1 ∷ 4 ∷ 3 ∷ 4 ∷ [])
+someLent = lentBound (1 ∷ 2 ∷ 3 ∷ 4 ∷ 5 ∷ 6 ∷ 7 ∷ 8 ∷ []) (2 ∷ 1 ∷ 4 ∷ 3 ∷ 4 ∷ []) (replicate 10 1)
 
 shows-run-of-0 : told (perform lease someLent (runs 0)) ≡ (accepted 0, someLent)
 shows-run-of-0 = unfold everything in refl
 
--- the lengths of the areas: 4 bytes for each of two and of four registers, one for each of five and of eight states, none for no register
+-- the lengths of the areas: 4 bytes for each of two and of four registers, since E8 three for each of five and of eight states, none for no register
 shows-registers-length : map (λ image. numbersOf (registersLength image)) (lease ∷ twoGroups ∷ smallest ∷ []) ≡ accepted 8 ∷ accepted 16 ∷ accepted 0 ∷ []
 shows-registers-length = unfold everything in refl
 
-shows-targets-length : map (λ image. numbersOf (targetsLength image)) (lease ∷ twoGroups ∷ smallest ∷ []) ≡ accepted 5 ∷ accepted 8 ∷ accepted 2 ∷ []
+shows-targets-length : map (λ image. numbersOf (targetsLength image)) (lease ∷ twoGroups ∷ smallest ∷ []) ≡ accepted 15 ∷ accepted 24 ∷ accepted 6 ∷ []
 shows-targets-length = unfold everything in refl
 
 -- and the image's refusal

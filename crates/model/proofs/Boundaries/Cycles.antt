@@ -12,7 +12,7 @@ use Rattle.model.specs.Values.{apply}
 use Rattle.model.specs.Machine.{exec}
 use Rattle.model.specs.Calls.{reset, run, runAnswer}
 use Rattle.model.specs.Listing.{bytesOfText, listing}
-use Rattle.model.proofs.Opened.{everything, accepted, refused, told, lent}
+use Rattle.model.proofs.Opened.{everything, accepted, refused, told, lent, lentBound}
 use Rattle.model.proofs.Designs.{lease, twoGroups, assemble, oneState, node, registerRecord, stateRecord, skips, assigns, sequences, falls, goesTo, branches, constant, reads}
 
 -- "Values are 32 bits; adding and subtracting wrap": the largest value is reached, and the next one is 0
@@ -81,7 +81,7 @@ shows-if-0 : listing (1 ∷ 0 ∷ eitherWay 0) ≡ bytesOfText "cycle;walk;regis
 shows-if-0 = unfold everything in refl
 
 -- "A body ends by a goto, with the state it names": where the first part of a sequence ended the body, the second does not run
-shows-body-ends : exec [] [] (sequence 2 (goto 0 3) (goto 1 4)) .outcome ≡ Transferred (Goto 3)
+shows-body-ends : exec [] [] (sequence 2 (goto 0 3 5 6) (goto 1 4 7 8)) .outcome ≡ Transferred (Goto 3 5 6)
 shows-body-ends = unfold everything in refl
 
 -- "registers, 4 bytes each", little-endian: r0 = 16777216 is read, and 16777215 is written; r1 keeps its four bytes
@@ -92,7 +92,7 @@ shows-borrow = unfold everything in refl
 
 -- "Reset writes the reset values", all 32 bits, of a port and of an inner register
 shows-reset
-    : told (reset (oneState (1 ∷ []) (registerRecord 0 1 4275878552 ∷ registerRecord 0 0 67305985 ∷ []) 1 (goesTo 1 ∷ []) []) (lent (replicate 8 9) (9 ∷ 9 ∷ [])))
+    : told (reset (oneState (1 ∷ []) (registerRecord 0 1 4275878552 ∷ registerRecord 0 0 67305985 ∷ []) 1 (goesTo 1 ∷ []) []) (lentBound (replicate 8 9) (replicate 2 9) (replicate 4 9)))
     ≡ (accepted 0, lent (152 ∷ 186 ∷ 220 ∷ 254 ∷ 1 ∷ 2 ∷ 3 ∷ 4 ∷ []) (1 ∷ 1 ∷ []))
 shows-reset = unfold everything in refl
 

@@ -84,6 +84,9 @@ unfolding everything valuesSeen walkSeen view
 whole = 0
 
 -- what level 0 sees of a run of one cycle from areas as they are lent: r1, which it does not see, and the targets
+abbrev seen : ℕ → List ℕ → Seen
+seen value walk = record { values = value ∷ []; walk = map (λ s. record { state = s; bound = [] }) walk }
+
 abbrev seenFrom : ℕ → List ℕ → List Seen
 seenFrom secret targets =
     view (designOf spare) 0 (events spare (lent (0 ∷ 0 ∷ 0 ∷ 0 ∷ secret ∷ 0 ∷ 0 ∷ 0 ∷ []) targets) (runs 1 ∷ []))
@@ -91,11 +94,11 @@ seenFrom secret targets =
 -- With the targets of reset level 0 sees the same whatever r1 holds.
 shows-from-reset
     : seenFrom 0 (1 ∷ 2 ∷ 2 ∷ 3 ∷ []) ∷ seenFrom 1 (1 ∷ 2 ∷ 2 ∷ 3 ∷ []) ∷ []
-    ≡ (record { values = 0 ∷ []; walk = 0 ∷ [] } ∷ []) ∷ (record { values = 0 ∷ []; walk = 0 ∷ [] } ∷ []) ∷ []
+    ≡ (seen 0 (0 ∷ []) ∷ []) ∷ (seen 0 (0 ∷ []) ∷ []) ∷ []
 shows-from-reset = unfold whole in refl
 
 -- With the spare child as the target of its group, which is sound and which no run from reset comes to, it sees r1: areas are never restored from elsewhere.
 shows-not-from-reset
     : seenFrom 0 (1 ∷ 3 ∷ 2 ∷ 3 ∷ []) ∷ seenFrom 1 (1 ∷ 3 ∷ 2 ∷ 3 ∷ []) ∷ []
-    ≡ (record { values = 0 ∷ []; walk = 0 ∷ [] } ∷ []) ∷ (record { values = 1 ∷ []; walk = 0 ∷ 3 ∷ [] } ∷ []) ∷ []
+    ≡ (seen 0 (0 ∷ []) ∷ []) ∷ (seen 1 (0 ∷ 3 ∷ []) ∷ []) ∷ []
 shows-not-from-reset = unfold whole in refl

@@ -10,7 +10,7 @@ use Rattle.model.specs.Machine.{eval, resetAreas}
 use Rattle.model.proofs.Opened.{checks, everything, refused, accepted, judged}
 use Rattle.model.proofs.Designs.{joined, rows, fromSections, ofRows, oneState, node, registerRecord, stateRecord, skips, sequences, falls, goesTo, branches, constant}
 
--- one register; root: fall; state 1: skip; if 1 then goto 1 else goto 1. Its sections have 2, 7, 8, 48 and 8 bytes.
+-- one register; root: fall; state 1: skip; if 1 then goto 1 else goto 1. Its sections have 2, 7, 18, 48 and 8 bytes.
 abbrev labels : List ℕ
 labels = 1 ∷ 0 ∷ []
 
@@ -25,13 +25,13 @@ commands = joined (skips ∷ falls ∷ goesTo 1 ∷ goesTo 1 ∷ branches 0 2 3 
 
 -- its directory with these offsets, the bytes before its commands, and those from them on
 abbrev laid : ℕ → ℕ → ℕ → ℕ → ℕ → List ℕ → List ℕ
-laid l r s c e bytes = joined (rows (l ∷ 2 ∷ r ∷ 7 ∷ s ∷ 8 ∷ c ∷ 48 ∷ e ∷ 8 ∷ [])) ++ bytes
+laid l r s c e bytes = joined (rows (l ∷ 2 ∷ r ∷ 7 ∷ s ∷ 18 ∷ c ∷ 48 ∷ e ∷ 8 ∷ [])) ++ bytes
 
 abbrev records : List ℕ
 records = registers ++ states ++ commands ++ constant 1
 
 -- "Bytes 0 to 19 are five pairs of offset and length, 16 bits each, sorted by offset"
-shows-five-pairs : judged (laid 20 22 29 37 85 (labels ++ records)) ≡ accepted 0
+shows-five-pairs : judged (laid 20 22 29 47 95 (labels ++ records)) ≡ accepted 0
 shows-five-pairs = unfold checks in refl
 
 -- "The first offset is 20; each later one is the sum of offset and length before it; the last section ends at the image's end": a byte before each
@@ -39,12 +39,12 @@ shows-five-pairs = unfold checks in refl
 shows-byte-between
     : map
     judged
-    (laid 21 23 30 38 86 (0 ∷ labels ++ records)
-    ∷ laid 20 23 30 38 86 (labels ++ (0 ∷ records))
-    ∷ laid 20 22 30 38 86 (labels ++ registers ++ (0 ∷ states) ++ commands ++ constant 1)
-    ∷ laid 20 22 29 38 86 (labels ++ registers ++ states ++ (0 ∷ commands) ++ constant 1)
-    ∷ laid 20 22 29 37 86 (labels ++ registers ++ states ++ commands ++ (0 ∷ constant 1))
-    ∷ laid 20 22 29 37 85 (labels ++ records ++ (0 ∷ []))
+    (laid 21 23 30 48 96 (0 ∷ labels ++ records)
+    ∷ laid 20 23 30 48 96 (labels ++ (0 ∷ records))
+    ∷ laid 20 22 30 48 96 (labels ++ registers ++ (0 ∷ states) ++ commands ++ constant 1)
+    ∷ laid 20 22 29 48 96 (labels ++ registers ++ states ++ (0 ∷ commands) ++ constant 1)
+    ∷ laid 20 22 29 47 96 (labels ++ registers ++ states ++ commands ++ (0 ∷ constant 1))
+    ∷ laid 20 22 29 47 95 (labels ++ records ++ (0 ∷ []))
     ∷ [])
     ≡ replicate 6 (refused 1 0)
 shows-byte-between = unfold checks in refl
@@ -53,19 +53,19 @@ shows-byte-between = unfold checks in refl
 shows-byte-shared
     : map
     judged
-    (laid 19 21 28 36 84 (0 ∷ records)
-    ∷ laid 20 21 28 36 84 (1 ∷ records)
-    ∷ laid 20 22 28 36 84 (labels ++ replicate 6 0 ++ states ++ commands ++ constant 1)
-    ∷ laid 20 22 29 36 84 (labels ++ registers ++ (0 ∷ 0 ∷ 1 ∷ 0 ∷ 0 ∷ 0 ∷ 5 ∷ []) ++ commands ++ constant 1)
-    ∷ laid 20 22 29 37 84 (labels ++ registers ++ states ++ commands ++ replicate 7 0)
-    ∷ laid 20 22 29 37 85 (labels ++ registers ++ states ++ commands ++ replicate 7 0)
+    (laid 19 21 28 46 94 (0 ∷ records)
+    ∷ laid 20 21 28 46 94 (1 ∷ records)
+    ∷ laid 20 22 28 46 94 (labels ++ replicate 6 0 ++ states ++ commands ++ constant 1)
+    ∷ laid 20 22 29 46 94 (labels ++ registers ++ stateRecord 0 0 1 ++ (0 ∷ 0 ∷ 5 ∷ 0 ∷ 0 ∷ 0 ∷ 0 ∷ 0 ∷ []) ++ commands ++ constant 1)
+    ∷ laid 20 22 29 47 94 (labels ++ registers ++ states ++ commands ++ replicate 7 0)
+    ∷ laid 20 22 29 47 95 (labels ++ registers ++ states ++ commands ++ replicate 7 0)
     ∷ [])
     ≡ replicate 6 (refused 1 0)
 shows-byte-shared = unfold checks in refl
 
 -- "The first offset is 20"
 shows-first-offset
-    : directoryKept (joined (rows (21 ∷ 2 ∷ 23 ∷ 0 ∷ 23 ∷ 4 ∷ 27 ∷ 0 ∷ 27 ∷ 0 ∷ [])) ++ replicate 7 0) ≡ false
+    : directoryKept (joined (rows (21 ∷ 2 ∷ 23 ∷ 0 ∷ 23 ∷ 9 ∷ 32 ∷ 0 ∷ 32 ∷ 0 ∷ [])) ++ replicate 12 0) ≡ false
 shows-first-offset = unfold checks in refl
 
 -- refusal 1, "section length": a section is a whole number of records
@@ -84,27 +84,27 @@ shows-piece = unfold checks in refl
 
 -- labels, "1 to 16"
 shows-labels-17
-    : directoryKept (fromSections (replicate 34 0) [] (replicate 4 0) [] [])
-    ∷ directoryKept (fromSections (replicate 32 0) [] (replicate 4 0) [] [])
-    ∷ directoryKept (fromSections [] [] (replicate 4 0) [] [])
+    : directoryKept (fromSections (replicate 34 0) [] (replicate 9 0) [] [])
+    ∷ directoryKept (fromSections (replicate 32 0) [] (replicate 9 0) [] [])
+    ∷ directoryKept (fromSections [] [] (replicate 9 0) [] [])
     ∷ []
     ≡ false ∷ true ∷ false ∷ []
 shows-labels-17 = unfold checks in refl
 
 -- registers, "0 to 64"
 shows-registers-65
-    : directoryKept (fromSections (1 ∷ 0 ∷ []) (replicate 455 0) (replicate 4 0) [] [])
-    ∷ directoryKept (fromSections (1 ∷ 0 ∷ []) (replicate 448 0) (replicate 4 0) [] [])
-    ∷ directoryKept (fromSections (1 ∷ 0 ∷ []) [] (replicate 4 0) [] [])
+    : directoryKept (fromSections (1 ∷ 0 ∷ []) (replicate 455 0) (replicate 9 0) [] [])
+    ∷ directoryKept (fromSections (1 ∷ 0 ∷ []) (replicate 448 0) (replicate 9 0) [] [])
+    ∷ directoryKept (fromSections (1 ∷ 0 ∷ []) [] (replicate 9 0) [] [])
     ∷ []
     ≡ false ∷ true ∷ true ∷ []
 shows-registers-65 = unfold checks in refl
 
 -- states, "1 to 64"
 shows-states-65
-    : directoryKept (fromSections (1 ∷ 0 ∷ []) [] (replicate 260 0) [] [])
-    ∷ directoryKept (fromSections (1 ∷ 0 ∷ []) [] (replicate 256 0) [] [])
-    ∷ directoryKept (fromSections (1 ∷ 0 ∷ []) [] (replicate 4 0) [] [])
+    : directoryKept (fromSections (1 ∷ 0 ∷ []) [] (replicate 585 0) [] [])
+    ∷ directoryKept (fromSections (1 ∷ 0 ∷ []) [] (replicate 576 0) [] [])
+    ∷ directoryKept (fromSections (1 ∷ 0 ∷ []) [] (replicate 9 0) [] [])
     ∷ directoryKept (fromSections (1 ∷ 0 ∷ []) [] [] [] [])
     ∷ []
     ≡ false ∷ true ∷ true ∷ false ∷ []
@@ -113,7 +113,7 @@ shows-states-65 = unfold checks in refl
 -- commands, "0 to 1,024", of 8 bytes
 shows-commands-1025
     : map
-    (λ (bytes : ℕ). directoryKept (fromSections (1 ∷ 0 ∷ []) [] (replicate 4 0) (replicate bytes 0) []))
+    (λ (bytes : ℕ). directoryKept (fromSections (1 ∷ 0 ∷ []) [] (replicate 9 0) (replicate bytes 0) []))
     (8200 ∷ 8192 ∷ 0 ∷ [])
     ≡ false ∷ true ∷ true ∷ []
 shows-commands-1025 = unfold checks in refl
@@ -121,7 +121,7 @@ shows-commands-1025 = unfold checks in refl
 -- expressions, "0 to 2,048", of 8 bytes
 shows-expressions-2049
     : map
-    (λ (bytes : ℕ). directoryKept (fromSections (1 ∷ 0 ∷ []) [] (replicate 4 0) [] (replicate bytes 0)))
+    (λ (bytes : ℕ). directoryKept (fromSections (1 ∷ 0 ∷ []) [] (replicate 9 0) [] (replicate bytes 0)))
     (16392 ∷ 16384 ∷ 0 ∷ [])
     ≡ false ∷ true ∷ true ∷ []
 shows-expressions-2049 = unfold checks in refl

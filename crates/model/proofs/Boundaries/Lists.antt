@@ -9,7 +9,7 @@ use lib.ListN.{length, replicate}
 use Rattle.model.specs.Image.{registerAt, designOf}
 use Rattle.model.specs.Values.{bytesOf}
 use Rattle.model.specs.Parties.{Call, Seen, RightLengths, Use, Independent, resets, runs, writes, aReset, aWrite, aCycle, events, atEnd, givenUnseen, valuesSeen, walkSeen, view, remaining, withUnseen, start, history, remains, views, seenAtEnd}
-use Rattle.model.proofs.Opened.{checks, everything, lent, anyLent, resetLent, shortLent, longTargets}
+use Rattle.model.proofs.Opened.{checks, everything, lent, lentBound, anyLent, resetLent, shortLent, longTargets}
 use Rattle.model.proofs.Designs.{lease, assemble, registerRecord, stateRecord, assigns, sequences, falls, goesTo, branches, constant, reads, adds}
 
 -- both registers of the lease design have width 32
@@ -23,8 +23,9 @@ leaseWithin given h (suc (suc r)) l = absurd (omega arith)
 abbrev aUse : Use (designOf lease)
 aUse = record { lent = anyLent; lengths = record { registers = unfold everything in refl; targets = unfold everything in refl }; given = λ r. 7; within = leaseWithin (λ r. 7) (λ r. omega arith); calls = runs 2 ∷ writes 1 5 ∷ writes 0 5 ∷ runs 1 ∷ [] }
 
+-- the values, and the states of the walk; none of these designs has a parameter
 abbrev seen : List ℕ → List ℕ → Seen
-seen values walk = record { values = values; walk = walk }
+seen values walk = record { values = values; walk = map (λ s. record { state = s; bound = [] }) walk }
 
 unfoldable whole : ℕ
 unfolding everything givenUnseen valuesSeen walkSeen view remaining withUnseen start history remains views seenAtEnd
@@ -103,7 +104,7 @@ diamondWithin (suc (suc (suc (suc (suc (suc r)))))) l = absurd (omega arith)
 abbrev bothWays : Use (designOf diamond)
 bothWays =
     record {
-      lent = lent (replicate 24 9) (replicate 5 9);
+      lent = lentBound (replicate 24 9) (replicate 5 9) (replicate 10 9);
       lengths = record { registers = unfold everything in refl; targets = unfold everything in refl };
       given = λ r. 100 + r;
       within = diamondWithin;
@@ -187,7 +188,7 @@ shows-right-registers : RightLengths (designOf lease) shortLent → ⊥
 shows-right-registers right = unfold everything in false≢true (ap (eqb 8) (right .registers))
 
 shows-right-targets : RightLengths (designOf lease) longTargets → ⊥
-shows-right-targets right = unfold everything in false≢true (ap (eqb 5) (right .targets))
+shows-right-targets right = unfold everything in false≢true (ap (eqb 15) (right .targets))
 
 -- Demand 3 is about any level, any areas, any values given, and lists that differ in what is struck out: here two such lists at the level of r1.
 abbrev otherUse : Use (designOf lease)

@@ -70,10 +70,10 @@ shows-fall
     ≡ replicate 4 (refused 5 0) ++ (accepted 0 ∷ [])
 shows-fall = unfold checks in refl
 
--- "4 goto state (byte 1)"
+-- "4 goto state (byte 1)"; 02, E8: fields a and b, which "carry the arguments", are judged by 19, and field c by 5 as before
 shows-goto
-    : map (λ (x : List ℕ). judged (alone x)) (node 4 2 0 0 0 ∷ node 4 1 1 0 0 ∷ node 4 1 0 1 0 ∷ node 4 1 0 0 256 ∷ goesTo 1 ∷ [])
-    ≡ replicate 4 (refused 5 1) ++ (accepted 0 ∷ [])
+    : map (λ (x : List ℕ). judged (alone x)) (node 4 2 0 0 0 ∷ node 4 1 1 0 0 ∷ node 4 1 0 1 0 ∷ node 4 1 0 0 256 ∷ node 4 1 1 1 1 ∷ goesTo 1 ∷ [])
+    ≡ refused 5 1 ∷ refused 19 1 ∷ refused 19 1 ∷ refused 5 1 ∷ refused 5 1 ∷ accepted 0 ∷ []
 shows-goto = unfold checks in refl
 
 -- "5 if expression a, then command b, else command c"

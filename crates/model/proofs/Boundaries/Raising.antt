@@ -6,7 +6,7 @@ use lib.ListN.{length, replicate}
 use Rattle.model.specs.Answers.{Numbers}
 use Rattle.model.specs.Raising.{raise}
 use Rattle.model.proofs.Opened.{raising, checks, refused, accepted, judged, leftOut}
-use Rattle.model.proofs.Designs.{assemble, oneState, chain, registerRecord, stateRecord, skips, assigns, sequences, falls, goesTo, branches, constant, reads, adds, lease}
+use Rattle.model.proofs.Designs.{assemble, oneState, chain, registerRecord, stateRecord, stateWith, skips, assigns, sequences, falls, goesTo, branches, constant, reads, adds, lease, oneGroup}
 
 -- a second area of as many bytes as an image, of one less and of one more, with any bytes in it
 abbrev area : List ℕ → List ℕ
@@ -187,3 +187,36 @@ shows-structure-stays = unfold raising in refl
 shows-comes-back
     : map raised (lease ∷ upstream 1 1 1 ∷ cut 1 1 1 ∷ []) ≡ (accepted 0, lease) ∷ (accepted 0, upstream 1 1 1) ∷ (accepted 0, cut 1 1 1) ∷ []
 shows-comes-back = unfold raising in refl
+
+-- 02, E8: "raising refuses with 20, place 0, after its image checks and before 14, an image that has parameters". State 2 has this record and goes to 1; states 1 and 2 have the
+-- labels given, and state 1 does r0 := r3; goto t, which 10 refuses as it comes in.
+abbrev parameterised : List ℕ → ℕ → List ℕ
+parameterised two t =
+    assemble chain (five 0 0 0) (stateRecord 0 0 0 ∷ stateRecord 0 0 3 ∷ two ∷ []) (falls ∷ assigns 0 0 ∷ goesTo t ∷ sequences 1 2 ∷ goesTo 1 ∷ []) (reads 3 ∷ [])
+
+-- one parameter or two, in the last state; without any it is raised
+shows-raising-parameters
+    : map (λ (count : ℕ). raised (parameterised (stateWith 0 0 4 count 0 0 0 0) 1) .0) (0 ∷ 1 ∷ 2 ∷ []) ≡ accepted 0 ∷ refused 20 0 ∷ refused 20 0 ∷ []
+shows-raising-parameters = unfold raising in refl
+
+-- the area is as it was, and an area of another length is not looked at
+shows-20-before-14
+    : leftOut (raise (parameterised (stateWith 0 0 4 1 0 0 0 0) 1) (9 ∷ [])) ∷ leftOut (raise (parameterised (stateRecord 0 0 4) 1) (9 ∷ [])) ∷ []
+    ≡ (refused 20 0, 9 ∷ []) ∷ (refused 14 0, 9 ∷ []) ∷ []
+shows-20-before-14 = unfold raising in refl
+
+-- an accepted image that has parameters is refused too
+shows-20-of-accepted : leftOut (raise oneGroup (9 ∷ [])) ≡ (refused 20 0, 9 ∷ [])
+shows-20-of-accepted = unfold raising in refl
+
+-- after the image checks: 8 of a goto to the root, 19 of a count, 19 of an argument outside its bounds, and 9
+shows-image-before-20
+    : map
+    (λ (image : List ℕ). raised image .0)
+    (parameterised (stateWith 0 0 4 1 0 0 0 0) 0
+    ∷ parameterised (stateWith 0 0 4 3 0 0 0 0) 1
+    ∷ parameterised (stateWith 0 0 4 1 1 1 0 0) 2
+    ∷ assemble chain (five 0 0 0) (stateRecord 0 0 0 ∷ stateRecord 0 1 1 ∷ stateRecord 1 0 2 ∷ stateWith 1 0 3 1 0 0 0 0 ∷ []) (falls ∷ falls ∷ goesTo 2 ∷ goesTo 2 ∷ []) []
+    ∷ [])
+    ≡ refused 8 2 ∷ refused 19 2 ∷ refused 19 2 ∷ refused 9 2 ∷ []
+shows-image-before-20 = unfold raising in refl

@@ -12,11 +12,11 @@ use Rattle.model.specs.Answers.{Numbers, numbersOf}
 use Rattle.model.specs.Machine.{cycle}
 use Rattle.model.specs.Calls.{Lent, runAnswer}
 use Rattle.model.specs.Parties.{Call, Use, resets, writes, runs, perform}
-use Rattle.model.proofs.Opened.{checks, everything, refused, accepted, judged, told, lent, areas}
+use Rattle.model.proofs.Opened.{checks, everything, refused, accepted, judged, told, lent, lentBound, areas}
 use Rattle.model.proofs.Designs.{assemble, oneState, widthRecord, registerRecord, stateRecord, skips, assigns, sequences, falls, goesTo, branches, constant, reads, adds, subtracts, equals}
 
--- "The largest image grows by 64 bytes": it had 25,268
-shows-largest-image : largestImage ≡ 25332
+-- "The largest image grows by 64 bytes": it had 25,268; 02, E8: "the largest image grows by 320 bytes"
+shows-largest-image : largestImage ≡ 25652
 shows-largest-image = refl
 
 -- an image with r1 of this record behind an inner register of width 32
@@ -180,10 +180,10 @@ shows-contents-left
 shows-contents-left = unfold everything in refl
 
 -- 01: "a wrong length comes first, .. then any fault that a request adds in the registers' contents, .. then an unsound target": r1 and the root's target,
--- with a target more and without
+-- with a byte more and without
 shows-contents-before-targets
     : map
-    (λ (targets : List ℕ). answered (lent (255 ∷ 3 ∷ 0 ∷ 0 ∷ 2 ∷ 0 ∷ 0 ∷ 0 ∷ replicate 4 255) targets) (runs 1))
+    (λ (targets : List ℕ). answered (lentBound (255 ∷ 3 ∷ 0 ∷ 0 ∷ 2 ∷ 0 ∷ 0 ∷ 0 ∷ replicate 4 255) targets (replicate 4 0)) (runs 1))
     ((0 ∷ 1 ∷ []) ∷ (1 ∷ 0 ∷ []) ∷ (0 ∷ 1 ∷ 1 ∷ []) ∷ [])
     ≡ refused 14 1 ∷ refused 14 1 ∷ refused 14 0 ∷ []
 shows-contents-before-targets = unfold everything in refl
