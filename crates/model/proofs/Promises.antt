@@ -7,7 +7,7 @@ use Prim.Native.Nat.{ℕ, _+_, _-_, _*_, _^_, _≤_, _<_}
 use lib.ListN.{length}
 use Rattle.model.specs.declared.Refusal.{Refusal}
 use Rattle.model.specs.declared.Answer.the-variants.{Accepted}
-use Rattle.model.specs.Limits.{cyclesMax, wordLength}
+use Rattle.model.specs.Limits.{cyclesMax, wordLength, targetLength}
 use Rattle.model.specs.Image.{AreBytes, designOf}
 use Rattle.model.specs.Answers.{numberOf, numbersOf}
 use Rattle.model.specs.Rules.{Keeps}
@@ -51,7 +51,7 @@ calls-exactly = call-answers
 pub registers-length-exactly : (image : List ℕ) → AnswersBy (imageTable image) (wordLength * length (designOf image .registers)) (numbersOf (registersLength image))
 registers-length-exactly = registers-length-answers
 
-pub targets-length-exactly : (image : List ℕ) → AnswersBy (imageTable image) (length (designOf image .states)) (numbersOf (targetsLength image))
+pub targets-length-exactly : (image : List ℕ) → AnswersBy (imageTable image) (targetLength * length (designOf image .states)) (numbersOf (targetsLength image))
 targets-length-exactly = targets-length-answers
 
 -- Demand 1: "No lent byte changes" on a refusal.

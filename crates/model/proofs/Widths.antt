@@ -12,7 +12,7 @@ use Rattle.model.specs.declared.Refusal.the-variants.{Area, PortValue}
 use Rattle.model.specs.declared.Answer.{Answer}
 use Rattle.model.specs.declared.Answer.the-variants.{Accepted, Refused}
 use Rattle.model.specs.Image.{Design, designOf}
-use Rattle.model.specs.Rules.{Keeps, DesignKeeps}
+use Rattle.model.specs.Rules.{Keeps, StructureKeeps}
 use Rattle.model.specs.Values.{modulus, fits, wordsOf, bytesOf}
 use Rattle.model.specs.Verdict.{verdict, _before_}
 use Rattle.model.specs.Answers.{numbersOf}
@@ -37,7 +37,7 @@ use Rattle.model.proofs.Independence.Runs.{length-given, given-fitting}
 use Rattle.model.proofs.Grouping.{Ready, Refuses, ready-or-refuses, ready-good, cycles-good}
 
 -- values within the widths are so when they are written and read again
-written-within : (d : Design) → DesignKeeps d → (values : List ℕ) → length values ≡ length (d .registers) → Fitting (d .registers) values → WithinWidths d (bytesOf values)
+written-within : (d : Design) → StructureKeeps d → (values : List ℕ) → length values ≡ length (d .registers) → Fitting (d .registers) values → WithinWidths d (bytesOf values)
 written-within d keeps values size fitting r l =
     let back : wordsOf (length (d .registers)) (bytesOf values) ≡ values =
     ap (λ (n : ℕ). wordsOf n (bytesOf values)) (sym size) ∙ words-of-bytes-bounded values (fitting-bounded d keeps values fitting) in
@@ -73,7 +73,7 @@ module _ (image : List ℕ) where
   reset-within : (lent : Lent) {n : ℕ} → resetAnswer image lent ≡ Accepted n → WithinWidths d (bytesOf (resetAreas d .registers))
   unfolding resetAnswer
   reset-within lent e =
-      let keeps = keeps-first image _ e .design in
+      let keeps = keeps-first image _ e .design .structure in
       written-within d keeps (resetAreas d .registers) (reset-length d) (reset-fitting d keeps)
 
   write-within : (registers : List ℕ) (r v : ℕ) {n : ℕ} → writePortAnswer image registers r v ≡ Accepted n
@@ -88,7 +88,7 @@ module _ (image : List ℕ) where
       let fitting = fitting-each (d .registers) words size (λ k l. less-iff .0 (contents k l)) in
       written-within
       d
-      (keeps-first image _ e .design)
+      (keeps-first image _ e .design .structure)
       (set words r v)
       (length-set words r v ∙ size)
       (set-fitting (d .registers) words r v (less-iff .0 value) fitting)
@@ -100,7 +100,7 @@ module _ (image : List ℕ) where
       go : Ready image lent ⊎ Refuses image lent → WithinWidths d (bytesOf (afterCycles d n (areasOf d lent) .registers))
       go (inl ready) =
           let good = cycles-good image (ready .accepted) n (areasOf d lent) (ready-good image lent ready) in
-          written-within d (verdict-exact image .0 (ready .accepted) .design) (afterCycles d n (areasOf d lent) .registers) (good .registers-length) (good .fitting)
+          written-within d (verdict-exact image .0 (ready .accepted) .design .structure) (afterCycles d n (areasOf d lent) .registers) (good .registers-length) (good .fitting)
       go (inr refuses) =
           let answer = ap (λ (left : Left). left .answer) (refuses .refused n) in
           let told : run image lent n .answer ≡ Accepted c = rw e in
@@ -132,8 +132,8 @@ module _ (image : List ℕ) where
   unfolding start withUnseen lentOf areasOf
   list-within accepted level u calls = calls-within calls (start image level u) (rw (reset-leaves image accepted (u .lent) (u .lengths), back) begun)
     where
-      keeps : DesignKeeps d
-      keeps = verdict-exact image .0 accepted .design
+      keeps : StructureKeeps d
+      keeps = verdict-exact image .0 accepted .design .structure
 
       values : List ℕ
       values = resetAreas d .registers

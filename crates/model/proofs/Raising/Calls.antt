@@ -1,28 +1,35 @@
--- The call answers by its table: its last rule asks for an accepted raising, and the raised image is accepted exactly where there is one. What it leaves follows.
+-- The call answers by its table: its last rule asks for an accepted raising, and the raised image of an image without parameters is accepted exactly where there is
+-- one. What it leaves follows.
 use Prim.Native.Nat.{ℕ}
 use mathlib.Core.Path.{_≡_, refl, sym, _∙_, ap}
-use mathlib.Core.Logic.{_⊎_, inl, inr}
-use mathlib.Core.Bool.{true}
+use mathlib.Core.Logic.{_↔_, Iff·trans, _⊎_, inl, inr}
+use mathlib.Core.Bool.{Bool, true, false, not, false≢true}
+use native.Mathlib.Omega.{arith}
 use mathlib.Core.List.{List}
 use lib.ListN.{length}
 use lib.Dec.{eqb}
 use Rattle.model.specs.declared.Refusal.{Refusal}
-use Rattle.model.specs.declared.Refusal.the-variants.{Area, NoRaising}
+use Rattle.model.specs.declared.Refusal.the-variants.{Area, NoRaising, RaiseParameters}
+use Rattle.model.specs.declared.Found.{Found}
+use Rattle.model.specs.declared.Found.the-variants.{At, Nowhere}
 use Rattle.model.specs.declared.Answer.{Answer}
 use Rattle.model.specs.declared.Answer.the-variants.{Accepted, Refused}
 use Rattle.model.specs.Answers.{numbersOf}
+use Rattle.model.specs.Image.{designOf}
+use Rattle.model.specs.Parameters.{hasParameters}
 use Rattle.model.specs.Raising.{LeastRaising, accepts, raisedImage, LeftOut, leavesOut, raiseAnswer, raise}
 use Rattle.model.specs.Refusals.{raiseTable, AnswersBy}
 use Rattle.model.specs.Verdict.{_before_, refusedAt, atZeroUnless, structure, verdict}
 use Rattle.model.proofs.Laws.Equivalences.{equal-iff}
+use Rattle.model.proofs.Laws.Plain.{Plain, plain-iff}
 use Rattle.model.proofs.Laws.Found.{zero-unless-iff}
 use Rattle.model.proofs.Laws.Verdict.{first-accepts, later-accepts, found-nothing}
-use Rattle.model.proofs.Laws.Numbers.{no-number-zero}
+use Rattle.model.proofs.Laws.Numbers.{no-number-zero, told-refused}
 use Rattle.model.proofs.Laws.Broken.{Decides, decides-one, decides-before}
 use Rattle.model.proofs.Laws.Finds.{finds-zero}
 use Rattle.model.proofs.Exact.{structure-exact, structure-counts-nothing, verdict-exact}
 use Rattle.model.proofs.Refused.{structure-decides, answers-by}
-use Rattle.model.proofs.Raising.Theorem.{accepts-exact, least, exists-exactly, comes-back}
+use Rattle.model.proofs.Raising.Theorem.{accepts-exact, least, exists-exactly, comes-back, raises-plain}
 
 -- a call leaves its answer
 left-out-answer : (a : Answer) (out made : List ℕ) → leavesOut a out made .answer ≡ a
@@ -41,8 +48,10 @@ module _ (image out : List ℕ) where
       decides-before
       (structure-decides image)
       (λ structured. decides-before
+      (decides-one (finds-zero (plain-iff (designOf image))))
+      (λ plain. decides-before
       (decides-one (finds-zero equal-iff))
-      (λ long. decides-one (finds-zero (exists-exactly image (structure-decides image .accepts .1 structured)))))
+      (λ long. decides-one (finds-zero (exists-exactly image (structure-decides image .accepts .1 structured) (plain .0 0 .0 refl))))))
 
   raise-answer : raise image out .answer ≡ raiseAnswer image out
   unfolding raise
@@ -50,6 +59,20 @@ module _ (image out : List ℕ) where
 
   pub raise-answers : AnswersBy (raiseTable image out) 0 (numbersOf (raise image out .answer))
   raise-answers = rw raise-answer (answers-by raise-decides)
+
+  -- 02, E8: 20, exactly where a state has a parameter
+  raise-refuses-parameters : structure image ≡ Accepted 0 → (raise image out .answer ≡ Refused RaiseParameters 0) ↔ (hasParameters (designOf image) ≡ true)
+  unfolding raiseAnswer _before_ refusedAt
+  raise-refuses-parameters structured = rw (raise-answer, structured) (by (hasParameters (designOf image)) (atZeroUnless (eqb (length out) (length image))) (atZeroUnless (accepts (verdict (raisedImage image)))))
+    where
+      by : (has : Bool) (f g : Found) → ((refusedAt RaiseParameters (atZeroUnless (not has)) before refusedAt Area f before refusedAt NoRaising g) ≡ Refused RaiseParameters 0) ↔ (has ≡ true)
+      by true f g = (λ e. refl, λ e. refl)
+      by false (At i) g = (λ e. let z : _≡_ {A = ℕ} 0 1 = cc in absurd (omega arith), λ e. absurd (false≢true e))
+      by false Nowhere (At i) = (λ e. let z : _≡_ {A = ℕ} 0 1 = cc in absurd (omega arith), λ e. absurd (false≢true e))
+      by false Nowhere Nowhere = (λ e. let z : _≡_ {A = ℕ} 0 1 = cc in absurd (omega arith), λ e. absurd (false≢true e))
+
+  pub raise-parameters : structure image ≡ Accepted 0 → (numbersOf (raise image out .answer) ≡ record { number = 20; place = 0; count = 0 }) ↔ (hasParameters (designOf image) ≡ true)
+  raise-parameters structured = Iff·trans (told-refused (raise image out .answer) RaiseParameters 0) (raise-refuses-parameters structured)
 
   -- ---- a refusal leaves the second area
   pub raise-refused : (numbersOf (raise image out .answer) .number ≡ 0 → ⊥) → raise image out .out ≡ out
@@ -75,47 +98,62 @@ module _ (image out : List ℕ) where
       let (n, e) = first-accepts (structure image) _ accepted in
       e ∙ ap Accepted (structure-counts-nothing image n e)
 
+  -- the stages behind the image checks
+  abbrev without-parameters : Answer
+  without-parameters = refusedAt RaiseParameters (atZeroUnless (not (hasParameters (designOf image))))
+
+  abbrev long-enough : Answer
+  long-enough = refusedAt Area (atZeroUnless (eqb (length out) (length image)))
+
+  accepted-plain : raiseAnswer image out ≡ Accepted 0 → Plain (designOf image)
+  unfolding raiseAnswer
+  accepted-plain accepted =
+      let (n, e) = first-accepts without-parameters _ (later-accepts (structure image) _ accepted) in
+      plain-iff (designOf image) .0 (zero-unless-iff .0 (found-nothing RaiseParameters (atZeroUnless (not (hasParameters (designOf image)))) e))
+
   accepted-raising : raiseAnswer image out ≡ Accepted 0 → accepts (verdict (raisedImage image)) ≡ true
   unfolding raiseAnswer
   accepted-raising accepted =
       zero-unless-iff .0
       (found-nothing NoRaising (atZeroUnless (accepts (verdict (raisedImage image))))
-      (later-accepts (refusedAt Area (atZeroUnless (eqb (length out) (length image)))) _ (later-accepts (structure image) _ accepted)))
+      (later-accepts long-enough _ (later-accepts without-parameters _ (later-accepts (structure image) _ accepted))))
 
   accepted-length : raiseAnswer image out ≡ Accepted 0 → length out ≡ length image
   unfolding raiseAnswer
   accepted-length accepted =
-      let (n, e) = first-accepts (refusedAt Area (atZeroUnless (eqb (length out) (length image)))) _ (later-accepts (structure image) _ accepted) in
+      let (n, e) = first-accepts long-enough _ (later-accepts without-parameters _ (later-accepts (structure image) _ accepted)) in
       equal-iff .0 (zero-unless-iff .0 (found-nothing Area (atZeroUnless (eqb (length out) (length image))) e))
 
-  pub raise-accepts : structure image ≡ Accepted 0 → length out ≡ length image → accepts (verdict (raisedImage image)) ≡ true → raiseAnswer image out ≡ Accepted 0
+  pub raise-accepts : structure image ≡ Accepted 0 → Plain (designOf image) → length out ≡ length image → accepts (verdict (raisedImage image)) ≡ true → raiseAnswer image out ≡ Accepted 0
   unfolding raiseAnswer _before_ refusedAt
-  raise-accepts structured long accepted = rw (structured, equal-iff {a = length out} {b = length image} .1 long, accepted)
+  raise-accepts structured plain long accepted = rw (structured, plain-iff (designOf image) .1 plain, equal-iff {a = length out} {b = length image} .1 long, accepted)
 
   -- "The result is the least"
   pub raise-least : numbersOf (raise image out .answer) .number ≡ 0 → LeastRaising image (raise image out .out)
   raise-least e =
       let accepted = accepted-answer e in
-      rw (ap (λ (left : LeftOut). left .out) (leaves-raised accepted)) (least image (accepted-structure accepted) (accepted-raising accepted))
+      rw (ap (λ (left : LeftOut). left .out) (leaves-raised accepted)) (least image (accepted-structure accepted) (accepted-plain accepted) (accepted-raising accepted))
 
   -- "An accepted image comes back unchanged."
-  pub raise-comes-back : verdict image ≡ Accepted 0 → length out ≡ length image → raise image out ≡ record { answer = Accepted 0; out = image }
-  raise-comes-back accepted long =
+  pub raise-comes-back : verdict image ≡ Accepted 0 → Plain (designOf image) → length out ≡ length image → raise image out ≡ record { answer = Accepted 0; out = image }
+  raise-comes-back accepted plain long =
       let good = verdict-exact image .0 accepted in
-      let same = comes-back image accepted in
+      let same = comes-back image accepted plain in
       let structured = structure-exact image .1 (good .directory, good .design .structure) in
-      leaves-raised (raise-accepts structured long (ap (λ (x : List ℕ). accepts (verdict x)) same ∙ accepts-exact image .1 good)) ∙ rw same
+      leaves-raised (raise-accepts structured plain long (ap (λ (x : List ℕ). accepts (verdict x)) same ∙ accepts-exact image .1 good)) ∙ rw same
 
 -- raised twice is raised once
 pub raise-twice : (image out again : List ℕ) → numbersOf (raise image out .answer) .number ≡ 0 → length again ≡ length image
     → raise (raise image out .out) again ≡ record { answer = Accepted 0; out = raise image out .out }
 raise-twice image out again e long =
     let least = raise-least image out e .accepted in
-    raise-comes-back (raise image out .out) again (verdict-exact (raise image out .out) .1 (least .keeps)) (long ∙ sym (least .raises .same-length))
+    let accepted = accepted-answer image out e in
+    let plain = raises-plain image (raise image out .out) (accepted-structure image out accepted) (least .raises) (accepted-plain image out accepted) in
+    raise-comes-back (raise image out .out) again (verdict-exact (raise image out .out) .1 (least .keeps)) plain (long ∙ sym (least .raises .same-length))
 
 -- what the second area held does not matter: only its length does
 pub raise-whatever-held : (image out other : List ℕ) → length other ≡ length out → numbersOf (raise image out .answer) .number ≡ 0 → raise image other ≡ raise image out
 raise-whatever-held image out other long e =
     let accepted = accepted-answer image out e in
-    let also = raise-accepts image other (accepted-structure image out accepted) (long ∙ accepted-length image out accepted) (accepted-raising image out accepted) in
+    let also = raise-accepts image other (accepted-structure image out accepted) (accepted-plain image out accepted) (long ∙ accepted-length image out accepted) (accepted-raising image out accepted) in
     leaves-raised image other also ∙ sym (leaves-raised image out accepted)

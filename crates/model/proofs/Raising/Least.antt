@@ -9,41 +9,41 @@ use native.Mathlib.Decide.{decLt}
 use lib.ListN.{length, getD, set, List·getD-eq-default}
 use lib.Seq.{getD-set-same}
 use Rattle.model.specs.Image.{Design}
-use Rattle.model.specs.Lattice.{allFlowTo, stateLabel}
+use Rattle.model.specs.Lattice.{allFlowTo, registerLabel, stateLabel}
 use Rattle.model.specs.Trees.{Expr, Cmd, skip, assign, sequence, fall, goto, branch, bodyOf}
 use Rattle.model.specs.Labelling.{relabelled}
 use Rattle.model.specs.Raising.{joinOf, labelsReadBy, raisedBy, raisedByStates, raisedOnce, raisedTimes}
-use Rattle.model.specs.Flow.{labelsRead, assignFlows}
-use Rattle.model.specs.Rules.{FlowsTo, Flows}
+use Rattle.model.specs.Rules.{FlowsTo}
 use Rattle.model.proofs.Laws.Indices.{nothing-below-zero, extend}
 use Rattle.model.proofs.Laws.Joins.{AreLabels, flow-cons, flow-tail}
-use Rattle.model.proofs.Laws.Relabelling.{Labelled, register-label, labels-read}
+use Rattle.model.proofs.Laws.Plain.{plainRead, PlainFlows}
+use Rattle.model.proofs.Laws.Relabelling.{Labelled, register-label, plain-labels-read}
 use Rattle.model.proofs.Raising.Orders.{AtOrBelow, Under, under-append, set-cases, below-same, reads-under}
 use Rattle.model.proofs.Raising.Passes.{Raisable, state-valid, assigned, inner-valid, raised-valid, raised-above, raised-states, raised-once}
 
 -- the bodies of the first n states flow under the labels
 abbrev pub BodiesFlow : Design → List ℕ → ℕ → Type 0
-BodiesFlow d labels n = (s : ℕ) → s < n → Flows (relabelled d labels) s (stateLabel d s ∷ []) (bodyOf d s)
+BodiesFlow d labels n = (s : ℕ) → s < n → PlainFlows (relabelled d labels) s (stateLabel d s ∷ []) (bodyOf d s)
 
 module _ (d : Design) (able : Raisable d) (upper : List ℕ) (theirs : Labelled d upper) where
   -- what flows to a register under the upper labelling flows to its upper label from below too
   assign-under : (context around labels : List ℕ) (r : ℕ) (e : Expr) → Labelled d labels → Under (d .rows) context around → AtOrBelow (d .rows) labels upper
-      → assignFlows (relabelled d upper) around r e ≡ true → allFlowTo (d .rows) (context ++ labelsReadBy labels e) (getD upper r 0) ≡ true
+      → allFlowTo (d .rows) (around ++ plainRead (relabelled d upper) e) (registerLabel (relabelled d upper) r) ≡ true → allFlowTo (d .rows) (context ++ labelsReadBy labels e) (getD upper r 0) ≡ true
   assign-under context around labels r e own under below h =
       let read : allFlowTo (d .rows) (around ++ labelsReadBy upper e) (getD upper r 0) ≡ true =
-      rw (labels-read d upper (theirs .enough) e, register-label d upper (theirs .enough) r) at h in
+      rw (plain-labels-read d upper (theirs .enough) e, register-label d upper (theirs .enough) r) at h in
       under-append (d .rows) context (labelsReadBy labels e) around (labelsReadBy upper e) under (reads-under d (able .keeps .lattice) labels upper own theirs below e) (getD upper r 0) (theirs .valid r) read
 
   inner-under : (context around labels : List ℕ) (e : Expr) → Labelled d labels → Under (d .rows) context around → AtOrBelow (d .rows) labels upper
-      → Under (d .rows) (context ++ labelsReadBy labels e) (around ++ labelsRead (relabelled d upper) e)
+      → Under (d .rows) (context ++ labelsReadBy labels e) (around ++ plainRead (relabelled d upper) e)
   inner-under context around labels e own under below =
-      rw (labels-read d upper (theirs .enough) e)
+      rw (plain-labels-read d upper (theirs .enough) e)
       (under-append (d .rows) context (labelsReadBy labels e) around (labelsReadBy upper e) under (reads-under d (able .keeps .lattice) labels upper own theirs below e))
 
   -- ---- one command of a state
   module _ (s : ℕ) where
     raised-least : (context around : List ℕ) (c : Cmd) (labels : List ℕ) → AreLabels (d .rows) context → Labelled d labels → Under (d .rows) context around → AtOrBelow (d .rows) labels upper
-        → Flows (relabelled d upper) s around c → AtOrBelow (d .rows) (raisedBy d context c labels) upper
+        → PlainFlows (relabelled d upper) s around c → AtOrBelow (d .rows) (raisedBy d context c labels) upper
     unfolding raisedBy
     raised-least context around (skip n) labels valid own under below flows = below
     raised-least context around (assign n r e) labels valid own under below flows = λ k.
@@ -55,7 +55,7 @@ module _ (d : Design) (able : Raisable d) (upper : List ℕ) (theirs : Labelled 
     raised-least context around (sequence n p q) labels valid own under below flows =
         raised-least context around q _ valid (raised-valid d able context p labels valid own) under (raised-least context around p labels valid own under below (flows .0)) (flows .1)
     raised-least context around (fall n) labels valid own under below flows = below
-    raised-least context around (goto n t) labels valid own under below flows = below
+    raised-least context around (goto n t x y) labels valid own under below flows = below
     raised-least context around (branch n e p q) labels valid own under below flows =
         let inner = inner-valid d able context labels e valid own in
         let inside = inner-under context around labels e own under below in
@@ -95,22 +95,22 @@ module _ (d : Design) (able : Raisable d) (upper : List ℕ) (theirs : Labelled 
             ap (allFlowTo (d .rows) (context ++ labelsReadBy labels e)) (none ∙ sym others) ∙ there
 
     raised-flows : (context around : List ℕ) (c : Cmd) (labels : List ℕ) → AreLabels (d .rows) context → Labelled d labels → Under (d .rows) context around → AtOrBelow (d .rows) labels upper
-        → Flows (relabelled d upper) s around c → raisedBy d context c labels ≡ labels → Flows (relabelled d labels) s context c
+        → PlainFlows (relabelled d upper) s around c → raisedBy d context c labels ≡ labels → PlainFlows (relabelled d labels) s context c
     unfolding raisedBy
     raised-flows context around (skip n) labels valid own under below flows stays = tt
     raised-flows context around (assign n r e) labels valid own under below flows stays =
-        rw (labels-read d labels (own .enough) e, register-label d labels (own .enough) r)
+        rw (plain-labels-read d labels (own .enough) e, register-label d labels (own .enough) r)
         (assign-flows context labels r e valid own (assign-under context around labels r e own under below flows) stays)
     raised-flows context around (sequence n p q) labels valid own under below flows stays = (
       raised-flows context around p labels valid own under below (flows .0) (first-stays context p q labels valid own stays),
       raised-flows context around q labels valid own under below (flows .1) (second-stays context p q labels valid own stays),
     )
     raised-flows context around (fall n) labels valid own under below flows stays = under (stateLabel d s) (state-valid d able s) flows
-    raised-flows context around (goto n t) labels valid own under below flows stays = under (stateLabel d t) (state-valid d able t) flows
+    raised-flows context around (goto n t x y) labels valid own under below flows stays = under (stateLabel d t) (state-valid d able t) flows
     raised-flows context around (branch n e p q) labels valid own under below flows stays =
         let inner = inner-valid d able context labels e valid own in
         let inside = inner-under context around labels e own under below in
-        rw (labels-read d labels (own .enough) e) (
+        rw (plain-labels-read d labels (own .enough) e) (
           raised-flows (context ++ labelsReadBy labels e) _ p labels inner own inside below (flows .0) (first-stays _ p q labels inner own stays),
           raised-flows (context ++ labelsReadBy labels e) _ q labels inner own inside below (flows .1) (second-stays _ p q labels inner own stays),
         )

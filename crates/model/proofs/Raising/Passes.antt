@@ -1,27 +1,29 @@
 -- A pass over the bodies keeps labels labels, only raises them, and leaves every port: it writes joins of labels, each above the label that stood there, and no
 -- assignment names a port.
-use Prim.Native.Nat.{ℕ, zero, suc, _<_}
-use mathlib.Core.Path.{_≡_, refl, sym, _∙_, ap}
+use Prim.Native.Nat.{ℕ, zero, suc, _≤_, _<_}
+use mathlib.Core.Path.{_≡_, refl, _∙_}
 use mathlib.Core.List.{List, [], _∷_, _++_}
-use native.Mathlib.Omega.{arith}
-use native.Mathlib.Decide.{decLt}
-use lib.ListN.{length, getD, length-set, List·getD-eq-default}
+use lib.ListN.{length, getD, length-set}
 use lib.Seq.{getD-set-other}
-use Rattle.model.specs.Image.{Design, State, registerAt}
-use Rattle.model.specs.Lattice.{registerLabel, stateLabel}
+use Rattle.model.specs.Limits.{parameterLabel}
+use Rattle.model.specs.Image.{Design, registerAt}
+use Rattle.model.specs.Lattice.{stateLabel}
 use Rattle.model.specs.Trees.{Expr, Cmd, skip, assign, sequence, fall, goto, branch, bodyOf}
 use Rattle.model.specs.Labelling.{labelsOf}
 use Rattle.model.specs.Raising.{joinOf, labelsReadBy, raisedBy, raisedByStates, raisedOnce, raisedTimes, raisedLabels}
 use Rattle.model.specs.Rules.{FlowsTo, StructureKeeps}
 use Rattle.model.proofs.Laws.Joins.{AreLabels, labels-append, LeastAboveAll, join-least, flow-head}
+use Rattle.model.proofs.Laws.Plain.{Plain, PlainLabels, plain-labels}
 use Rattle.model.proofs.Laws.Relabelling.{Labelled, length-labels, label-at}
-use Rattle.model.proofs.Ports.{SparesPorts, body-spares}
+use Rattle.model.proofs.Laws.Spares.{SparesPorts, body-spares}
 use Rattle.model.proofs.Raising.Orders.{AtOrBelow, set-cases, below-itself, below-both, reads-labels}
 
--- what is asked of a design: the rules behind refusals 2 to 9 and 16, and a label
+-- what is asked of a design: the rules behind refusals 2 to 9, 16 and 19, a label, and, since 02, E8, no parameters
 pub record Raisable (d : Design) : Type 0 where
   pub keeps : StructureKeeps d
   pub some : 0 < length (d .rows)
+  pub few : length (d .rows) ≤ parameterLabel
+  pub plain : Plain d
 
 -- labels that came of others by raising
 pub record Raised (d : Design) (before after : List ℕ) : Type 0 where
@@ -31,25 +33,14 @@ pub record Raised (d : Design) (before after : List ℕ) : Type 0 where
 
 module _ (d : Design) (able : Raisable d) where
   -- ---- what is labels
-  -- past the last state there is label 0
+  pub own-labels : PlainLabels d
+  own-labels = plain-labels d (able .plain) (able .keeps) (able .some) (able .few)
+
   pub state-valid : (s : ℕ) → stateLabel d s < length (d .rows)
-  state-valid s = go (decLt s (length (d .states)))
-    where
-      go : Dec (s < length (d .states)) → stateLabel d s < length (d .rows)
-      go (yes l) = able .keeps .states s l .label
-      go (no l) =
-          let past : stateLabel d s ≡ 0 = ap (λ (x : State). x .label) (List·getD-eq-default (d .states) _ {n = s} (omega arith)) in
-          rw past (able .some)
+  state-valid s = own-labels .states s
 
   pub own-valid : Labelled d (labelsOf d)
-  own-valid = record { enough = length-labels d; valid = λ r. rw (label-at d r) (go r (decLt r (length (d .registers)))) }
-    where
-      go : (r : ℕ) → Dec (r < length (d .registers)) → registerLabel d r < length (d .rows)
-      go r (yes l) = able .keeps .registers r l .label
-      go r (no l) =
-          let long = length-labels d in
-          let past : registerLabel d r ≡ 0 = sym (label-at d r) ∙ List·getD-eq-default (labelsOf d) 0 {n = r} (omega arith) in
-          rw past (able .some)
+  own-valid = record { enough = length-labels d; valid = λ r. rw (label-at d r) (own-labels .registers r) }
 
   -- what an assignment writes
   pub assigned : (context labels : List ℕ) (r : ℕ) (e : Expr) → AreLabels (d .rows) context → Labelled d labels
@@ -77,7 +68,7 @@ module _ (d : Design) (able : Raisable d) where
       }
   raised-valid context (sequence n p q) labels around own = raised-valid context q _ around (raised-valid context p labels around own)
   raised-valid context (fall n) labels around own = own
-  raised-valid context (goto n t) labels around own = own
+  raised-valid context (goto n t x y) labels around own = own
   raised-valid context (branch n e p q) labels around own =
       let inner = inner-valid context labels e around own in
       raised-valid _ q _ inner (raised-valid _ p labels inner own)
@@ -94,7 +85,7 @@ module _ (d : Design) (able : Raisable d) where
       let first = raised-valid context p labels around own in
       below-both d (able .keeps .lattice) labels _ _ own first (raised-valid context q _ around first) (raised-above context p labels around own) (raised-above context q _ around first)
   raised-above context (fall n) labels around own = below-itself d (able .keeps .lattice) labels own
-  raised-above context (goto n t) labels around own = below-itself d (able .keeps .lattice) labels own
+  raised-above context (goto n t x y) labels around own = below-itself d (able .keeps .lattice) labels own
   raised-above context (branch n e p q) labels around own =
       let inner = inner-valid context labels e around own in
       let first = raised-valid _ p labels inner own in
@@ -106,7 +97,7 @@ module _ (d : Design) (able : Raisable d) where
   raised-spares k port context (assign n r e) labels spares = getD-set-other labels r k _ 0 (λ same. spares (rw (← same) port))
   raised-spares k port context (sequence n p q) labels spares = raised-spares k port context q _ (spares .1) ∙ raised-spares k port context p labels (spares .0)
   raised-spares k port context (fall n) labels spares = refl
-  raised-spares k port context (goto n t) labels spares = refl
+  raised-spares k port context (goto n t x y) labels spares = refl
   raised-spares k port context (branch n e p q) labels spares = raised-spares k port _ q _ (spares .1) ∙ raised-spares k port _ p labels (spares .0)
 
   -- ---- passes
