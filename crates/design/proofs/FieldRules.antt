@@ -1,12 +1,14 @@
 -- What the fields of a record by its place hold: those of a state; and, once its record was judged, a node's kind by the kind byte, and that its parts are nodes of lower numbers.
-use Prim.Native.Nat.{ℕ, _≤_, _<_}
+use Prim.Native.Nat.{ℕ, _+_, _≤_, _<_}
 use mathlib.Core.Path.{_≡_, sym, _∙_, ap}
+use mathlib.Core.Logic.{inl, inr}
 use mathlib.Core.List.{List}
 use native.Mathlib.Omega.{arith}
 use lib.ListN.{length}
-use Rattle.model.specs.Image.{State, Node, designOf, stateAt, commandAt, expressionAt}
+use Rattle.model.specs.Limits.{parameterRegister, bindingLength}
+use Rattle.model.specs.Image.{Design as Table, State, Node, designOf, stateAt, commandAt, expressionAt}
 use Rattle.model.specs.Kinds.{CommandKind, commandKind, Operation, operates, expressionKind}
-use Rattle.model.specs.Rules.{CommandHolds, ExpressionHolds}
+use Rattle.model.specs.Rules.{RegisterByte, CommandHolds, ExpressionHolds}
 use Rattle.model.proofs.Laws.Kinds.{expressionKinds, kind-operates}
 use Rattle.model.proofs.Exact.Records.{state-iff, command-iff, expression-iff}
 use Rattle.design.specs.declared.Design.{Design}
@@ -14,7 +16,7 @@ use Rattle.design.specs.Records.{stateIn, nodeIn, stateEnd, nodeEnd}
 use Rattle.design.specs.Describes.{Describes}
 use Rattle.design.specs.Kept.{StatesKept, CommandsKept, ExpressionsKept}
 use Rattle.design.specs.RecordsAt.{StateAt, CommandAt, ExpressionAt}
-use Rattle.design.proofs.Laws.{states-count, commands-count, expressions-count, state-inside, command-inside, expression-inside, state-in, command-in, expression-in}
+use Rattle.design.proofs.Laws.{registers-count, states-count, commands-count, expressions-count, registers-most, state-inside, command-inside, expression-inside, state-in, command-in, expression-in}
 
 -- ---- a state
 module _ {image : List ℕ} {x : Design} {place s : ℕ} (here : StateAt image x place s) where
@@ -43,6 +45,15 @@ module _ {image : List ℕ} {x : Design} {s n : ℕ} (d : Describes image x) (l 
       let is = body-is in
       let below = state-iff (designOf image) s .0 (kept .kept s (omega arith)) .command in
       omega arith
+
+-- ---- a register byte
+byte-register : (y : Table) {r : ℕ} → RegisterByte y r → r < parameterRegister → r < length (y .registers)
+byte-register y {r} (inl h) l = h
+byte-register y {r} (inr h) l = let least = h .at-least in absurd (omega arith)
+
+byte-below : {image : List ℕ} {x : Design} {r : ℕ} → Describes image x → RegisterByte (designOf image) r → r < parameterRegister + bindingLength
+byte-below d (inl h) = let count = registers-count d in let few = registers-most d in omega arith
+byte-below d (inr h) = h .below
 
 -- ---- a command
 pub command-at : {image : List ℕ} {x : Design} {place n : ℕ} → Describes image x → CommandsKept (designOf image) → n < x .commands → place ≡ x .«commands_at» → CommandAt image x place n
@@ -81,9 +92,16 @@ module _ {image : List ℕ} {x : Design} {place n : ℕ} (here : CommandAt image
   command-holds q p = rw (command-kind-is q p) at (command-iff (designOf image) n .0 (here .kept))
 
   -- ---- the nodes, the register and the state that it names
-  pub assigned-register : {k r : ℕ} → k ≡ 1 → k ≡ nodeIn image place n .kind → r ≡ nodeIn image place n .item → r < length (designOf image .registers)
+  pub assigned-byte : {k r : ℕ} → k ≡ 1 → k ≡ nodeIn image place n .kind → r ≡ nodeIn image place n .item → RegisterByte (designOf image) r
   unfolding commandKind
-  assigned-register q p f = rw (item-is f) (command-holds q p .0)
+  assigned-byte q p f = rw (item-is f) (command-holds q p .0)
+
+  -- a byte that names no parameter is a register's number
+  pub assigned-register : {k r : ℕ} → k ≡ 1 → k ≡ nodeIn image place n .kind → r ≡ nodeIn image place n .item → r < parameterRegister → r < length (designOf image .registers)
+  assigned-register q p f l = byte-register (designOf image) (assigned-byte q p f) l
+
+  pub assigned-named : {k r : ℕ} → k ≡ 1 → k ≡ nodeIn image place n .kind → r ≡ nodeIn image place n .item → r < parameterRegister + bindingLength
+  assigned-named q p f = byte-below (here .describes) (assigned-byte q p f)
 
   pub assigned-expression : {k e : ℕ} → k ≡ 1 → k ≡ nodeIn image place n .kind → e ≡ nodeIn image place n .a → e < length (designOf image .expressions)
   unfolding commandKind
@@ -156,9 +174,15 @@ module _ {image : List ℕ} {x : Design} {place e : ℕ} (here : ExpressionAt im
   pub expression-holds : {k : ℕ} → k ≡ nodeIn image place e .kind → ExpressionHolds (designOf image) e (expressionKind k) (expressionAt (designOf image) e)
   expression-holds p = rw (expression-kind-is p) at (expression-iff (designOf image) e .0 (here .kept))
 
-  pub read-register : {k r : ℕ} → k ≡ 1 → k ≡ nodeIn image place e .kind → r ≡ nodeIn image place e .item → r < length (designOf image .registers)
+  pub read-byte : {k r : ℕ} → k ≡ 1 → k ≡ nodeIn image place e .kind → r ≡ nodeIn image place e .item → RegisterByte (designOf image) r
   unfolding expressionKind
-  read-register q p f = rw (read-is f) ((rw q at (expression-holds p)) .0)
+  read-byte q p f = rw (read-is f) ((rw q at (expression-holds p)) .0)
+
+  pub read-register : {k r : ℕ} → k ≡ 1 → k ≡ nodeIn image place e .kind → r ≡ nodeIn image place e .item → r < parameterRegister → r < length (designOf image .registers)
+  read-register q p f l = byte-register (designOf image) (read-byte q p f) l
+
+  pub read-named : {k r : ℕ} → k ≡ 1 → k ≡ nodeIn image place e .kind → r ≡ nodeIn image place e .item → r < parameterRegister + bindingLength
+  read-named q p f = byte-below (here .describes) (read-byte q p f)
 
   -- the kind byte of an operation
   pub operation : {k : ℕ} → k < expressionKinds → 1 ≤ k → (k ≡ 1 → ⊥) → k ≡ nodeIn image place e .kind → (o : Operation) × (expressionKind (expressionAt (designOf image) e .kind) ≡ operates o)

@@ -6,7 +6,7 @@ use lib.Dec.{eqb, leb}
 use mathlib.Core.List.{List}
 use native.Mathlib.Omega.{arith}
 use lib.ListN.{length, getD}
-use Rattle.model.specs.Limits.{directoryLength, labelsMax, commandsMax, expressionsMax}
+use Rattle.model.specs.Limits.{directoryLength, labelsMax, registersMax, commandsMax, expressionsMax}
 use Rattle.model.specs.Image.{Section, Labels, Registers, States, Commands, Expressions, recordLength, fewest, most, offset, size, end, offsetsKept, sectionKept, directoryKept, designOf, registerAt, stateAt, commandAt, expressionAt}
 use Rattle.model.proofs.Laws.Images.{row-at, register-is, state-is, command-is, expression-is, label-count, register-count, state-count, command-count, expression-count}
 use Rattle.design.specs.declared.Design.{Design}
@@ -51,7 +51,7 @@ pub directory-rule :
     → ez ≡ size image Expressions
     → l ≡ (eqb (lz % 2) 0 && leb 1 (lz / 2) && leb (lz / 2) 16)
     → r ≡ (eqb (rz % 7) 0 && leb 0 (rz / 7) && leb (rz / 7) 64)
-    → s ≡ (eqb (sz % 4) 0 && leb 1 (sz / 4) && leb (sz / 4) 64)
+    → s ≡ (eqb (sz % 9) 0 && leb 1 (sz / 9) && leb (sz / 9) 64)
     → c ≡ (eqb (cz % 8) 0 && leb 0 (cz / 8) && leb (cz / 8) 1024)
     → e ≡ (eqb (ez % 8) 0 && leb 0 (ez / 8) && leb (ez / 8) 2048)
     → (o && l && r && s && c && e) ≡ directoryKept image
@@ -77,7 +77,7 @@ pub describes :
     (record {
       labels = l / 2;
       registers = r / 7;
-      states = s / 4;
+      states = s / 9;
       commands = c / 8;
       expressions = e / 8;
       «registers_at» = ra;
@@ -90,7 +90,7 @@ describes directory l r s c e ra sa ca ea =
       directory = directory;
       labels = ap (λ (n : ℕ). n / 2) l;
       registers = ap (λ (n : ℕ). n / 7) r;
-      states = ap (λ (n : ℕ). n / 4) s;
+      states = ap (λ (n : ℕ). n / 9) s;
       commands = ap (λ (n : ℕ). n / 8) c;
       expressions = ap (λ (n : ℕ). n / 8) e;
       registers-at = ra;
@@ -119,6 +119,9 @@ module _ {image : List ℕ} {x : Design} (d : Describes image x) where
   -- ---- no section has more records than its limit
   pub labels-most : x .labels ≤ labelsMax
   labels-most = omega (arith, d .labels, d .directory .sections Labels)
+
+  pub registers-most : x .registers ≤ registersMax
+  registers-most = omega (arith, d .registers, d .directory .sections Registers)
 
   pub commands-most : x .commands ≤ commandsMax
   commands-most = omega (arith, d .commands, d .directory .sections Commands)
@@ -154,7 +157,19 @@ module _ {image : List ℕ} {x : Design} (d : Describes image x) where
   pub state-in : {s : ℕ} → s < x .states → stateIn image (x .«states_at») s ≡ stateAt (designOf image) s
   state-in {s} l =
       let is = state-is image s (omega (arith, d .states)) in
-      rw (d .states-at) (sym (λ i. record { parent = is .parent i; label = is .label i; command = is .command i }))
+      rw (d .states-at)
+      (sym
+      (λ i.
+      record {
+        parent = is .parent i;
+        label = is .label i;
+        command = is .command i;
+        parameters = is .parameters i;
+        firstLower = is .first-lower i;
+        firstUpper = is .first-upper i;
+        secondLower = is .second-lower i;
+        secondUpper = is .second-upper i;
+      }))
 
   pub command-in : {n : ℕ} → n < x .commands → nodeIn image (x .«commands_at») n ≡ commandAt (designOf image) n
   command-in {n} l =

@@ -7,3 +7,5 @@ pub mod WordRules
 pub mod WidthRules
 pub mod ResetRules
 pub mod LabelRules
+pub mod ScopeRules
+pub mod BoundRules

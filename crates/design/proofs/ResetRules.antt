@@ -3,13 +3,13 @@ use Prim.Native.Nat.{ℕ, zero, suc, _+_, _*_, _/_, _%_, _-_, _≤_, _<_}
 use mathlib.Core.Path.{_≡_, refl, sym, _∙_, ap}
 use mathlib.Core.Logic.{_⊎_, inl, inr, _≢_}
 use mathlib.Core.Bool.{Bool, true, false, cond}
-use mathlib.Core.List.{List, [], _∷_}
+use mathlib.Core.List.{List, [], _∷_, _++_}
 use native.Mathlib.Omega.{arith}
 use native.Mathlib.Numerals.{add-one}
 use native.Mathlib.Decide.{ℕ-discrete, decLt}
 use lib.Dec.{ltb}
-use lib.ListN.{length, getD, set, replicate, length-set, length-replicate, List·getD-map}
-use lib.Seq.{getD-set-same, getD-set-other, ext-getD}
+use lib.ListN.{length, getD, set, replicate, length-set, length-replicate, length-append, List·getD-append, List·getD-map}
+use lib.Seq.{getD-set-same, getD-set-other, getD-append-add, ext-getD}
 use borrow.Author.Tests.{lt-ltb, le-ltb}
 use Rattle.model.specs.declared.Found.the-variants.{At}
 use Rattle.model.specs.Indices.{lowest, tabulate}
@@ -101,6 +101,14 @@ module _ {f : ℕ → ℕ} {old : List ℕ} where
       (tabulate f (length old))
       (so .long ∙ sym (length-tabulate f (length old)))
       (λ k b. so .done k (omega arith) ∙ sym (getD-tabulate f (length old) k 0 (omega arith)))
+
+-- a table that a loop clears
+module _ {old now : List ℕ} {i : ℕ} (so : Filled (λ k. 0) old i now) where
+  pub cleared-more : i < length now → Filled (λ k. 0) old (i + 1) (set now i 0)
+  cleared-more l = let same = so .long in filled-within so (omega arith) l refl
+
+  pub cleared : i ≤ length old → length now ≤ i → Filled (λ k. 0) old (length old) now
+  cleared l h = let same = so .long in filled-to so l (omega arith)
 
 -- ---- a table that the pass downwards makes one of default targets
 same-index : (i j : ℕ) → (i < j → ⊥) → (j < i → ⊥) → i ≡ j
@@ -289,29 +297,65 @@ defaults-of {image} {table} old d l e =
 pub fresh-defaults : {image table : List ℕ} {x : Design} → Describes image x → table ≡ withDefaults (designOf image) (replicate {A = ℕ} 64 0) → Defaults (designOf image) table
 fresh-defaults d e = let few = states-few d in let long = length-replicate {A = ℕ} 64 0 in defaults-of (replicate {A = ℕ} 64 0) d (omega arith) e
 
-pub defaults-reset : {image table : List ℕ} {x : Design} (old : List ℕ) → Describes image x → length old ≡ x .states → table ≡ withDefaults (designOf image) old → table ≡ resetAreas (designOf image) .targets
+-- an area of no bindings in which the targets are the default ones
+pub defaults-reset :
+    {image table zeros old : List ℕ} {x : Design}
+    → Describes image x
+    → length old ≡ 3 * x .states
+    → Filled (λ k. 0) old (length old) zeros
+    → table ≡ withDefaults (designOf image) zeros
+    → table ≡ resetAreas (designOf image) .targets ++ resetAreas (designOf image) .bindings
 unfolding resetAreas
-defaults-reset {image} {table} old d l e =
+defaults-reset {image} {table} {zeros} {old} {x} d l clear e =
     let count = states-count d in
-    let is = defaults-of old d (omega arith) e in
-    let same = ap length e ∙ length-defaults (designOf image) old in
+    let long = clear .long in
+    let same = ap length e ∙ length-defaults (designOf image) zeros in
     let all = length (designOf image .states) in
-    ext-getD
-    0
-    table
-    (tabulate (defaultTarget (designOf image)) all)
-    (same ∙ l ∙ count ∙ sym (length-tabulate (defaultTarget (designOf image)) all))
-    (λ k b. is .entry k (omega arith) ∙ sym (getD-tabulate (defaultTarget (designOf image)) all k 0 (omega arith)))
+    let targets = tabulate (defaultTarget (designOf image)) all in
+    let bindings = tabulate {A = ℕ} (λ v. 0) (2 * all) in
+    let first = length-tabulate (defaultTarget (designOf image)) all in
+    let second = length-tabulate {A = ℕ} (λ v. 0) (2 * all) in
+    let both = length-append targets bindings in
+    ext-getD 0 table (targets ++ bindings) (omega arith) (λ k b. at k (omega arith) (decLt k all))
+  where
+    at : (k : ℕ) → k < 3 * length (designOf image .states) → Dec (k < length (designOf image .states))
+        → getD table k 0 ≡ getD (tabulate (defaultTarget (designOf image)) (length (designOf image .states)) ++ tabulate {A = ℕ} (λ v. 0) (2 * length (designOf image .states))) k 0
+    at k b (yes h) =
+        let count = states-count d in
+        let long = clear .long in
+        let all = length (designOf image .states) in
+        let first = length-tabulate (defaultTarget (designOf image)) all in
+        ap (λ (t : List ℕ). getD t k 0) e
+        ∙ default-at (designOf image) zeros k h (omega arith)
+        ∙ sym (List·getD-append (tabulate (defaultTarget (designOf image)) all) (tabulate {A = ℕ} (λ v. 0) (2 * all)) 0 k (omega arith) ∙ getD-tabulate (defaultTarget (designOf image)) all k 0 h)
+    at k b (no h) =
+        let count = states-count d in
+        let long = clear .long in
+        let all = length (designOf image .states) in
+        let targets = tabulate (defaultTarget (designOf image)) all in
+        let bindings = tabulate {A = ℕ} (λ v. 0) (2 * all) in
+        let first = length-tabulate (defaultTarget (designOf image)) all in
+        let place : k ≡ length targets + (k - all) = omega arith in
+        ap (λ (t : List ℕ). getD t k 0) e
+        ∙ behind-at (designOf image) zeros k (omega arith) (omega arith)
+        ∙ clear .done k (omega arith)
+        ∙ sym (ap (λ (i : ℕ). getD (targets ++ bindings) i 0) place ∙ getD-append-add targets bindings (k - all) 0 ∙ getD-tabulate {A = ℕ} (λ v. 0) (2 * all) (k - all) 0 (omega arith))
 
--- an area of one byte for each state holds the table
-pub as-long : {m n : ℕ} → m ≡ n → n ≤ m
-as-long e = omega arith
+-- an area of some bytes for each state holds the table
+pub as-long : {n k : ℕ} {f : ℕ → ℕ} {old now : List ℕ} → length old ≡ 3 * n → Filled f old k now → n ≤ length now
+as-long l so = let same = so .long in omega arith
 
 -- the two areas together
-pub reset-both : {image registers targets : List ℕ} {x : Design} (old : List ℕ) → Describes image x → length old ≡ x .states → registers ≡ bytesOf (resetAreas (designOf image) .registers) → targets ≡ withDefaults (designOf image) old
+pub reset-both :
+    {image registers targets zeros old : List ℕ} {x : Design}
+    → Describes image x
+    → length old ≡ 3 * x .states
+    → registers ≡ bytesOf (resetAreas (designOf image) .registers)
+    → Filled (λ k. 0) old (length old) zeros
+    → targets ≡ withDefaults (designOf image) zeros
     → lends registers targets ≡ lentOf (resetAreas (designOf image))
 unfolding lentOf
-reset-both old d l r t = rw (r, defaults-reset old d l t)
+reset-both d l r clear t = rw (r, defaults-reset d l clear t)
 
 -- ---- a register area that a loop fills
 -- the first i words of an area are those of values

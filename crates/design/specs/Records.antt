@@ -19,7 +19,17 @@ registerIn image at r =
     }
 
 abbrev pub stateIn : List ℕ → ℕ → ℕ → State
-stateIn image at s = record { parent = byteAt image (at + stateLength * s); label = byteAt image (at + stateLength * s + 1); command = word16At image (at + stateLength * s + 2) }
+stateIn image at s =
+    record {
+      parent = byteAt image (at + stateLength * s);
+      label = byteAt image (at + stateLength * s + 1);
+      command = word16At image (at + stateLength * s + 2);
+      parameters = byteAt image (at + stateLength * s + 4);
+      firstLower = byteAt image (at + stateLength * s + 5);
+      firstUpper = byteAt image (at + stateLength * s + 6);
+      secondLower = byteAt image (at + stateLength * s + 7);
+      secondUpper = byteAt image (at + stateLength * s + 8);
+    }
 
 abbrev pub nodeIn : List ℕ → ℕ → ℕ → Node
 nodeIn image at n =

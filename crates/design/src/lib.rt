@@ -3,6 +3,7 @@
 pub mod labels;
 pub mod reset;
 pub mod rows;
+pub mod scopes;
 pub mod states;
 pub mod widths;
 pub mod words;
@@ -13,7 +14,7 @@ ghost use lib.Dec.{eqb, leb};
 ghost use mathlib.Core.Path.{_≡_};
 ghost use lib.ListN.{length, set};
 ghost use Rattle.model.specs.Image.{word16At, word32At, offsetsKept, directoryKept, designOf};
-ghost use Rattle.model.specs.Limits.{directoryLength, labelLength, registerLength, stateLength, nodeLength, labelsMax, registersMax, statesMax, commandsMax, expressionsMax, depthMax, expressionPlace, widthMax, wordLength, largestImage};
+ghost use Rattle.model.specs.Limits.{directoryLength, labelLength, registerLength, stateLength, nodeLength, labelsMax, registersMax, statesMax, commandsMax, expressionsMax, depthMax, expressionPlace, widthMax, wordLength, parametersMax, parameterRegister, parameterLabel, bindingLength, targetLength, largestImage};
 ghost use Rattle.model.specs.Rules.{DirectoryKeeps};
 ghost use Rattle.model.specs.Machine.{resetAreas};
 ghost use Rattle.model.specs.Calls.{lentOf};
@@ -125,7 +126,7 @@ impl Design {
 
     pub const REGISTER_LENGTH: usize = 7;
 
-    pub const STATE_LENGTH: usize = 4;
+    pub const STATE_LENGTH: usize = 9;
 
     pub const NODE_LENGTH: usize = 8;
     // The length of the largest image: each section has as many records as it may have.
@@ -143,6 +144,16 @@ impl Design {
     pub const DEPTH: usize = 64;
     // What is added to an expression's number to give its place.
     pub const EXPRESSION_PLACE: usize = 1024;
+    // The most parameters of a state, and the most in its scope.
+    pub const PARAMETERS: usize = 2;
+    // The register byte and the label byte of the first parameter in scope.
+    pub const PARAMETER_REGISTER: usize = 64;
+
+    pub const PARAMETER_LABEL: usize = 16;
+    // The bytes that a state takes for its bindings, and in all in the area of the targets.
+    pub const BINDING_LENGTH: usize = 2;
+
+    pub const TARGET_LENGTH: usize = 3;
 
     // Each limit is the one that the meaning names.
     pub fn limits()
@@ -161,6 +172,11 @@ impl Design {
         ensures { λ _. do ⌜ (← ⟦Design::WORD_LENGTH⟧ .entry) ≡ wordLength ⌝ }
         ensures { λ _. do ⌜ (← ⟦Design::DEPTH⟧ .entry) ≡ depthMax ⌝ }
         ensures { λ _. do ⌜ (← ⟦Design::EXPRESSION_PLACE⟧ .entry) ≡ expressionPlace ⌝ }
+        ensures { λ _. do ⌜ (← ⟦Design::PARAMETERS⟧ .entry) ≡ parametersMax ⌝ }
+        ensures { λ _. do ⌜ (← ⟦Design::PARAMETER_REGISTER⟧ .entry) ≡ parameterRegister ⌝ }
+        ensures { λ _. do ⌜ (← ⟦Design::PARAMETER_LABEL⟧ .entry) ≡ parameterLabel ⌝ }
+        ensures { λ _. do ⌜ (← ⟦Design::BINDING_LENGTH⟧ .entry) ≡ bindingLength ⌝ }
+        ensures { λ _. do ⌜ (← ⟦Design::TARGET_LENGTH⟧ .entry) ≡ targetLength ⌝ }
     {}
 
     // The row of label i.
@@ -228,6 +244,41 @@ impl Design {
         ensures { λ x. ⌜ (x ≡ stateIn (now (image .entry)) at s .command) × (x < 65536) ⌝ }
     {
         word16(image, at + Self::STATE_LENGTH * s + 2)
+    }
+
+    pub fn parameters(image: &[u8], at: usize, s: usize) -> usize
+        requires { ⌜ stateEnd at s ≤ length (now image) ⌝ }
+        ensures { λ x. ⌜ (x ≡ stateIn (now (image .entry)) at s .parameters) × (x < 256) ⌝ }
+    {
+        wide(image[at + Self::STATE_LENGTH * s + 4])
+    }
+
+    pub fn first_lower(image: &[u8], at: usize, s: usize) -> usize
+        requires { ⌜ stateEnd at s ≤ length (now image) ⌝ }
+        ensures { λ x. ⌜ (x ≡ stateIn (now (image .entry)) at s .firstLower) × (x < 256) ⌝ }
+    {
+        wide(image[at + Self::STATE_LENGTH * s + 5])
+    }
+
+    pub fn first_upper(image: &[u8], at: usize, s: usize) -> usize
+        requires { ⌜ stateEnd at s ≤ length (now image) ⌝ }
+        ensures { λ x. ⌜ (x ≡ stateIn (now (image .entry)) at s .firstUpper) × (x < 256) ⌝ }
+    {
+        wide(image[at + Self::STATE_LENGTH * s + 6])
+    }
+
+    pub fn second_lower(image: &[u8], at: usize, s: usize) -> usize
+        requires { ⌜ stateEnd at s ≤ length (now image) ⌝ }
+        ensures { λ x. ⌜ (x ≡ stateIn (now (image .entry)) at s .secondLower) × (x < 256) ⌝ }
+    {
+        wide(image[at + Self::STATE_LENGTH * s + 7])
+    }
+
+    pub fn second_upper(image: &[u8], at: usize, s: usize) -> usize
+        requires { ⌜ stateEnd at s ≤ length (now image) ⌝ }
+        ensures { λ x. ⌜ (x ≡ stateIn (now (image .entry)) at s .secondUpper) × (x < 256) ⌝ }
+    {
+        wide(image[at + Self::STATE_LENGTH * s + 8])
     }
 
     // The fields of node n, where the nodes of its family begin at a place.
@@ -306,12 +357,13 @@ impl Design {
         }
     }
 
-    // Reset writes the reset values and default children.
+    // Reset writes the reset values and default children, and 0 to each binding.
     pub fn reset(self, image: &[u8], registers: &mut [u8], targets: &mut [u8])
-        requires { ⌜ Describes (now image) self × StatesKept (designOf (now image)) × (length (now registers) ≡ wordLength * self .registers) × (length (now targets) ≡ self .states) ⌝ }
+        requires { ⌜ Describes (now image) self × StatesKept (designOf (now image)) × (length (now registers) ≡ wordLength * self .registers) × (length (now targets) ≡ targetLength * self .states) ⌝ }
         ensures { λ _. ⌜ lends (now (registers .exit)) (now (targets .exit)) ≡ lentOf (resetAreas (designOf (now (image .entry)))) ⌝ }
     {
         reset::reset_registers(image, self, registers);
+        reset::clear(targets);
         reset::default_targets(image, self, targets);
     }
 }

@@ -1,4 +1,5 @@
-// What reset writes: the reset values of the registers, and the default targets of the states.
+// What reset writes: the reset values of the registers, the default targets of the states, and no
+// bindings.
 use crate::Design;
 use crate::words::put_word;
 ghost use Prim.Native.Nat.{_*_, _≤_};
@@ -11,6 +12,17 @@ ghost use Rattle.model.specs.Machine.{resetAreas};
 ghost use Rattle.design.specs.Describes.{Describes};
 ghost use Rattle.design.specs.Kept.{StatesKept};
 ghost use Rattle.design.specs.Resets.{withDefaults, Filled};
+
+// Every byte is 0.
+pub fn clear(table: &mut [u8])
+    ensures { λ _. ⌜ Filled (λ k. 0) (now (table .entry)) (length (now (table .entry))) (now (table .exit)) ⌝ }
+{
+    let mut k = 0;
+    while k < table.len() {
+        table[k] = 0;
+        k += 1;
+    }
+}
 
 // Each state's entry is its own number; the bytes behind them stay.
 fn own_numbers(states: usize, table: &mut [u8])
