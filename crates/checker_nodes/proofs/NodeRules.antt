@@ -1,11 +1,12 @@
 -- A rule of a node, tested by its kind byte on the fields that the accessors read, is the meaning's rule.
-use Prim.Native.Nat.{ℕ, _≤_, _<_}
+use Prim.Native.Nat.{ℕ, _+_, _≤_, _<_}
 use mathlib.Core.Path.{_≡_, _∙_, ap}
 use mathlib.Core.Logic.{_⊎_, inl, inr, ⊎-elim}
-use mathlib.Core.Bool.{false, _&&_}
+use mathlib.Core.Bool.{Bool, false, _&&_, _||_}
 use mathlib.Core.List.{List}
 use native.Mathlib.Omega.{arith}
-use lib.Dec.{ltb, eqb}
+use lib.Dec.{leb, ltb, eqb}
+use Rattle.model.specs.Limits.{parameterRegister, bindingLength}
 use Rattle.model.specs.Image.{Node, designOf, commandAt, expressionAt}
 use Rattle.model.specs.Kinds.{CommandKind, ExpressionKind, commandKind, expressionKind, commandHolds, expressionHolds, commandKept, expressionKept}
 use Rattle.model.proofs.Laws.Kinds.{kind-skips, kind-assigns, kind-sequences, kind-falls, kind-goes, kind-branches, no-command-kind, expressionKinds, kind-constants, kind-reads, kind-operates, no-expression-kind}
@@ -13,6 +14,10 @@ use Rattle.design.specs.declared.Design.{Design}
 use Rattle.design.specs.Records.{nodeIn}
 use Rattle.design.specs.Describes.{Describes}
 use Rattle.design.proofs.Laws.{registers-count, states-count, expressions-count, command-in, expression-in}
+
+-- a register byte, among so many registers
+abbrev RegisterTest : ℕ → ℕ → Bool
+RegisterTest registers r = ltb r registers || (leb parameterRegister r && ltb r (parameterRegister + bindingLength))
 
 -- the fields of node n, read one by one
 pub record NodeIs (at : ℕ → Node) (n k i p q r : ℕ) : Type 0 where
@@ -81,21 +86,31 @@ module _ {image : List ℕ} {x : Design} (d : Describes image x) where
         (λ (e : k ≡ 3). rw (f .item, f .a, f .b, f .c) (command-of n (f .kind) (kind-falls e)))
         h
 
-    pub command-assign : k ≡ 1 → (ltb i (x .registers) && ltb a (x .expressions) && eqb b 0 && eqb c 0) ≡ commandKept (designOf image) n
+    pub command-assign : {g : Bool} → k ≡ 1 → g ≡ RegisterTest (x .registers) i → (g && ltb a (x .expressions) && eqb b 0 && eqb c 0) ≡ commandKept (designOf image) n
     unfolding commandHolds
-    command-assign e = rw (f .item, f .a, f .b, f .c, registers-count d, expressions-count d) (command-of n (f .kind) (kind-assigns e))
+    command-assign e g = rw (g, f .item, f .a, f .b, f .c, registers-count d, expressions-count d) (command-of n (f .kind) (kind-assigns e))
 
     pub command-sequence : k ≡ 2 → (eqb i 0 && ltb a n && ltb b n && eqb c 0) ≡ commandKept (designOf image) n
     unfolding commandHolds
     command-sequence e = rw (f .item, f .a, f .b, f .c) (command-of n (f .kind) (kind-sequences e))
 
-    pub command-goto : k ≡ 4 → (ltb i (x .states) && eqb a 0 && eqb b 0 && eqb c 0) ≡ commandKept (designOf image) n
-    unfolding commandHolds
-    command-goto e = rw (f .item, f .a, f .b, f .c, states-count d) (command-of n (f .kind) (kind-goes e))
-
     pub command-branch : k ≡ 5 → (eqb i 0 && ltb a (x .expressions) && ltb b n && ltb c n) ≡ commandKept (designOf image) n
     unfolding commandHolds
     command-branch e = rw (f .item, f .a, f .b, f .c, expressions-count d) (command-of n (f .kind) (kind-branches e))
+
+  -- the fields a and b of a goto are not asked
+  pub command-goto :
+      {n k i c : ℕ}
+      → k ≡ 4
+      → n < x .commands
+      → k ≡ nodeIn image (x .«commands_at») n .kind
+      → i ≡ nodeIn image (x .«commands_at») n .item
+      → c ≡ nodeIn image (x .«commands_at») n .c
+      → (ltb i (x .states) && eqb c 0) ≡ commandKept (designOf image) n
+  unfolding commandHolds
+  command-goto {n} e l k i c =
+      let same = command-in d l in
+      rw (i ∙ ap (λ (y : Node). y .item) same, c ∙ ap (λ (y : Node). y .c) same, states-count d) (command-of n (k ∙ ap (λ (y : Node). y .kind) same) (kind-goes e))
 
   pub command-unknown :
       {n k : ℕ}
@@ -140,9 +155,9 @@ module _ {image : List ℕ} {x : Design} (d : Describes image x) where
   expression-unknown {n} l same h = expression-of n (same ∙ ap (λ (y : Node). y .kind) (expression-in d l)) (no-expression-kind h)
 
   module _ {n k i a b c : ℕ} (f : NodeIs (expressionAt (designOf image)) n k i a b c) where
-    pub expression-register : k ≡ 1 → (ltb i (x .registers) && eqb a 0 && eqb b 0 && eqb c 0) ≡ expressionKept (designOf image) n
+    pub expression-register : {g : Bool} → k ≡ 1 → g ≡ RegisterTest (x .registers) i → (g && eqb a 0 && eqb b 0 && eqb c 0) ≡ expressionKept (designOf image) n
     unfolding expressionHolds
-    expression-register e = rw (f .item, f .a, f .b, f .c, registers-count d) (expression-of n (f .kind) (kind-reads e))
+    expression-register e g = rw (g, f .item, f .a, f .b, f .c, registers-count d) (expression-of n (f .kind) (kind-reads e))
 
     pub expression-operation :
         (k ≡ 0 → ⊥) → (k ≡ 1 → ⊥) → k < expressionKinds → (eqb i 0 && ltb a n && ltb b n && eqb c 0) ≡ expressionKept (designOf image) n

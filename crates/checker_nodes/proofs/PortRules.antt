@@ -1,48 +1,81 @@
--- Whether a command names a port, tested on its kind byte and on the kind of its register, is the meaning's rule: where its record is kept, the register of an
--- assignment is one of the design's.
-use Prim.Native.Nat.{ℕ, _≤_, _<_}
-use mathlib.Core.Path.{_≡_, refl, sym, _∙_, ap}
-use mathlib.Core.Bool.{true, not}
+-- Whether a command names a port, tested on its kind byte and on the kinds of the registers that it names, is the meaning's rule: a number past the registers is no
+-- port's, and where its record is kept, a goto names a state.
+use Prim.Native.Nat.{ℕ, zero, suc, _≤_, _<_}
+use mathlib.Core.Path.{_≡_, refl, _∙_, ap}
+use mathlib.Core.Bool.{Bool, true, false, _&&_, not}
 use mathlib.Core.List.{List}
 use native.Mathlib.Omega.{arith}
-use lib.Dec.{eqb}
-use lib.ListN.{length}
-use Rattle.model.specs.Image.{Register, designOf, commandAt}
-use Rattle.model.specs.Kinds.{assigns, commandKind}
-use Rattle.model.specs.Ports.{sparesPorts, namesNoPort}
-use Rattle.model.proofs.Laws.Kinds.{kind-assigns, assigns-number}
-use Rattle.model.proofs.Exact.Records.{port-iff}
+use lib.Dec.{ltb, eqb}
+use lib.ListN.{List·getD-eq-default}
+use Rattle.model.specs.Image.{Design as Table, Register, State, Node, noRegister, designOf, registerAt, commandAt}
+use Rattle.model.specs.States.{isPort}
+use Rattle.model.specs.Kinds.{assigns, goes, commandKind}
+use Rattle.model.specs.Ports.{fieldSparesPorts, sparesPorts, namesNoPort}
+use Rattle.model.proofs.Laws.Kinds.{kind-assigns, kind-goes}
 use Rattle.design.specs.declared.Design.{Design}
-use Rattle.design.specs.Records.{nodeIn, registerIn, registerEnd}
+use Rattle.design.specs.Records.{nodeIn, registerIn, stateIn}
+use Rattle.design.specs.Describes.{Describes}
 use Rattle.design.specs.Kept.{RecordsKept}
 use Rattle.design.specs.RecordsAt.{CommandAt}
-use Rattle.design.proofs.Laws.{registers-count, register-inside, register-in}
-use Rattle.design.proofs.FieldRules.{command-at, command-kind-is, command-kind-of, item-is, assigned-register}
+use Rattle.design.proofs.Laws.{registers-count, states-count, register-in, state-in}
+use Rattle.design.proofs.FieldRules.{command-at, command-kind-is, command-kind-of, item-is, a-is, b-is, named-state}
+
+-- only an assignment and a goto are asked
+unasked : (d : Table) (k : ℕ) (x : Node) → (k ≡ 1 → ⊥) → (k ≡ 4 → ⊥) → true ≡ sparesPorts d (commandKind k) x
+unfolding sparesPorts commandKind
+unasked d zero x one four = refl
+unasked d (suc zero) x one four = absurd (one refl)
+unasked d (suc (suc zero)) x one four = refl
+unasked d (suc (suc (suc zero))) x one four = refl
+unasked d (suc (suc (suc (suc zero)))) x one four = absurd (four refl)
+unasked d (suc (suc (suc (suc (suc zero))))) x one four = refl
+unasked d (suc (suc (suc (suc (suc (suc k)))))) x one four = refl
+
+module _ {image : List ℕ} {x : Design} (d : Describes image x) where
+  -- ---- ports
+  pub port-none : {r : ℕ} → x .registers ≤ r → false ≡ isPort (designOf image) r
+  port-none {r} l =
+      let count = registers-count d in
+      let none : registerAt (designOf image) r ≡ noRegister = List·getD-eq-default (designOf image .registers) noRegister (omega arith) in
+      rw none refl
+
+  pub port-kind : {r k : ℕ} → r < x .registers → k ≡ registerIn image (x .«registers_at») r .kind → eqb k 1 ≡ isPort (designOf image) r
+  port-kind l e = rw (e ∙ ap (λ (y : Register). y .kind) (register-in d l))
+
+  -- ---- a goto's field
+  pub field-rule : {t m : ℕ} {p : Bool} (j r : ℕ) → p ≡ isPort (designOf image) r → t < x .states → m ≡ stateIn image (x .«states_at») t .parameters → not (ltb j m && p) ≡ fieldSparesPorts (designOf image) t j r
+  unfolding fieldSparesPorts
+  field-rule j r p l m = rw (p, m ∙ ap (λ (y : State). y .parameters) (state-in d l))
 
 module _ {image : List ℕ} {x : Design} {n : ℕ} (known : RecordsKept image x) (l : n < x .commands) where
   here : CommandAt image x (x .«commands_at») n
   here = command-at (known .describes) (known .commands) l refl
 
-  -- the register of an assignment
-  assigned : {k r : ℕ} → k ≡ 1 → k ≡ nodeIn image (x .«commands_at») n .kind → r ≡ nodeIn image (x .«commands_at») n .item → r < x .registers
-  assigned q p f = let count = registers-count (known .describes) in let below = assigned-register here q p f in omega arith
-
-  pub assigned-inside : {k r : ℕ} → k ≡ 1 → k ≡ nodeIn image (x .«commands_at») n .kind → r ≡ nodeIn image (x .«commands_at») n .item
-      → registerEnd (x .«registers_at») r ≤ length image
-  assigned-inside q p f = register-inside (known .describes) (assigned q p f)
-
-  pub assignment-rule : {k r p : ℕ} → k ≡ 1 → k ≡ nodeIn image (x .«commands_at») n .kind → r ≡ nodeIn image (x .«commands_at») n .item
-      → p ≡ registerIn image (x .«registers_at») r .kind
-      → not (eqb p 1) ≡ namesNoPort (designOf image) n
+  -- ---- commands, by kind
+  pub assignment-rule : {k r : ℕ} {p : Bool} → k ≡ 1 → p ≡ isPort (designOf image) r → k ≡ nodeIn image (x .«commands_at») n .kind → r ≡ nodeIn image (x .«commands_at») n .item
+      → not p ≡ namesNoPort (designOf image) n
   unfolding namesNoPort sparesPorts
-  assignment-rule q p f g =
-      let kind = g ∙ ap (λ (y : Register). y .kind) (register-in (known .describes) (assigned q p f)) in
-      rw (command-kind-of here assigns q p (kind-assigns refl), kind, item-is here f)
+  assignment-rule q p k f = rw (p, command-kind-of here assigns q k (kind-assigns refl), item-is here f)
+
+  pub goto-state : {k t : ℕ} → k ≡ 4 → k ≡ nodeIn image (x .«commands_at») n .kind → t ≡ nodeIn image (x .«commands_at») n .item → t < x .states
+  goto-state q k f = let count = states-count (known .describes) in let below = named-state here q k f in omega arith
+
+  pub goto-rule :
+      {k t a b : ℕ} {f g : Bool}
+      → k ≡ 4
+      → f ≡ fieldSparesPorts (designOf image) t 0 a
+      → g ≡ fieldSparesPorts (designOf image) t 1 b
+      → k ≡ nodeIn image (x .«commands_at») n .kind
+      → t ≡ nodeIn image (x .«commands_at») n .item
+      → a ≡ nodeIn image (x .«commands_at») n .a
+      → b ≡ nodeIn image (x .«commands_at») n .b
+      → (f && g) ≡ namesNoPort (designOf image) n
+  unfolding namesNoPort sparesPorts
+  goto-rule q f g k t a b = rw (f, g, command-kind-of here goes q k (kind-goes refl), item-is here t, a-is here a, b-is here b)
 
   -- no other command is asked
-  pub other-rule : {k : ℕ} → (k ≡ 1 → ⊥) → k ≡ nodeIn image (x .«commands_at») n .kind → true ≡ namesNoPort (designOf image) n
-  other-rule other p =
-      let kind = command-kind-is here refl p in
-      sym (port-iff (designOf image) n .1 (λ is. absurd (other (sym kind ∙ assigns-number (commandAt (designOf image) n .kind) is))))
+  pub other-rule : {k : ℕ} → (k ≡ 1 → ⊥) → (k ≡ 4 → ⊥) → k ≡ nodeIn image (x .«commands_at») n .kind → true ≡ namesNoPort (designOf image) n
+  unfolding namesNoPort
+  other-rule {k} one four p = rw (command-kind-is here {k = k} {m = k} refl p) (unasked (designOf image) k (commandAt (designOf image) n) one four)
 
-pub ruleset port-rules = (assigned-inside, assignment-rule, other-rule)
+pub ruleset port-rules = (assignment-rule, goto-state, goto-rule, other-rule)

@@ -1,12 +1,26 @@
 // Refusal 5: a node is judged by its record. A match on the kind byte decides what the fields hold.
 use design::Design;
-ghost use Prim.Native.Nat.{_<_};
+ghost use Prim.Native.Nat.{_+_, _<_};
 ghost use mathlib.Core.Path.{_≡_};
+ghost use mathlib.Core.Bool.{_&&_, _||_};
+ghost use lib.Dec.{leb, ltb};
+ghost use Rattle.model.specs.Limits.{parameterRegister, bindingLength};
 ghost use Rattle.model.specs.Image.{designOf};
 ghost use Rattle.model.specs.Kinds.{commandKept, expressionKept};
 ghost use Rattle.design.specs.Describes.{Describes};
 
-// Command n has a kind, and its fields hold what the kind asks for.
+// A register byte: a register's number, or a byte that names a parameter. Refusal 19 judges whether
+// there is one.
+fn names_register(design: Design, r: usize) -> bool
+    ensures { λ x. ⌜ x ≡ (ltb r (design .registers) || (leb parameterRegister r && ltb r (parameterRegister + bindingLength))) ⌝ }
+{
+    (r < design.registers)
+        | ((Design::PARAMETER_REGISTER <= r)
+            & (r < Design::PARAMETER_REGISTER + Design::BINDING_LENGTH))
+}
+
+// Command n has a kind, and its fields hold what the kind asks for. The arguments of a goto, in a and b,
+// are for refusals 16 and 19.
 pub fn command_kept(image: &[u8], design: Design, n: usize) -> bool
     requires { ⌜ Describes (now image) design × (n < design .commands) ⌝ }
     ensures { λ x. ⌜ x ≡ commandKept (designOf (now (image .entry))) n ⌝ }
@@ -19,9 +33,9 @@ pub fn command_kept(image: &[u8], design: Design, n: usize) -> bool
     let c = Design::part_c(image, at, n);
     match kind {
         0 | 3 => (item == 0) & (a == 0) & (b == 0) & (c == 0),
-        1 => (item < design.registers) & (a < design.expressions) & (b == 0) & (c == 0),
+        1 => names_register(design, item) & (a < design.expressions) & (b == 0) & (c == 0),
         2 => (item == 0) & (a < n) & (b < n) & (c == 0),
-        4 => (item < design.states) & (a == 0) & (b == 0) & (c == 0),
+        4 => (item < design.states) & (c == 0),
         5 => (item == 0) & (a < design.expressions) & (b < n) & (c < n),
         _ => false,
     }
@@ -40,7 +54,7 @@ pub fn expression_kept(image: &[u8], design: Design, n: usize) -> bool
     let c = Design::part_c(image, at, n);
     match kind {
         0 => (item == 0) & (a == 0),
-        1 => (item < design.registers) & (a == 0) & (b == 0) & (c == 0),
+        1 => names_register(design, item) & (a == 0) & (b == 0) & (c == 0),
         2..=11 => (item == 0) & (a < n) & (b < n) & (c == 0),
         _ => false,
     }

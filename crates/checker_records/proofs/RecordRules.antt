@@ -1,16 +1,16 @@
 -- A rule of a register or a state, tested on the fields that the accessors read, is the meaning's rule.
-use Prim.Native.Nat.{ℕ, zero, suc, _≤_, _<_, _^_}
+use Prim.Native.Nat.{ℕ, zero, suc, _+_, _≤_, _<_, _^_}
 use mathlib.Core.Path.{_≡_, refl, sym, _∙_, ap}
-use mathlib.Core.Bool.{Bool, true, false, _&&_}
+use mathlib.Core.Bool.{Bool, true, false, _&&_, _||_}
 use mathlib.Core.List.{List}
 use native.Mathlib.Omega.{arith}
 use lib.Dec.{ltb, leb, eqb}
 use borrow.Author.Tests.{le-leb}
 use lib.ListN.{length, getD}
-use Rattle.model.specs.Limits.{widthMax}
+use Rattle.model.specs.Limits.{widthMax, parameterLabel, bindingLength}
 use Rattle.model.specs.Image as Image
-use Rattle.model.specs.Image.{Register, State, designOf, registerAt}
-use Rattle.model.specs.Lattice.{flowsTo, stateLabel}
+use Rattle.model.specs.Image.{Register, State, designOf, registerAt, stateAt}
+use Rattle.model.specs.Lattice.{stateLabel}
 use Rattle.model.specs.States.{widthKept, registerKept, parent, parentKept, stateKept, defaultTarget}
 use Rattle.model.specs.Trees.{bodyOf}
 use Rattle.model.specs.Values.{oneOrZero}
@@ -18,22 +18,28 @@ use Rattle.model.specs.Falls.{holdsFall, isFallenInto, childLabelKept}
 use Rattle.model.proofs.Laws.Booleans.{false-unless-true, true-or-false}
 use Rattle.model.proofs.Laws.States.{child-of, is-child}
 use Rattle.model.proofs.Exact.Falls.{holds-iff, fallen-iff}
-use Rattle.model.proofs.Exact.Records.{register-iff, state-iff}
+use Rattle.model.proofs.Exact.Records.{register-iff}
 use Rattle.design.specs.declared.Design.{Design}
 use Rattle.design.specs.Records.{registerIn, stateIn, stateEnd}
 use Rattle.design.specs.Describes.{Describes}
-use Rattle.design.specs.Kept.{StatesKept}
+use Rattle.design.specs.Kept.{StatesKept, ParametersKept}
 use Rattle.design.specs.Resets.{Defaults}
 use Rattle.design.specs.Falls.{FallsTold}
+use Rattle.design.specs.Scopes.{LabelByte}
 use Rattle.design.proofs.Laws.{labels-count, states-count, commands-count, register-in, state-in, state-inside}
-use Rattle.design.proofs.ResetRules.{state-fits, parent-is, parent-inside}
-use Rattle.checker_records.proofs.LatticeRules.{label-small}
+use Rattle.design.proofs.ResetRules.{state-fits, parent-is, parent-inside, parent-lower}
+use Rattle.design.proofs.BoundRules.{state-label-byte, child-label-byte}
+use Rattle.checker_records.specs.Bounds.{flowsForEach}
 
 -- ---- rules of a state that ask whether it is the root
-root-is : (y : Image.Design) (s : ℕ) {p l : ℕ} → s ≡ 0 → p ≡ parent y s → l ≡ stateLabel y s → (eqb p 0 && eqb l 0) ≡ parentKept y s
+-- a label byte that stands for a parameter's label
+abbrev ParameterTest : ℕ → Bool
+ParameterTest l = leb parameterLabel l && ltb l (parameterLabel + bindingLength)
+
+root-is : (y : Image.Design) (s : ℕ) {p l : ℕ} {b : Bool} → s ≡ 0 → p ≡ parent y s → l ≡ stateLabel y s → b ≡ ParameterTest l → (eqb p 0 && (eqb l 0 || b)) ≡ parentKept y s
 unfolding parentKept
-root-is y zero z p l = rw (p, l)
-root-is y (suc s) z p l = absurd (omega arith)
+root-is y zero z p l b = rw (b, p, l)
+root-is y (suc s) z p l b = absurd (omega arith)
 
 child-is : (y : Image.Design) (s : ℕ) {p : ℕ} → (s ≡ 0 → ⊥) → p ≡ parent y s → ltb p s ≡ parentKept y s
 unfolding parentKept
@@ -55,8 +61,8 @@ module _ (y : Image.Design) (s : ℕ) where
   other-default : (defaultTarget y (parent y s) ≡ s → ⊥) → true ≡ childLabelKept y s
   other-default h = passed-over (λ e. h (fallen-iff y s .0 e .1))
 
-  child-label-is : {b : Bool} → (s ≡ 0 → ⊥) → s < length (y .states) → holdsFall (bodyOf y (parent y s)) ≡ true → defaultTarget y (parent y s) ≡ s → b ≡ flowsTo (y .rows) (stateLabel y (parent y s)) (stateLabel y s) → b ≡ childLabelKept y s
-  unfolding childLabelKept
+  child-label-is : {b : Bool} → (s ≡ 0 → ⊥) → s < length (y .states) → holdsFall (bodyOf y (parent y s)) ≡ true → defaultTarget y (parent y s) ≡ s → b ≡ flowsForEach y s (stateLabel y (parent y s)) (stateLabel y s) → b ≡ childLabelKept y s
+  unfolding childLabelKept flowsForEach
   child-label-is n l h e b =
       rw (fallen-iff y s .1 (is-child y (parent y s) s (record { no-root = n; state = l; parent-is = refl }), e, holds-iff .0 h)) b
 
@@ -99,39 +105,55 @@ module _ {image : List ℕ} {x : Design} (d : Describes image x) where
         )
 
   -- ---- states. The root's rules, and those of any other state
-  pub root-rule : {s p l : ℕ} → s < x .states → s ≡ 0 → p ≡ stateIn image (x .«states_at») s .parent → l ≡ stateIn image (x .«states_at») s .label
-      → (eqb p 0 && eqb l 0) ≡ parentKept (designOf image) s
-  root-rule {s} h z p l =
+  pub root-rule : {s p l : ℕ} {b : Bool} → s < x .states → s ≡ 0 → p ≡ stateIn image (x .«states_at») s .parent → l ≡ stateIn image (x .«states_at») s .label
+      → b ≡ ParameterTest l → (eqb p 0 && (eqb l 0 || b)) ≡ parentKept (designOf image) s
+  root-rule {s} h z p l b =
       let same = state-in d h in
-      root-is (designOf image) s z (p ∙ ap (λ (y : State). y .parent) same) (l ∙ ap (λ (y : State). y .label) same)
+      root-is (designOf image) s z (p ∙ ap (λ (y : State). y .parent) same) (l ∙ ap (λ (y : State). y .label) same) b
 
   pub child-rule : {s p : ℕ} → s < x .states → (s ≡ 0 → ⊥) → p ≡ stateIn image (x .«states_at») s .parent → ltb p s ≡ parentKept (designOf image) s
   child-rule {s} h n p = child-is (designOf image) s n (p ∙ ap (λ (y : State). y .parent) (state-in d h))
 
-  pub state-rule : {s l c : ℕ} {b : Bool} → s < x .states → b ≡ parentKept (designOf image) s → l ≡ stateIn image (x .«states_at») s .label
-      → c ≡ stateIn image (x .«states_at») s .command → (b && ltb l (x .labels) && ltb c (x .commands)) ≡ stateKept (designOf image) s
+  pub state-rule : {s l c : ℕ} {b n : Bool} → s < x .states → b ≡ parentKept (designOf image) s → l ≡ stateIn image (x .«states_at») s .label
+      → n ≡ ParameterTest l → c ≡ stateIn image (x .«states_at») s .command → (b && (ltb l (x .labels) || n) && ltb c (x .commands)) ≡ stateKept (designOf image) s
   unfolding stateKept
-  state-rule h b p q =
+  state-rule h b p n q =
       let same = state-in d h in
-      rw (b, p ∙ ap (λ (y : State). y .label) same, q ∙ ap (λ (y : State). y .command) same, labels-count d, commands-count d)
+      rw (b, n, p ∙ ap (λ (y : State). y .label) same, q ∙ ap (λ (y : State). y .command) same, labels-count d, commands-count d)
 
   -- ---- children, where every state is kept
   module _ (kept : StatesKept (designOf image)) where
-    -- the label of a state is a label
-    state-labelled : {s l : ℕ} → s < x .states → l ≡ stateIn image (x .«states_at») s .label → l < x .labels
-    state-labelled {s} h p =
-        let label = state-iff (designOf image) s .0 (kept .kept s (omega (arith, states-count d))) .label in
-        let same = p ∙ ap (λ (y : State). y .label) (state-in d h) in
-        omega (arith, labels-count d)
+    -- the label bytes of a state and of its parent stand for labels in its scope
+    module _ {s p : ℕ} (h : s < x .states) (some : 0 < s) (e : p ≡ stateAt (designOf image) s .parent) where
+      above-inside : p < x .states
+      above-inside = let count = states-count d in let lower = parent-lower (designOf image) kept s (omega arith) (λ z. omega arith) in omega arith
 
-    pub parent-record : {s p : ℕ} → s < x .states → p ≡ stateIn image (x .«states_at») s .parent → stateEnd (x .«states_at») p ≤ length image
-    parent-record h p = state-inside d (parent-inside d kept h p)
+      pub above-record : stateEnd (x .«states_at») p ≤ length image
+      above-record = state-inside d above-inside
 
-    pub parent-labelled : {s p l : ℕ} → s < x .states → p ≡ stateIn image (x .«states_at») s .parent → l ≡ stateIn image (x .«states_at») p .label → l < x .labels
-    parent-labelled h p q = state-labelled (parent-inside d kept h p) q
+      above-label : {f : ℕ} → f ≡ stateIn image (x .«states_at») p .label → f ≡ stateLabel (designOf image) (parent (designOf image) s)
+      above-label q = q ∙ ap (λ (y : State). y .label) (state-in d above-inside) ∙ ap (stateLabel (designOf image)) e
 
-    pub state-label-small : {s l : ℕ} → s < x .states → l ≡ stateIn image (x .«states_at») s .label → l < 64
-    state-label-small h p = label-small d (state-labelled h p)
+      own-label : {t : ℕ} → t ≡ stateIn image (x .«states_at») s .label → t ≡ stateLabel (designOf image) s
+      own-label q = q ∙ ap (λ (y : State). y .label) (state-in d h)
+
+      module _ (parameters : ParametersKept (designOf image)) where
+        pub own-label-byte : {t : ℕ} → t ≡ stateIn image (x .«states_at») s .label → LabelByte (designOf image) s t
+        own-label-byte q = let count = states-count d in rw (own-label q) (state-label-byte kept parameters s (omega arith))
+
+        pub above-label-byte : {f : ℕ} → f ≡ stateIn image (x .«states_at») p .label → LabelByte (designOf image) s f
+        above-label-byte q =
+            let count = states-count d in
+            let inside = above-inside in
+            rw (above-label q) (child-label-byte kept (omega arith) (λ z. omega arith) (state-label-byte kept parameters (parent (designOf image) s) (omega arith)))
+
+      pub above-rule :
+          {f t : ℕ} {b : Bool}
+          → b ≡ flowsForEach (designOf image) s f t
+          → f ≡ stateIn image (x .«states_at») p .label
+          → t ≡ stateIn image (x .«states_at») s .label
+          → b ≡ flowsForEach (designOf image) s (stateLabel (designOf image) (parent (designOf image) s)) (stateLabel (designOf image) s)
+      above-rule b from to = rw (← (above-label from), ← (own-label to)) b
 
     module _ {defaults falls : List ℕ} (told : Defaults (designOf image) defaults) (fell : FallsTold (designOf image) falls) {s p : ℕ} (h : s < x .states) (e : p ≡ stateIn image (x .«states_at») s .parent) where
       parent-state : p < length (designOf image .states)
@@ -156,23 +178,25 @@ module _ {image : List ℕ} {x : Design} (d : Describes image x) where
       pub passes-other : (getD defaults p 0 ≡ s → ⊥) → true ≡ childLabelKept (designOf image) s
       passes-other n = other-default (designOf image) s (λ z. n (default ∙ z))
 
+      pub parent-known : p ≡ stateAt (designOf image) s .parent
+      parent-known = parent-is d h e
+
       pub child-label-rule :
-          {f t : ℕ} {b : Bool}
+          {b : Bool}
+          → b ≡ flowsForEach (designOf image) s (stateLabel (designOf image) (parent (designOf image) s)) (stateLabel (designOf image) s)
           → (s ≡ 0 → ⊥)
           → (getD falls p 0 ≡ 0 → ⊥)
           → getD defaults p 0 ≡ s
-          → f ≡ stateIn image (x .«states_at») p .label
-          → t ≡ stateIn image (x .«states_at») s .label
-          → b ≡ flowsTo (designOf image .rows) f t
           → b ≡ childLabelKept (designOf image) s
-      child-label-rule {f} {t} n z o from to b =
-          let count = states-count d in
-          let above : f ≡ stateLabel (designOf image) (parent (designOf image) s) = from ∙ ap (λ (y : State). y .label) (state-in d (parent-inside d kept h e)) ∙ ap (stateLabel (designOf image)) (parent-is d h e) in
-          let own : t ≡ stateLabel (designOf image) s = to ∙ ap (λ (y : State). y .label) (state-in d h) in
-          child-label-is (designOf image) s n (omega arith) (held-some (λ y. z (held ∙ y))) (sym default ∙ o) (rw (← above, ← own) b)
+      child-label-rule b n z o = let count = states-count d in child-label-is (designOf image) s n (omega arith) (held-some (λ y. z (held ∙ y))) (sym default ∙ o) b
+
+pub some-state : {s : ℕ} → (s ≡ 0 → ⊥) → 0 < s
+some-state n = omega (arith, n)
 
 -- the laws of a state's label and its parent's, for `search`
-pub ruleset child-laws = (root-child, parent-record, parent-labelled, state-label-small, fall-entry, default-entry, state-fits, passes-no-fall, passes-other, child-label-rule)
+pub ruleset child-laws = (root-child, fall-entry, default-entry, state-fits, passes-no-fall, passes-other, parent-known, some-state, child-label-rule)
+
+pub ruleset above-laws = (above-record, own-label-byte, above-label-byte, above-rule)
 
 -- the laws of a register's record, for `search`
 pub ruleset register-laws = (too-narrow, too-wide, register-rule)

@@ -1,2 +1,5 @@
--- What the contracts of this crate cite: rows as masks, and the tests of two labels, by name.
+-- What the contracts of this crate cite: rows as masks, the tests of two labels, by name, the labels that a label byte stands for, and what the pass over
+-- parameters tells.
 pub mod LabelTests
+pub mod Bounds
+pub mod ParameterTests

@@ -1,30 +1,25 @@
 use Rattle.checker_nodes.proofs.NodeRules.{command-rules}
-use Rattle.design.proofs.Laws.{command-inside}
 use borrow.Author.Needs.{needs}
 use Rattle.checker_nodes.proofs.kinds.command_kept.Statement.{statement}
 use Rattle.checker_nodes.proofs.kinds.command_kept.Tie as tie
-use Rattle.checker_nodes.proofs.kinds.command_kept.Reads as reads
-use Rattle.checker_nodes.proofs.kinds.command_kept.Lts as lts
-use Rattle.design.proofs.Design.item.Reads as item-reads
-use Rattle.design.proofs.Design.kind.Reads as kind-reads
-use Rattle.design.proofs.Design.part_a.Reads as part-a-reads
-use Rattle.design.proofs.Design.part_b.Reads as part-b-reads
-use Rattle.design.proofs.Design.part_c.Reads as part-c-reads
 
 kind-requires : tie.Need-kind-requires
-kind-requires c κs = search (command-inside, needs)
+kind-requires c κs = search needs
 
 item-requires : tie.Need-item-requires
-item-requires c κs = search (command-inside, needs)
+item-requires c κs = search needs
 
 part-a-requires : tie.Need-part-a-requires
-part-a-requires c κs = search (command-inside, needs)
+part-a-requires c κs = search needs
 
 part-b-requires : tie.Need-part-b-requires
-part-b-requires c κs = search (command-inside, needs)
+part-b-requires c κs = search needs
 
 part-c-requires : tie.Need-part-c-requires
-part-c-requires c κs = search (command-inside, needs)
+part-c-requires c κs = search needs
+
+names-register-requires : tie.Need-names-register-requires
+names-register-requires c κs = search needs
 
 returns : tie.Need-returns
 returns c = search (command-rules, needs)
@@ -53,6 +48,7 @@ command-kept-spec =
     part-a-requires
     part-b-requires
     part-c-requires
+    names-register-requires
     returns
     returns-2
     returns-3

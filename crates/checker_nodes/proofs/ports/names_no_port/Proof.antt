@@ -1,17 +1,31 @@
 use Rattle.checker_nodes.proofs.PortRules.{port-rules}
-use Rattle.design.proofs.Laws.{command-inside}
 use borrow.Author.Needs.{needs}
 use Rattle.checker_nodes.proofs.ports.names_no_port.Statement.{statement}
 use Rattle.checker_nodes.proofs.ports.names_no_port.Tie as tie
 
 kind-requires : tie.Need-kind-requires
-kind-requires c κs = search (command-inside, needs)
+kind-requires c κs = search needs
 
 item-requires : tie.Need-item-requires
-item-requires c κs = search (command-inside, needs)
+item-requires c κs = search needs
 
-register-kind-requires : tie.Need-register-kind-requires
-register-kind-requires c κs = search (port-rules, needs)
+is-port-requires : tie.Need-is-port-requires
+is-port-requires c κs = search needs
+
+item-requires-2 : tie.Need-item-requires-2
+item-requires-2 c κs = search needs
+
+part-a-requires : tie.Need-part-a-requires
+part-a-requires c κs = search needs
+
+part-b-requires : tie.Need-part-b-requires
+part-b-requires c κs = search needs
+
+field-spares-ports-requires : tie.Need-field-spares-ports-requires
+field-spares-ports-requires c κs = search (port-rules, needs)
+
+field-spares-ports-requires-2 : tie.Need-field-spares-ports-requires-2
+field-spares-ports-requires-2 c κs = search (port-rules, needs)
 
 returns : tie.Need-returns
 returns c = search (port-rules, needs)
@@ -19,5 +33,21 @@ returns c = search (port-rules, needs)
 returns-2 : tie.Need-returns-2
 returns-2 c = search (port-rules, needs)
 
+returns-3 : tie.Need-returns-3
+returns-3 c = search (port-rules, needs)
+
 pub names-no-port-spec : {M : Type 1} → statement M
-names-no-port-spec = tie.close (tie.spec kind-requires item-requires register-kind-requires returns returns-2)
+names-no-port-spec =
+    tie.close
+    (tie.spec
+    kind-requires
+    item-requires
+    is-port-requires
+    item-requires-2
+    part-a-requires
+    part-b-requires
+    field-spares-ports-requires
+    field-spares-ports-requires-2
+    returns
+    returns-2
+    returns-3)

@@ -1,5 +1,4 @@
 use Rattle.checker_records.proofs.RecordRules.{child-laws}
-use Rattle.design.proofs.Laws.{state-inside}
 use borrow.Author.Needs.{needs}
 use Rattle.checker_records.proofs.states.child_label_kept.Statement.{statement}
 use Rattle.checker_records.proofs.states.child_label_kept.Tie as tie
@@ -8,7 +7,7 @@ returns : tie.Need-returns
 returns c = search (child-laws, needs)
 
 parent-requires : tie.Need-parent-requires
-parent-requires c κs = search (state-inside, needs)
+parent-requires c κs = search needs
 
 shared-slice-read-if2 : tie.Need-shared-slice-read-if2
 shared-slice-read-if2 c = search (child-laws, needs)
@@ -25,14 +24,8 @@ cast-if3 c = search (child-laws, needs)
 returns-3 : tie.Need-returns-3
 returns-3 c = search (child-laws, needs)
 
-state-label-requires : tie.Need-state-label-requires
-state-label-requires c κs = search (child-laws, needs)
-
-state-label-requires-2 : tie.Need-state-label-requires-2
-state-label-requires-2 c κs = search (state-inside, needs)
-
-flows-requires : tie.Need-flows-requires
-flows-requires c κs = search (child-laws, needs)
+label-above-requires : tie.Need-label-above-requires
+label-above-requires c κs = search (child-laws, needs)
 
 returns-4 : tie.Need-returns-4
 returns-4 c = search (child-laws, needs)
@@ -48,7 +41,5 @@ child-label-kept-spec =
     shared-slice-read-if3
     cast-if3
     returns-3
-    state-label-requires
-    state-label-requires-2
-    flows-requires
+    label-above-requires
     returns-4)

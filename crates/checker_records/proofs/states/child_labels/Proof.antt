@@ -8,10 +8,10 @@ use Rattle.checker_records.proofs.states.child_labels.Statement.{statem
 use Rattle.checker_records.proofs.states.child_labels.Tie as tie
 
 abbrev Inv-loop : tie.InvT-loop
-Inv-loop image design defaults falls s₀ s = Passed (childLabelKept (designOf image)) s
+Inv-loop image design defaults falls scopes s₀ s = Passed (childLabelKept (designOf image)) s
 
 abbrev μ-loop : tie.MeasureT-loop
-μ-loop image design defaults falls s₀ s = design .states - s
+μ-loop image design defaults falls scopes s₀ s = design .states - s
 
 loop-holds : tie.Need-loop-holds Inv-loop μ-loop
 loop-holds c = search (pass-laws, needs)
