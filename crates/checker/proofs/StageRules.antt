@@ -1,5 +1,5 @@
 -- The verdict from a pass on: what the pass found, before what follows; and what is known once a pass has found nothing.
-use Prim.Native.Nat.{ℕ, _+_, _<_}
+use Prim.Native.Nat.{ℕ, _+_, _*_, _≤_, _<_}
 use mathlib.Core.Path.{_≡_, refl, sym, _∙_, ap}
 use mathlib.Core.Bool.{Bool, true, false, not}
 use mathlib.Core.List.{List}
@@ -16,6 +16,7 @@ use Rattle.model.specs.declared.Answer.the-variants.{Accepted, Refused}
 use Rattle.model.specs.Indices.{lowestFailing, joinBelow}
 use Rattle.model.specs.Limits.{commandsMax, expressionsMax}
 use Rattle.model.specs.Image.{Design as Table, directoryKept, designOf}
+use Rattle.model.specs.Lattice.{labelKept}
 use Rattle.model.specs.States.{registerKept, stateKept}
 use Rattle.model.specs.Kinds.{commandKept, expressionKept}
 use Rattle.model.specs.Flow.{flowAnswer}
@@ -23,19 +24,23 @@ use Rattle.model.specs.Rules.{DirectoryKeeps}
 use Rattle.model.specs.Verdict.{_before_, refusedAt, commandsFirst, lowestNode, designStructure, structure, verdict}
 use Rattle.model.proofs.Laws.Booleans.{not-true, not-false}
 use Rattle.model.proofs.Laws.Indices.{failing-none, lowest-failing-below}
+use Rattle.model.specs.Parameters.{parametersKept}
 use Rattle.model.proofs.Exact.Directories.{directory-iff}
+use Rattle.model.proofs.Exact.Labels.{lattice-iff}
 use Rattle.design.specs.declared.Design.{Design}
 use Rattle.design.specs.Describes.{Describes}
 use Rattle.design.proofs.Laws.{expressions-count, expressions-most}
-use Rattle.design.specs.Kept.{RegistersKept, StatesKept, RecordsKept}
+use Rattle.design.specs.Kept.{LatticeKept, RegistersKept, StatesKept, ParametersKept, RecordsKept}
+use Rattle.design.specs.Scopes.{Scopes}
 use Rattle.checker_nodes.specs.Tables.{commandOf, countUses, CommandsPassed, ExpressionsPassed, NodesPassed, NodesTold}
 use Rattle.checker_nodes.proofs.CountRules.{count-append}
 use Rattle.checker_nodes.proofs.UseRules.{command-uses-told, expression-uses-told}
 use Rattle.checker_nodes.proofs.DepthRules.{command-depths-told, expression-depths-told}
 use Rattle.design.specs.Resets.{withDefaults}
-use Rattle.design.proofs.ResetRules.{fresh-defaults}
+use Rattle.design.proofs.ResetRules.{fresh-defaults, states-few}
+use Rattle.checker_records.specs.ParameterTests.{ParametersPassed}
 use Rattle.checker_bodies.specs.Shapes.{ShapeKnown, ShapesPassed}
-use Rattle.checker.specs.Stages.{ChildrenTold, fromChildren, fromPorts, fromShape, fromDepths, fromUses, fromNodes, fromStates, fromRegisters, fromLabels}
+use Rattle.checker.specs.Stages.{ChildrenTold, fromChildren, fromScopes, fromParameters, fromPorts, fromShape, fromDepths, fromUses, fromNodes, fromStates, fromRegisters, fromLabels}
 
 -- ---- a pass, and all that follow
 pub stage-refuses : (r : Refusal) (g : Found) (rest : Answer) {f : Found} {p : ℕ} → f ≡ g → f ≡ At p → Refused r p ≡ (refusedAt r g before rest)
@@ -75,6 +80,9 @@ pub place-fits : {f : Found} {n : ℕ} → ((m : ℕ) → f ≡ At m → m < exp
 place-fits {n = n} h e = let small = h n e in record { fits = omega arith }
 
 -- ---- what is known once a pass has found nothing
+pub known-lattice : {d : Table} {f : Found} → f ≡ Nowhere → f ≡ lowestFailing (labelKept (d .rows)) (length (d .rows)) → LatticeKept d
+known-lattice {d} h p = record { lattice = lattice-iff (d .rows) .0 (sym p ∙ h) }
+
 pub known-registers : {d : Table} {f : Found} → f ≡ lowestFailing (registerKept d) (length (d .registers)) → f ≡ Nowhere → RegistersKept d
 known-registers {d} p h = record { kept = failing-none (registerKept d) (length (d .registers)) (sym p ∙ h) }
 
@@ -114,12 +122,13 @@ both-none : (d : Table) {f : Found} → f ≡ Nowhere → f ≡ lowestNode d (co
 unfolding lowestNode
 both-none d h p = node-none (lowestFailing (commandKept d) (length (d .commands))) (lowestFailing (expressionKept d) (length (d .expressions))) (sym p ∙ h)
 
-pub known-nodes : {image : List ℕ} {x : Design} {f : Found} → f ≡ Nowhere → f ≡ lowestNode (designOf image) (commandKept (designOf image)) (expressionKept (designOf image)) → Describes image x → RegistersKept (designOf image) → StatesKept (designOf image) → RecordsKept image x
-known-nodes {image} h p describes registers states =
+pub known-nodes : {image : List ℕ} {x : Design} {f : Found} → f ≡ Nowhere → f ≡ lowestNode (designOf image) (commandKept (designOf image)) (expressionKept (designOf image)) → Describes image x → LatticeKept (designOf image) → RegistersKept (designOf image) → StatesKept (designOf image) → RecordsKept image x
+known-nodes {image} h p describes lattice registers states =
     let d = designOf image in
     let none = both-none d h p in
     record {
       describes = describes;
+      lattice = lattice;
       registers = registers;
       states = states;
       commands = record { kept = failing-none (commandKept d) (length (d .commands)) (none .0) };
@@ -144,6 +153,17 @@ shape-known known = record { describes = known .describes; states = known .state
 pub children-told : {image defaults falls : List ℕ} {x : Design} {f : Found} → f ≡ Nowhere → ShapesPassed (designOf image) f falls → RecordsKept image x → defaults ≡ withDefaults (designOf image) (replicate {A = ℕ} 64 0) → ChildrenTold (designOf image) defaults falls
 children-told h passed known e = record { targets = fresh-defaults (known .describes) e; held = passed .falls }
 
+-- what is known and told once refusal 19 has found no state
+pub known-parameters : {d : Table} {f : Found} {table : List ℕ} → f ≡ Nowhere → ParametersPassed d f table → ParametersKept d
+known-parameters {d} h passed = record { kept = failing-none (parametersKept d) (length (d .states)) (sym (passed .is) ∙ h) }
+
+pub scopes-told : {d : Table} {f : Found} {table : List ℕ} → f ≡ Nowhere → ParametersPassed d f table → Scopes d table
+scopes-told h passed = passed .scopes h
+
+-- a fresh table of scopes has an entry for each state
+pub scopes-fit : {image : List ℕ} {x : Design} → Describes image x → 3 * x .states ≤ 192
+scopes-fit d = let few = states-few d in omega arith
+
 -- the last pass
 pub searched-refuses : (r : Refusal) (g : Found) {f : Found} {p : ℕ} → f ≡ g → f ≡ At p → Refused r p ≡ refusedAt r g
 unfolding refusedAt
@@ -159,7 +179,7 @@ unfolding structure refusedAt _before_
 directory-refuses image {b} e h = rw (← e, not-true b h)
 
 pub directory-passes : (image : List ℕ) {b : Bool} {a : Answer} → b ≡ directoryKept image → not b ≡ false → a ≡ fromLabels (designOf image) → a ≡ structure image
-unfolding structure designStructure refusedAt _before_ fromLabels fromRegisters fromStates fromNodes fromUses fromDepths fromShape fromPorts fromChildren
+unfolding structure designStructure refusedAt _before_ fromLabels fromRegisters fromStates fromNodes fromUses fromDepths fromShape fromPorts fromParameters fromScopes fromChildren
 directory-passes image {b} e h k = k ∙ rw (← e, not-false b h)
 
 pub directory-keeps : (image : List ℕ) {b : Bool} → b ≡ directoryKept image → not b ≡ false → DirectoryKeeps image

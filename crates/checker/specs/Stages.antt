@@ -2,7 +2,7 @@
 use Prim.Native.Nat.{ℕ}
 use mathlib.Core.List.{List}
 use lib.ListN.{length}
-use Rattle.model.specs.declared.Refusal.the-variants.{LabelRow, RegisterRecord, StateRecord, NodeRecord, NodeUse, Depth, Shape, ChildLabel, PortAssigned}
+use Rattle.model.specs.declared.Refusal.the-variants.{LabelRow, RegisterRecord, StateRecord, NodeRecord, NodeUse, Depth, Shape, ChildLabel, PortAssigned, Parameter}
 use Rattle.model.specs.declared.Answer.{Answer}
 use Rattle.model.specs.Indices.{lowestFailing}
 use Rattle.model.specs.Image.{Design}
@@ -12,12 +12,14 @@ use Rattle.model.specs.Kinds.{commandKept, expressionKept}
 use Rattle.model.specs.Nodes.{commandUsedOnce, expressionUsedOnce, commandDepthKept, expressionDepthKept}
 use Rattle.model.specs.Shape.{shapeFault}
 use Rattle.model.specs.Ports.{namesNoPort}
+use Rattle.model.specs.Parameters.{parametersKept}
+use Rattle.model.specs.Scopes.{scopeFault}
 use Rattle.model.specs.Falls.{childLabelKept}
 use Rattle.model.specs.Verdict.{_before_, refusedAt, lowestNode}
 use Rattle.design.specs.Resets.{Defaults}
 use Rattle.design.specs.Falls.{FallsTold}
 
--- the tables that refusal 9 reads: the default target of each state, and which states hold a fall
+-- the tables that refusals 19 and 9 read: the default target of each state, and which states hold a fall
 pub record ChildrenTold (d : Design) (defaults falls : List ℕ) : Type 0 where
   pub targets : Defaults d defaults
   pub held : FallsTold d falls
@@ -25,8 +27,14 @@ pub record ChildrenTold (d : Design) (defaults falls : List ℕ) : Type 0 where
 unfoldable pub fromChildren : Design → Answer
 fromChildren d = refusedAt ChildLabel (lowestFailing (childLabelKept d) (length (d .states)))
 
+unfoldable pub fromScopes : Design → Answer
+fromScopes d = refusedAt Parameter (scopeFault d) before fromChildren d
+
+unfoldable pub fromParameters : Design → Answer
+fromParameters d = refusedAt Parameter (lowestFailing (parametersKept d) (length (d .states))) before fromScopes d
+
 unfoldable pub fromPorts : Design → Answer
-fromPorts d = refusedAt PortAssigned (lowestFailing (namesNoPort d) (length (d .commands))) before fromChildren d
+fromPorts d = refusedAt PortAssigned (lowestFailing (namesNoPort d) (length (d .commands))) before fromParameters d
 
 unfoldable pub fromShape : Design → Answer
 fromShape d = refusedAt Shape (shapeFault d) before fromPorts d

@@ -3,6 +3,7 @@
 mod flow;
 
 use design::Design;
+use design::scopes::SCOPE_LENGTH;
 use model::Answer;
 use model::Found;
 use model::Refusal;
@@ -15,9 +16,13 @@ ghost use Rattle.model.specs.Image.{designOf};
 ghost use Rattle.model.specs.Nodes.{commandUsedOnce, expressionUsedOnce, commandDepthKept, expressionDepthKept};
 ghost use Rattle.model.specs.Verdict.{commandsFirst, lowestNode, structure as structureOf, verdict as verdictOf};
 ghost use Rattle.design.specs.Describes.{Describes};
-ghost use Rattle.design.specs.Kept.{RegistersKept, StatesKept, RecordsKept};
+ghost use Rattle.design.specs.Kept.{LatticeKept, RegistersKept, StatesKept, ParametersKept, RecordsKept};
+ghost use Rattle.design.specs.Scopes.{Scopes};
 ghost use Rattle.checker_nodes.specs.Tables.{NodesPassed, OnceWhere, ShallowWhere, NodesTold};
-ghost use Rattle.checker.specs.Stages.{ChildrenTold, fromChildren, fromPorts, fromShape, fromDepths, fromUses, fromNodes, fromStates, fromRegisters, fromLabels};
+ghost use Rattle.checker.specs.Stages.{ChildrenTold, fromChildren, fromScopes, fromParameters, fromPorts, fromShape, fromDepths, fromUses, fromNodes, fromStates, fromRegisters, fromLabels};
+
+// The length of a table of scopes for the most states.
+const SCOPES: usize = SCOPE_LENGTH * Design::STATES;
 
 // A command's number, else an expression's place.
 fn commands_first(command: Found, expression: Found) -> Found
@@ -93,14 +98,45 @@ fn node_depths(image: &[u8], design: Design, commands: &[u8], expressions: &[u8]
 }
 
 // Refusal 9.
-fn from_children(image: &[u8], design: Design, defaults: &[u8], falls: &[u8]) -> Answer
-    requires { ⌜ RecordsKept (now image) design × ChildrenTold (designOf (now image)) (now defaults) (now falls) ⌝ }
+fn from_children(
+    image: &[u8],
+    design: Design,
+    defaults: &[u8],
+    falls: &[u8],
+    scopes: &[u8],
+) -> Answer
+    requires { ⌜ RecordsKept (now image) design × ParametersKept (designOf (now image)) × ChildrenTold (designOf (now image)) (now defaults) (now falls) × Scopes (designOf (now image)) (now scopes) ⌝ }
     ensures { λ a. ⌜ a ≡ fromChildren (designOf (now (image .entry))) ⌝ }
 {
-    let found = checker_records::states::child_labels(image, design, defaults, falls);
+    let found = checker_records::states::child_labels(image, design, defaults, falls, scopes);
     match found {
         Found::At(place) => Answer::Refused(Refusal::ChildLabel, place),
         Found::Nowhere => Answer::Accepted(0),
+    }
+}
+
+// Refusal 19 at nodes, and on.
+fn from_scopes(image: &[u8], design: Design, defaults: &[u8], falls: &[u8], scopes: &[u8]) -> Answer
+    requires { ⌜ RecordsKept (now image) design × ParametersKept (designOf (now image)) × ChildrenTold (designOf (now image)) (now defaults) (now falls) × Scopes (designOf (now image)) (now scopes) ⌝ }
+    ensures { λ a. ⌜ a ≡ fromScopes (designOf (now (image .entry))) ⌝ }
+{
+    let found = checker_bodies::scope::scope_faults(image, design, scopes);
+    match found {
+        Found::At(place) => Answer::Refused(Refusal::Parameter, place),
+        Found::Nowhere => from_children(image, design, defaults, falls, scopes),
+    }
+}
+
+// Refusal 19, at states first, and on. What is in scope of each state is kept for the passes behind it.
+fn from_parameters(image: &[u8], design: Design, defaults: &[u8], falls: &[u8]) -> Answer
+    requires { ⌜ RecordsKept (now image) design × ChildrenTold (designOf (now image)) (now defaults) (now falls) ⌝ }
+    ensures { λ a. ⌜ a ≡ fromParameters (designOf (now (image .entry))) ⌝ }
+{
+    let mut scopes = [0u8; SCOPES];
+    let found = checker_records::parameters::parameters(image, design, defaults, &mut scopes);
+    match found {
+        Found::At(place) => Answer::Refused(Refusal::Parameter, place),
+        Found::Nowhere => from_scopes(image, design, defaults, falls, &scopes),
     }
 }
 
@@ -112,11 +148,11 @@ fn from_ports(image: &[u8], design: Design, defaults: &[u8], falls: &[u8]) -> An
     let found = checker_nodes::ports::ports_named(image, design);
     match found {
         Found::At(place) => Answer::Refused(Refusal::PortAssigned, place),
-        Found::Nowhere => from_children(image, design, defaults, falls),
+        Found::Nowhere => from_parameters(image, design, defaults, falls),
     }
 }
 
-// Refusal 8, and on. Which states hold a fall, and their default children, are kept for refusal 9.
+// Refusal 8, and on. Which states hold a fall, and their default children, are kept for 19 and 9.
 fn from_shape(image: &[u8], design: Design) -> Answer
     requires { ⌜ RecordsKept (now image) design ⌝ }
     ensures { λ a. ⌜ a ≡ fromShape (designOf (now (image .entry))) ⌝ }
@@ -172,7 +208,7 @@ fn from_uses(
 
 // Refusal 5, and on.
 fn from_nodes(image: &[u8], design: Design) -> Answer
-    requires { ⌜ Describes (now image) design × RegistersKept (designOf (now image)) × StatesKept (designOf (now image)) ⌝ }
+    requires { ⌜ Describes (now image) design × LatticeKept (designOf (now image)) × RegistersKept (designOf (now image)) × StatesKept (designOf (now image)) ⌝ }
     ensures { λ a. ⌜ a ≡ fromNodes (designOf (now (image .entry))) ⌝ }
 {
     let mut command_uses = [0u8; Design::COMMANDS];
@@ -202,7 +238,7 @@ fn from_nodes(image: &[u8], design: Design) -> Answer
 
 // Refusal 4, and on.
 fn from_states(image: &[u8], design: Design) -> Answer
-    requires { ⌜ Describes (now image) design × RegistersKept (designOf (now image)) ⌝ }
+    requires { ⌜ Describes (now image) design × LatticeKept (designOf (now image)) × RegistersKept (designOf (now image)) ⌝ }
     ensures { λ a. ⌜ a ≡ fromStates (designOf (now (image .entry))) ⌝ }
 {
     let found = checker_records::states::states(image, design);
@@ -214,7 +250,7 @@ fn from_states(image: &[u8], design: Design) -> Answer
 
 // Refusal 3, and on.
 fn from_registers(image: &[u8], design: Design) -> Answer
-    requires { ⌜ Describes (now image) design ⌝ }
+    requires { ⌜ Describes (now image) design × LatticeKept (designOf (now image)) ⌝ }
     ensures { λ a. ⌜ a ≡ fromRegisters (designOf (now (image .entry))) ⌝ }
 {
     let found = checker_records::registers::registers(image, design);
@@ -236,7 +272,7 @@ fn from_labels(image: &[u8], design: Design) -> Answer
     }
 }
 
-// The image checks but for 10 to 12: 1 to 8, 16 and 9.
+// The image checks but for 10 to 12: 1 to 8, 16, 19 and 9.
 pub fn structure(image: &[u8]) -> Answer
     ensures { λ a. ⌜ a ≡ structureOf (now (image .entry)) ⌝ }
 {

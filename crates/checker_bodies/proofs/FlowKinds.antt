@@ -1,41 +1,47 @@
 -- What the flow pass finds at a command of each kind, from what it finds at the parts.
-use Prim.Native.Nat.{ℕ, zero, suc, _+_, _≤_, _<_}
+use Prim.Native.Nat.{ℕ, zero, suc, _+_, _/_, _%_, _^_, _≤_, _<_}
 use mathlib.Core.Path.{_≡_, refl, sym, _∙_, ap}
-use mathlib.Core.Bool.{Bool}
+use mathlib.Core.Bool.{Bool, true}
 use mathlib.Core.List.{List, [], _∷_, _++_}
 use native.Mathlib.Omega.{arith}
-use native.Mathlib.Nat.{lt-of-le-of-lt}
-use lib.Bits.{bitAnd, and-le-l}
-use lib.ListN.{length}
+use native.Mathlib.Numerals.{add-one}
+use lib.Bits.{bitAnd}
+use lib.Dec.{eqb}
+use lib.ListN.{length, getD}
 use Rattle.model.specs.declared.Refusal.{Refusal}
 use Rattle.model.specs.declared.Answer.{Answer}
 use Rattle.model.specs.declared.Answer.the-variants.{Accepted}
-use Rattle.model.specs.Limits.{commandsMax}
-use Rattle.model.specs.Image.{Design as Table, Node, designOf, commandAt}
-use Rattle.model.specs.Lattice.{allFlowTo, stateLabel}
+use Rattle.model.specs.Limits.{registersMax, commandsMax, parameterLabel}
+use Rattle.model.specs.Indices.{joinBelow}
+use Rattle.model.specs.Image.{Design as Table, State, Node, designOf, stateAt, commandAt}
+use Rattle.model.specs.Lattice.{stateLabel}
 use Rattle.model.specs.Kinds.{skips, sequences, falls, goes, branches, commandKind}
-use Rattle.model.specs.Trees.{exprOf, cmdOf, bodyOf}
+use Rattle.model.specs.States.{siblingOrSelf}
+use Rattle.model.specs.Scopes.{argumentsKept}
+use Rattle.model.specs.Trees.{sequence, goto, branch, exprOf, cmdOf, bodyOf}
 use Rattle.model.specs.Labelling.{relabelled}
-use Rattle.model.specs.Flow.{refusedUnless, labelsRead, flowFaults, stateFlowFaults, firstOf, flowAnswer, flowRefusal}
+use Rattle.model.specs.Flow.{refusedUnless, labelsRead, namedLabel, fallFlows, gotoFlows, flowFaults, stateFlowFaults, firstOf, flowAnswer, flowRefusal}
 use Rattle.model.specs.Verdict.{_before_}
-use Rattle.model.specs.Rules.{CommandHolds}
+use Rattle.model.specs.Rules.{CommandHolds, Scoped, Shaped}
 use Rattle.model.proofs.Laws.Firsts.{AreRefusals, first-append, first-stays, refusals-join}
 use Rattle.model.proofs.Exact.Flows.{flow-faults, state-flow-faults}
 use Rattle.model.proofs.Laws.Trees.{cmd-skip, cmd-sequence, cmd-fall, cmd-goto, cmd-branch}
 use Rattle.model.proofs.Laws.Labelling.{relabelled-body}
-use Rattle.model.specs.Indices.{joinBelow}
-use native.Mathlib.Numerals.{add-one}
 use Rattle.design.specs.declared.Design.{Design}
-use Rattle.design.specs.Records.{nodeIn, stateIn, rowIn, rowEnd}
-use Rattle.design.proofs.Laws.{labels-count, states-count, expressions-count, row-inside, row-in}
-use Rattle.design.proofs.FieldRules.{body-is, body-below, command-at, command-place-inside, command-below, command-kind-is, command-kind-of, item-is, a-is, b-is, c-is, command-holds, named-state, condition, sequence-a-below, sequence-b-below, branch-b-below, branch-c-below, lower-command, expression-at}
-use Rattle.design.specs.Kept.{RecordsKept}
+use Rattle.design.specs.Records.{nodeIn, stateIn, stateEnd}
+use Rattle.design.specs.Kept.{RecordsKept, ParametersKept}
 use Rattle.design.specs.Labels.{LabelsKept}
+use Rattle.design.specs.Scopes.{inheritedScope, LabelByte, ScopesBelow, Scopes}
+use Rattle.design.proofs.Laws.{states-count, expressions-count, state-inside, state-in}
+use Rattle.design.proofs.FieldRules.{body-is, body-below, command-at, command-place-inside, command-below, same-command, command-kind-is, command-kind-of, item-is, a-is, b-is, c-is, command-holds, named-state, condition, sequence-a-below, sequence-b-below, branch-b-below, branch-c-below, lower-command, expression-at}
+use Rattle.design.proofs.BoundRules.{state-label-byte, labels-few}
 use Rattle.checker_bodies.specs.Places.{placeUnless}
-use Rattle.checker_bodies.specs.Flows.{MaskOf, Naming, Gathering, Assigning, Flowing, answerAmong, FirstAt}
+use Rattle.checker_bodies.specs.Masks.{MaskOf, Masks}
+use Rattle.checker_bodies.specs.Flows.{BodiesKept, CommandScoped, Named, Entered, labelIn, ReadsMask, FirstFault, AssignFault, Gathering, Assigning, Flowing, Going, answerAmong, FirstAt}
 use Rattle.checker_bodies.proofs.PlaceRules.{commands-few}
-use Rattle.checker_bodies.proofs.Masks.{mask-both, mask-row}
-use Rattle.checker_bodies.proofs.FlowRules.{answer-at, answer-none, first-charged, first-found, first-passed, state-label-is, state-label-below}
+use Rattle.checker_bodies.proofs.MaskRules.{flows-each-relabelled, mask-both, byte-small, named-entered}
+use Rattle.checker_bodies.proofs.GotoRules.{first-named, second-named, label-plain, label-first, label-second, named-label-byte}
+use Rattle.checker_bodies.proofs.FlowRules.{registers-few, answer-at, answer-none, first-charged, first-found, first-passed}
 
 -- a kind that is no assignment, sequence, fall, goto or if is a skip
 skip-kind : (d : Table) (n k : ℕ) (x : Node) → (k ≡ 1 → ⊥) → (k ≡ 2 → ⊥) → (k ≡ 3 → ⊥) → (k ≡ 4 → ⊥) → (k ≡ 5 → ⊥) → CommandHolds d n (commandKind k) x → commandKind k ≡ skips
@@ -48,34 +54,169 @@ skip-kind d n (suc (suc (suc (suc zero)))) x a b c e f h = absurd (e refl)
 skip-kind d n (suc (suc (suc (suc (suc zero))))) x a b c e f h = absurd (f refl)
 skip-kind d n (suc (suc (suc (suc (suc (suc k)))))) x a b c e f h = absurd h
 
--- the mask of a longer context is a mask
-pub mask-small : {a : ℕ} (b : ℕ) → a < 65536 → bitAnd a b < 65536
-mask-small {a} b l = lt-of-le-of-lt (and-le-l a b) l
+-- ---- the label of the state that a goto names
+module _ {image labels : List ℕ} {statesAt place own n : ℕ} (going : Going image labels statesAt place own n) where
+  abbrev y : Table
+  y = designOf image
 
-module _ {image labels : List ℕ} {statesAt place expressionsAt s n : ℕ} (flowing : Flowing image labels statesAt place expressionsAt s n) where
-  lower-flowing : (m : ℕ) → m < n → Flowing image labels statesAt place expressionsAt s m
-  lower-flowing m l =
+  going-count : (s : ℕ) → s < going .design .states → s < length (y .states)
+  going-count s l = let count = states-count (going .known .describes) in omega arith
+
+  goes-kind : nodeIn image place n .kind ≡ 4
+  goes-kind = ap (λ (z : Node). z .kind) (same-command (going .command)) ∙ going .kind
+
+  goto-tree : cmdOf y n ≡ goto n (commandAt y n .item) (commandAt y n .a) (commandAt y n .b)
+  unfolding commandKind
+  goto-tree = cmd-goto y n (ap commandKind (going .kind))
+
+  goto-sibling : siblingOrSelf y (going .s) (commandAt y n .item) ≡ true
+  goto-sibling = rw goto-tree at (going .scoped .shaped)
+
+  goto-arguments : argumentsKept y (going .s) (commandAt y n .item) (commandAt y n .a) (commandAt y n .b) ≡ true
+  goto-arguments = rw goto-tree at (going .scoped .scoped)
+
+  going-named : commandAt y n .item < length (y .states)
+  going-named = named-state (going .command) goes-kind refl (ap (λ (z : Node). z .item) (sym (same-command (going .command))))
+
+  pub named-inside : {t : ℕ} → t ≡ nodeIn image place n .item → stateEnd statesAt t ≤ length image
+  named-inside f =
+      let count = states-count (going .known .describes) in
+      let below = named-state (going .command) goes-kind refl f in
+      rw (going .states-begin) (state-inside (going .known .describes) (omega arith))
+
+  named-label-is : {t l : ℕ} → t ≡ nodeIn image place n .item → l ≡ stateIn image statesAt t .label → l ≡ stateLabel y (commandAt y n .item)
+  named-label-is {t} f e =
+      let count = states-count (going .known .describes) in
+      let below = named-state (going .command) goes-kind refl f in
+      let same : stateIn image statesAt t ≡ stateAt y t = rw (going .states-begin) (state-in (going .known .describes) (omega arith)) in
+      e ∙ ap (λ (z : State). z .label) same ∙ ap (stateLabel y) (item-is (going .command) f)
+
+  few : length (y .registers) ≤ registersMax
+  few = registers-few (going .known .describes)
+
+  first-is-named : stateLabel y (commandAt y n .item) ≡ parameterLabel + length (inheritedScope y (going .s)) → Named y (going .s) (commandAt y n .a)
+  first-is-named = first-named y (going .s) (commandAt y n .item) (commandAt y n .a) (commandAt y n .b) (going .known .states) (going .parameters) (labels-few (going .known .describes)) (going-count (going .s) (going .state)) going-named goto-sibling goto-arguments
+
+  second-is-named : parameterLabel + length (inheritedScope y (going .s)) < stateLabel y (commandAt y n .item) → Named y (going .s) (commandAt y n .b)
+  second-is-named = second-named y (going .s) (commandAt y n .item) (commandAt y n .a) (commandAt y n .b) (going .known .states) (going .parameters) (labels-few (going .known .describes)) (going-count (going .s) (going .state)) going-named goto-sibling goto-arguments
+
+  module _ {t l : ℕ} (named : t ≡ nodeIn image place n .item) (label : l ≡ stateIn image statesAt t .label) where
+    pub goes-plain : l < own → l ≡ namedLabel (relabelled (designOf image) labels) (commandAt (designOf image) n .item) (commandAt (designOf image) n .a) (commandAt (designOf image) n .b)
+    goes-plain h =
+        let is = named-label-is named label in
+        let from = going .own-from in
+        is
+        ∙ sym
+        (label-plain y (going .s) (commandAt y n .item) (commandAt y n .a) (commandAt y n .b) (going .known .states) (going .parameters) (labels-few (going .known .describes)) (going-count (going .s) (going .state)) going-named goto-sibling goto-arguments labels (omega arith))
+
+    pub first-entered : {a : ℕ} → l ≡ own → a ≡ nodeIn image place n .a → Entered labels a
+    first-entered h f =
+        let is = named-label-is named label in
+        let from = going .own-from in
+        rw (a-is (going .command) f) (named-entered few (going .labelling) (first-is-named (omega arith)))
+
+    pub second-entered : {b : ℕ} → own ≤ l → (l ≡ own → ⊥) → b ≡ nodeIn image place n .b → Entered labels b
+    second-entered h differ f =
+        let is = named-label-is named label in
+        let from = going .own-from in
+        rw (b-is (going .command) f) (named-entered few (going .labelling) (second-is-named (omega (arith, differ))))
+
+    pub goes-first : {a r : ℕ} → l ≡ own → a ≡ nodeIn image place n .a → r ≡ labelIn labels a → r ≡ namedLabel (relabelled (designOf image) labels) (commandAt (designOf image) n .item) (commandAt (designOf image) n .a) (commandAt (designOf image) n .b)
+    goes-first h f g =
+        let is = named-label-is named label in
+        let from = going .own-from in
+        g
+        ∙ ap (labelIn labels) (a-is (going .command) f)
+        ∙ sym
+        (label-first y (going .s) (commandAt y n .item) (commandAt y n .a) (commandAt y n .b) (going .known .states) (going .parameters) (labels-few (going .known .describes)) (going-count (going .s) (going .state)) going-named goto-sibling goto-arguments labels few (going .labelling) (omega arith))
+
+    pub goes-second : {b r : ℕ} → own ≤ l → (l ≡ own → ⊥) → b ≡ nodeIn image place n .b → r ≡ labelIn labels b → r ≡ namedLabel (relabelled (designOf image) labels) (commandAt (designOf image) n .item) (commandAt (designOf image) n .a) (commandAt (designOf image) n .b)
+    goes-second h differ f g =
+        let is = named-label-is named label in
+        let from = going .own-from in
+        g
+        ∙ ap (labelIn labels) (b-is (going .command) f)
+        ∙ sym
+        (label-second y (going .s) (commandAt y n .item) (commandAt y n .a) (commandAt y n .b) (going .known .states) (going .parameters) (labels-few (going .known .describes)) (going-count (going .s) (going .state)) going-named goto-sibling goto-arguments labels few (going .labelling) (omega (arith, differ)))
+
+  goes-byte : LabelByte y (going .s) (namedLabel (relabelled y labels) (commandAt y n .item) (commandAt y n .a) (commandAt y n .b))
+  goes-byte =
+      named-label-byte y (going .s) (commandAt y n .item) (commandAt y n .a) (commandAt y n .b) (going .known .states) (going .parameters) (labels-few (going .known .describes)) (going-count (going .s) (going .state)) going-named goto-sibling goto-arguments labels few (going .labelling)
+
+-- ---- a command
+module _ {image labels masks : List ℕ} {statesAt place expressionsAt s own n : ℕ} (flowing : Flowing image labels masks statesAt place expressionsAt s own n) where
+  abbrev d : Table
+  d = designOf image
+
+  abbrev under : Table
+  under = relabelled d labels
+
+  lower-flowing : (m : ℕ) → m < n → CommandScoped d s m → Flowing image labels masks statesAt place expressionsAt s own m
+  lower-flowing m l scoped =
       record {
         design = flowing .design;
         known = flowing .known;
         labelling = flowing .labelling;
+        parameters = flowing .parameters;
+        table = flowing .table;
         state = flowing .state;
+        own-from = flowing .own-from;
         command = lower-command (flowing .command) (flowing .known .commands) l;
+        scoped = scoped;
         states-begin = flowing .states-begin;
         expressions-begin = flowing .expressions-begin;
       }
 
-  pub sequence-a-flowing : {k a : ℕ} → k ≡ 2 → k ≡ nodeIn image place n .kind → a ≡ nodeIn image place n .a → Flowing image labels statesAt place expressionsAt s a
-  sequence-a-flowing {a = m} q p f = lower-flowing m (sequence-a-below (flowing .command) q p f)
+  -- the tree of a sequence, and of an if
+  module _ {k a b : ℕ} (kind : k ≡ 2) (byte : k ≡ nodeIn image place n .kind) (first : a ≡ nodeIn image place n .a) (second : b ≡ nodeIn image place n .b) where
+    sequence-tree : cmdOf d n ≡ sequence n (cmdOf d a) (cmdOf d b)
+    unfolding commandKind
+    sequence-tree =
+        let here = flowing .command in
+        rw (a-is here first, b-is here second) (cmd-sequence d n (command-kind-of here sequences kind byte refl) (command-holds here kind byte .1) (command-holds here kind byte .2))
 
-  pub sequence-b-flowing : {k b : ℕ} → k ≡ 2 → k ≡ nodeIn image place n .kind → b ≡ nodeIn image place n .b → Flowing image labels statesAt place expressionsAt s b
-  sequence-b-flowing {b = m} q p f = lower-flowing m (sequence-b-below (flowing .command) q p f)
+    sequence-shaped : Shaped d s (sequence n (cmdOf d a) (cmdOf d b))
+    sequence-shaped = rw sequence-tree at (flowing .scoped .shaped)
 
-  pub branch-b-flowing : {k b : ℕ} → k ≡ 5 → k ≡ nodeIn image place n .kind → b ≡ nodeIn image place n .b → Flowing image labels statesAt place expressionsAt s b
-  branch-b-flowing {b = m} q p f = lower-flowing m (branch-b-below (flowing .command) q p f)
+    sequence-scoped : Scoped d s (sequence n (cmdOf d a) (cmdOf d b))
+    sequence-scoped = rw sequence-tree at (flowing .scoped .scoped)
 
-  pub branch-c-flowing : {k c : ℕ} → k ≡ 5 → k ≡ nodeIn image place n .kind → c ≡ nodeIn image place n .c → Flowing image labels statesAt place expressionsAt s c
-  branch-c-flowing {c = m} q p f = lower-flowing m (branch-c-below (flowing .command) q p f)
+    sequence-first : Flowing image labels masks statesAt place expressionsAt s own a
+    sequence-first = lower-flowing a (sequence-a-below (flowing .command) kind byte first) (record { shaped = sequence-shaped .1; scoped = sequence-scoped .0 })
+
+    sequence-second : Flowing image labels masks statesAt place expressionsAt s own b
+    sequence-second = lower-flowing b (sequence-b-below (flowing .command) kind byte second) (record { shaped = sequence-shaped .2; scoped = sequence-scoped .1 })
+
+  module _ {k e b c : ℕ} (kind : k ≡ 5) (byte : k ≡ nodeIn image place n .kind) (test : e ≡ nodeIn image place n .a) (first : b ≡ nodeIn image place n .b) (second : c ≡ nodeIn image place n .c) where
+    branch-tree : cmdOf d n ≡ branch n (exprOf d e) (cmdOf d b) (cmdOf d c)
+    unfolding commandKind
+    branch-tree =
+        let here = flowing .command in
+        rw (a-is here test, b-is here first, c-is here second) (cmd-branch d n (command-kind-of here branches kind byte refl) (command-holds here kind byte .2) (command-holds here kind byte .3))
+
+    branch-shaped : Shaped d s (branch n (exprOf d e) (cmdOf d b) (cmdOf d c))
+    branch-shaped = rw branch-tree at (flowing .scoped .shaped)
+
+    branch-scoped : Scoped d s (branch n (exprOf d e) (cmdOf d b) (cmdOf d c))
+    branch-scoped = rw branch-tree at (flowing .scoped .scoped)
+
+    branch-first : Flowing image labels masks statesAt place expressionsAt s own b
+    branch-first = lower-flowing b (branch-b-below (flowing .command) kind byte first) (record { shaped = branch-shaped .1; scoped = branch-scoped .1 })
+
+    branch-second : Flowing image labels masks statesAt place expressionsAt s own c
+    branch-second = lower-flowing c (branch-c-below (flowing .command) kind byte second) (record { shaped = branch-shaped .2; scoped = branch-scoped .2 })
+
+  pub sequence-a-flowing : {k a : ℕ} → k ≡ 2 → k ≡ nodeIn image place n .kind → a ≡ nodeIn image place n .a → Flowing image labels masks statesAt place expressionsAt s own a
+  sequence-a-flowing q p f = sequence-first q p f refl
+
+  pub sequence-b-flowing : {k b : ℕ} → k ≡ 2 → k ≡ nodeIn image place n .kind → b ≡ nodeIn image place n .b → Flowing image labels masks statesAt place expressionsAt s own b
+  sequence-b-flowing q p f = sequence-second q p refl f
+
+  pub branch-b-flowing : {k b : ℕ} → k ≡ 5 → k ≡ nodeIn image place n .kind → b ≡ nodeIn image place n .b → Flowing image labels masks statesAt place expressionsAt s own b
+  branch-b-flowing q p f = branch-first q p refl f refl
+
+  pub branch-c-flowing : {k c : ℕ} → k ≡ 5 → k ≡ nodeIn image place n .kind → c ≡ nodeIn image place n .c → Flowing image labels masks statesAt place expressionsAt s own c
+  branch-c-flowing q p f = branch-second q p refl refl f
 
   pub assigning : {k : ℕ} → k ≡ 1 → k ≡ nodeIn image place n .kind → Assigning image labels place expressionsAt n
   assigning q p =
@@ -99,50 +240,72 @@ module _ {image labels : List ℕ} {statesAt place expressionsAt s n : ℕ} (flo
         expression = expression-at (flowing .known .describes) (flowing .known .expressions) (omega arith) (flowing .expressions-begin);
       }
 
-  pub goto-naming : {k t : ℕ} → k ≡ 4 → k ≡ nodeIn image place n .kind → t ≡ nodeIn image place n .item → Naming image statesAt t
-  goto-naming q p f =
-      let count = states-count (flowing .known .describes) in
-      let below = named-state (flowing .command) q p f in
-      record { design = flowing .design; known = flowing .known; state = record { describes = flowing .known .describes; state = omega arith; begins = flowing .states-begin } }
+  abbrev pub going-goto : {k : ℕ} → k ≡ 4 → k ≡ nodeIn image place n .kind → Going image labels statesAt place own n
+  going-goto q p =
+      record {
+        s = s;
+        design = flowing .design;
+        known = flowing .known;
+        labelling = flowing .labelling;
+        parameters = flowing .parameters;
+        state = flowing .state;
+        own-from = flowing .own-from;
+        command = flowing .command;
+        kind = command-kind-is (flowing .command) q p;
+        scoped = flowing .scoped;
+        states-begin = flowing .states-begin;
+      }
 
-  pub fall-naming : Naming image statesAt s
-  fall-naming =
-      record { design = flowing .design; known = flowing .known; state = record { describes = flowing .known .describes; state = flowing .state; begins = flowing .states-begin } }
+  -- ---- the own label
+  state-below : s < length (d .states)
+  state-below = let count = states-count (flowing .known .describes) in let below = flowing .state in omega arith
+
+  pub own-inside : stateEnd statesAt s ≤ length image
+  own-inside = rw (flowing .states-begin) (state-inside (flowing .known .describes) (flowing .state))
+
+  own-label : {l : ℕ} → l ≡ stateIn image statesAt s .label → l ≡ stateLabel d s
+  own-label e = let same : stateIn image statesAt s ≡ stateAt d s = rw (flowing .states-begin) (state-in (flowing .known .describes) (flowing .state)) in e ∙ ap (λ (y : State). y .label) same
+
+  own-byte : LabelByte d s (stateLabel d s)
+  own-byte = state-label-byte (flowing .known .states) (flowing .parameters) s state-below
+
+  small-byte : {l : ℕ} → LabelByte d s l → l < 64
+  small-byte byte = let small = byte-small (labels-few (flowing .known .describes)) (flowing .table .short) byte in omega arith
+
+  pub own-small : {l : ℕ} → l ≡ stateIn image statesAt s .label → l < 64
+  own-small e = let is = own-label e in let small = small-byte own-byte in omega arith
+
+  pub named-small :
+      {k l : ℕ}
+      → k ≡ 4
+      → k ≡ nodeIn image place n .kind
+      → l ≡ namedLabel (relabelled (designOf image) labels) (commandAt (designOf image) n .item) (commandAt (designOf image) n .a) (commandAt (designOf image) n .b)
+      → l < 64
+  named-small q p e = let small = small-byte (goes-byte (going-goto q p)) in omega arith
 
   -- ---- what the pass finds
-  few : length (designOf image .commands) ≤ commandsMax
-  few = commands-few (flowing .known .describes)
+  few-commands : length (designOf image .commands) ≤ commandsMax
+  few-commands = commands-few (flowing .known .describes)
 
   charged : {r : Refusal} (b : Bool) → flowRefusal (commandKind (commandAt (designOf image) n .kind)) ≡ r → FirstAt (designOf image) (placeUnless b n) (refusedUnless b r n)
-  charged b e = first-charged (designOf image) b (command-below (flowing .command)) few e
+  charged b e = first-charged (designOf image) b (command-below (flowing .command)) few-commands e
+
+  pub flow-assign : {k context p : ℕ} → k ≡ 1 → k ≡ nodeIn image place n .kind → AssignFault (designOf image) labels masks context n p → FirstFault (designOf image) labels s context n p
+  flow-assign q e fault = fault .fault s (flowing .table) (flowing .scoped)
 
   -- a sequence: the first part's, unless it has none
   module _ {k a b : ℕ} (kind : k ≡ 2) (byte : k ≡ nodeIn image place n .kind) (first : a ≡ nodeIn image place n .a) (second : b ≡ nodeIn image place n .b) where
-    sequence-faults : (from : List ℕ) → flowFaults (relabelled (designOf image) labels) s from (cmdOf (designOf image) n) ≡ flowFaults (relabelled (designOf image) labels) s from (cmdOf (designOf image) a) ++ flowFaults (relabelled (designOf image) labels) s from (cmdOf (designOf image) b)
-    unfolding commandKind flowFaults
-    sequence-faults from =
-        let here = flowing .command in
-        let tree = cmd-sequence (designOf image) n (command-kind-of here sequences kind byte refl) (command-holds here kind byte .1) (command-holds here kind byte .2) in
-        rw (tree, a-is here first, b-is here second)
+    sequence-faults : (from : List ℕ) → flowFaults under s from (cmdOf d n) ≡ flowFaults under s from (cmdOf d a) ++ flowFaults under s from (cmdOf d b)
+    unfolding flowFaults
+    sequence-faults from = rw (sequence-tree kind byte first second)
 
-    pub sequence-stops :
-        {context : ℕ} {from : List ℕ} (p : ℕ)
-        → p < commandsMax
-        → ((from : List ℕ) → MaskOf (designOf image .rows) from context → FirstAt (designOf image) p (flowFaults (relabelled (designOf image) labels) s from (cmdOf (designOf image) a)))
-        → MaskOf (designOf image .rows) from context
-        → FirstAt (designOf image) p (flowFaults (relabelled (designOf image) labels) s from (cmdOf (designOf image) n))
-    sequence-stops {from = from} p l found mask =
-        rw (sequence-faults from) (first-found (designOf image) p _ (flow-faults (relabelled (designOf image) labels) s from (cmdOf (designOf image) a) .refusals) (found from mask) l)
+    pub sequence-stops : {context p : ℕ} → p < commandsMax → FirstFault (designOf image) labels s context a p → FirstFault (designOf image) labels s context n p
+    sequence-stops {p = p} l found =
+        record { first = λ from mask. rw (sequence-faults from) (first-found d p _ (flow-faults under s from (cmdOf d a) .refusals) (found .first from mask) l) }
 
-    pub sequence-goes-on :
-        {context : ℕ} {from : List ℕ} (p q : ℕ)
-        → commandsMax ≤ p
-        → ((from : List ℕ) → MaskOf (designOf image .rows) from context → FirstAt (designOf image) p (flowFaults (relabelled (designOf image) labels) s from (cmdOf (designOf image) a)))
-        → ((from : List ℕ) → MaskOf (designOf image .rows) from context → FirstAt (designOf image) q (flowFaults (relabelled (designOf image) labels) s from (cmdOf (designOf image) b)))
-        → MaskOf (designOf image .rows) from context
-        → FirstAt (designOf image) q (flowFaults (relabelled (designOf image) labels) s from (cmdOf (designOf image) n))
-    sequence-goes-on {from = from} p q l found further mask =
-        rw (sequence-faults from) (first-passed (designOf image) p _ (flow-faults (relabelled (designOf image) labels) s from (cmdOf (designOf image) a) .refusals) (found from mask) l few (further from mask))
+    pub sequence-goes-on : {context q : ℕ} (p : ℕ) → commandsMax ≤ p → FirstFault (designOf image) labels s context a p → FirstFault (designOf image) labels s context b q → FirstFault (designOf image) labels s context n q
+    sequence-goes-on p l found further =
+        record { first = λ from mask. rw (sequence-faults from) (first-passed d p _ (flow-faults under s from (cmdOf d a) .refusals) (found .first from mask) l few-commands (further .first from mask)) }
 
   -- an if: the first branch's, unless it has none
   module _
@@ -152,126 +315,136 @@ module _ {image labels : List ℕ} {statesAt place expressionsAt s n : ℕ} (flo
       (test : e ≡ nodeIn image place n .a)
       (first : b ≡ nodeIn image place n .b)
       (second : c ≡ nodeIn image place n .c)
-      (read : MaskOf (designOf image .rows) (labelsRead (relabelled (designOf image) labels) (exprOf (designOf image) e)) m)
+      (read : ReadsMask (designOf image) labels masks e m)
     where
       abbrev inside : List ℕ → List ℕ
-      inside from = from ++ labelsRead (relabelled (designOf image) labels) (exprOf (designOf image) e)
+      inside from = from ++ labelsRead under (exprOf d e)
 
-      branch-faults : (from : List ℕ) → flowFaults (relabelled (designOf image) labels) s from (cmdOf (designOf image) n) ≡ flowFaults (relabelled (designOf image) labels) s (inside from) (cmdOf (designOf image) b) ++ flowFaults (relabelled (designOf image) labels) s (inside from) (cmdOf (designOf image) c)
-      unfolding commandKind flowFaults
-      branch-faults from =
-          let here = flowing .command in
-          let tree = cmd-branch (designOf image) n (command-kind-of here branches kind byte refl) (command-holds here kind byte .2) (command-holds here kind byte .3) in
-          rw (tree, a-is here test, b-is here first, c-is here second)
+      inner : {context : ℕ} {from : List ℕ} → MaskOf d s from context → MaskOf d s (inside from) (bitAnd context m)
+      inner mask = mask-both mask (read .mask-of s (flowing .table) (branch-scoped kind byte test first second .0))
 
-      pub branch-stops :
-          {context : ℕ} {from : List ℕ} (p : ℕ)
-          → p < commandsMax
-          → ((from : List ℕ) → MaskOf (designOf image .rows) from (bitAnd context m) → FirstAt (designOf image) p (flowFaults (relabelled (designOf image) labels) s from (cmdOf (designOf image) b)))
-          → MaskOf (designOf image .rows) from context
-          → FirstAt (designOf image) p (flowFaults (relabelled (designOf image) labels) s from (cmdOf (designOf image) n))
-      branch-stops {from = from} p l found mask =
-          rw (branch-faults from) (first-found (designOf image) p _ (flow-faults (relabelled (designOf image) labels) s (inside from) (cmdOf (designOf image) b) .refusals) (found (inside from) (mask-both mask read)) l)
+      branch-faults : (from : List ℕ) → flowFaults under s from (cmdOf d n) ≡ flowFaults under s (inside from) (cmdOf d b) ++ flowFaults under s (inside from) (cmdOf d c)
+      unfolding flowFaults
+      branch-faults from = rw (branch-tree kind byte test first second)
 
-      pub branch-goes-on :
-          {context : ℕ} {from : List ℕ} (p q : ℕ)
-          → commandsMax ≤ p
-          → ((from : List ℕ) → MaskOf (designOf image .rows) from (bitAnd context m) → FirstAt (designOf image) p (flowFaults (relabelled (designOf image) labels) s from (cmdOf (designOf image) b)))
-          → ((from : List ℕ) → MaskOf (designOf image .rows) from (bitAnd context m) → FirstAt (designOf image) q (flowFaults (relabelled (designOf image) labels) s from (cmdOf (designOf image) c)))
-          → MaskOf (designOf image .rows) from context
-          → FirstAt (designOf image) q (flowFaults (relabelled (designOf image) labels) s from (cmdOf (designOf image) n))
-      branch-goes-on {from = from} p q l found further mask =
-          let both = mask-both mask read in
-          rw (branch-faults from) (first-passed (designOf image) p _ (flow-faults (relabelled (designOf image) labels) s (inside from) (cmdOf (designOf image) b) .refusals) (found (inside from) both) l few (further (inside from) both))
+      pub branch-stops : {context p : ℕ} → p < commandsMax → FirstFault (designOf image) labels s (bitAnd context m) b p → FirstFault (designOf image) labels s context n p
+      branch-stops {p = p} l found =
+          record { first = λ from mask. rw (branch-faults from) (first-found d p _ (flow-faults under s (inside from) (cmdOf d b) .refusals) (found .first (inside from) (inner mask)) l) }
+
+      pub branch-goes-on : {context q : ℕ} (p : ℕ) → commandsMax ≤ p → FirstFault (designOf image) labels s (bitAnd context m) b p → FirstFault (designOf image) labels s (bitAnd context m) c q → FirstFault (designOf image) labels s context n q
+      branch-goes-on p l found further =
+          record {
+            first = λ from mask.
+                rw (branch-faults from) (first-passed d p _ (flow-faults under s (inside from) (cmdOf d b) .refusals) (found .first (inside from) (inner mask)) l few-commands (further .first (inside from) (inner mask)));
+          }
 
   pub flow-fall :
-      {k r context : ℕ} {b : Bool} {from : List ℕ}
+      {k r l context : ℕ} {b : Bool}
       → k ≡ 3
       → k ≡ nodeIn image place n .kind
-      → ((from : List ℕ) → MaskOf (designOf image .rows) from context → b ≡ allFlowTo (designOf image .rows) from (stateLabel (designOf image) s))
+      → l ≡ stateIn image statesAt s .label
+      → b ≡ eqb (context / 2 ^ l % 2) 1
       → r ≡ placeUnless b n
-      → MaskOf (designOf image .rows) from context
-      → FirstAt (designOf image) r (flowFaults (relabelled (designOf image) labels) s from (cmdOf (designOf image) n))
+      → FirstFault (designOf image) labels s context n r
   unfolding commandKind flowFaults flowRefusal
-  flow-fall {b = b} {from = from} f e fb fr mask =
-      let kind = command-kind-of (flowing .command) falls f e refl in
-      rw (fr, cmd-fall (designOf image) n kind, ← (fb from mask)) (charged b (ap flowRefusal kind))
+  flow-fall {b = b} f e fl fb fr =
+      record {
+        first = λ from mask.
+            let kind = command-kind-of (flowing .command) falls f e refl in
+            let same : b ≡ fallFlows under s from = fb ∙ rw (own-label fl) (mask .bits (stateLabel d s) own-byte) ∙ sym (flows-each-relabelled d s labels from (stateLabel d s)) in
+            rw (fr, cmd-fall d n kind, ← same) (charged b (ap flowRefusal kind));
+      }
 
   pub flow-goto :
-      {k t r context : ℕ} {b : Bool} {from : List ℕ}
+      {k r l context : ℕ} {b : Bool}
       → k ≡ 4
       → k ≡ nodeIn image place n .kind
-      → t ≡ nodeIn image place n .item
-      → ((from : List ℕ) → MaskOf (designOf image .rows) from context → b ≡ allFlowTo (designOf image .rows) from (stateLabel (designOf image) t))
+      → l ≡ namedLabel (relabelled (designOf image) labels) (commandAt (designOf image) n .item) (commandAt (designOf image) n .a) (commandAt (designOf image) n .b)
+      → b ≡ eqb (context / 2 ^ l % 2) 1
       → r ≡ placeUnless b n
-      → MaskOf (designOf image .rows) from context
-      → FirstAt (designOf image) r (flowFaults (relabelled (designOf image) labels) s from (cmdOf (designOf image) n))
+      → FirstFault (designOf image) labels s context n r
   unfolding commandKind flowFaults flowRefusal
-  flow-goto {t = t} {b = b} {from = from} f e ft fb fr mask =
-      let named = item-is (flowing .command) ft in
-      let kind = command-kind-of (flowing .command) goes f e refl in
-      rw (fr, cmd-goto (designOf image) n kind, ← named, ← (fb from mask)) (charged b (ap flowRefusal kind))
+  flow-goto {b = b} f e fl fb fr =
+      record {
+        first = λ from mask.
+            let kind = command-kind-of (flowing .command) goes f e refl in
+            let same : b ≡ gotoFlows under s from (commandAt d n .item) (commandAt d n .a) (commandAt d n .b) = fb ∙ rw fl (mask .bits (namedLabel under (commandAt d n .item) (commandAt d n .a) (commandAt d n .b)) (goes-byte (going-goto f e))) ∙ sym (flows-each-relabelled d s labels from _) in
+            rw (fr, cmd-goto d n kind, ← same) (charged b (ap flowRefusal kind));
+      }
 
-  pub flow-skip :
-      {k context : ℕ} {from : List ℕ}
-      → k ≡ nodeIn image place n .kind
-      → (k ≡ 1 → ⊥)
-      → (k ≡ 2 → ⊥)
-      → (k ≡ 3 → ⊥)
-      → (k ≡ 4 → ⊥)
-      → (k ≡ 5 → ⊥)
-      → MaskOf (designOf image .rows) from context
-      → FirstAt (designOf image) commandsMax (flowFaults (relabelled (designOf image) labels) s from (cmdOf (designOf image) n))
+  pub flow-skip : {k : ℕ} (context : ℕ) → k ≡ nodeIn image place n .kind → (k ≡ 1 → ⊥) → (k ≡ 2 → ⊥) → (k ≡ 3 → ⊥) → (k ≡ 4 → ⊥) → (k ≡ 5 → ⊥) → FirstFault (designOf image) labels s context n commandsMax
   unfolding flowFaults firstOf
-  flow-skip {k} e a b c f g mask =
-      let d = designOf image in
-      rw (cmd-skip d n (command-kind-of (flowing .command) skips refl e (skip-kind d n k (commandAt d n) a b c f g (command-holds (flowing .command) refl e)))) (record { says = answer-none d few; command = λ h. absurd (omega arith) })
+  flow-skip {k} context e a b c f g =
+      record {
+        first = λ from mask.
+            rw (cmd-skip d n (command-kind-of (flowing .command) skips refl e (skip-kind d n k (commandAt d n) a b c f g (command-holds (flowing .command) refl e)))) (record { says = answer-none d few-commands; command = λ h. absurd (omega arith) });
+      }
 
-pub ruleset flow-laws = (command-place-inside, assigning, mask-small, condition-gathering, goto-naming, fall-naming, sequence-stops, sequence-goes-on, branch-stops, branch-goes-on, flow-fall, flow-goto, flow-skip)
+pub ruleset flow-laws = (command-place-inside, assigning, condition-gathering, going-goto, own-inside, own-small, named-small, flow-assign, sequence-stops, sequence-goes-on, branch-stops, branch-goes-on, flow-fall, flow-goto, flow-skip)
 
 -- ---- states
 module _ {image : List ℕ} {x : Design} (known : RecordsKept image x) where
-  pub state-row-inside : {s l : ℕ} → s < x .states → l ≡ stateIn image (x .«states_at») s .label → rowEnd l ≤ length image
-  state-row-inside h e =
-      let count = labels-count (known .describes) in
-      let below = state-label-below known h in
-      row-inside (known .describes) (rw (state-label-is known h e) (omega arith))
+  state-count : {s : ℕ} → s < x .states → s < length (designOf image .states)
+  state-count l = let count = states-count (known .describes) in omega arith
 
-  pub state-flowing : {labels : List ℕ} {s n : ℕ} → LabelsKept (designOf image) labels → s < x .states → n ≡ stateIn image (x .«states_at») s .command → Flowing image labels (x .«states_at») (x .«commands_at») (x .«expressions_at») s n
-  state-flowing labelling l e =
-      record {
-        design = x;
-        known = known;
-        labelling = labelling;
-        state = l;
-        command = command-at (known .describes) (known .commands) (body-below (known .describes) l e (known .states)) refl;
-        states-begin = refl;
-        expressions-begin = refl;
-      }
+  state-label-is : {s l : ℕ} → s < x .states → l ≡ stateIn image (x .«states_at») s .label → l ≡ stateLabel (designOf image) s
+  state-label-is h e = e ∙ ap (λ (y : State). y .label) (state-in (known .describes) h)
 
-  -- the context of a body is the row of its state's label
-  state-mask : {s l m : ℕ} → s < x .states → l ≡ stateIn image (x .«states_at») s .label → m ≡ rowIn image l → m < 65536 → MaskOf (designOf image .rows) (stateLabel (designOf image) s ∷ []) m
-  state-mask {s} h e f small =
-      let count = labels-count (known .describes) in
-      let below = state-label-below known h in
-      mask-row (f ∙ rw (state-label-is known h e) (row-in (known .describes) (omega arith))) small
+  -- the scopes of the states below s are known
+  pub scopes-below : {scopes : List ℕ} {s : ℕ} → Scopes (designOf image) scopes → s < x .states → ScopesBelow (designOf image) scopes s
+  scopes-below table l =
+      let below = state-count l in
+      record { long = table .long; count = λ q h. table .count q (omega arith); first = λ q h. table .first q (omega arith); second = λ q h. table .second q (omega arith) }
 
-  body-tree : {s n : ℕ} → s < x .states → n ≡ stateIn image (x .«states_at») s .command → cmdOf (designOf image) n ≡ bodyOf (designOf image) s
-  unfolding bodyOf
-  body-tree h fn = ap (cmdOf (designOf image)) (body-is (known .describes) h fn)
+  module _ {s : ℕ} (parameters : ParametersKept (designOf image)) (l : s < x .states) where
+    label-stands : LabelByte (designOf image) s (stateLabel (designOf image) s)
+    label-stands = state-label-byte (known .states) parameters s (state-count l)
 
-  pub state-flow-rule :
-      {s l n m : ℕ} (labels : List ℕ) (a : ℕ)
-      → s < x .states
-      → l ≡ stateIn image (x .«states_at») s .label
-      → n ≡ stateIn image (x .«states_at») s .command
-      → m ≡ rowIn image l
-      → m < 65536
-      → ((from : List ℕ) → MaskOf (designOf image .rows) from m → FirstAt (designOf image) a (flowFaults (relabelled (designOf image) labels) s from (cmdOf (designOf image) n)))
-      → FirstAt (designOf image) a (stateFlowFaults (relabelled (designOf image) labels) s)
-  unfolding stateFlowFaults
-  state-flow-rule {s} labels a h fl fn fm small fa =
-      rw (relabelled-body (designOf image) labels s, ← (body-tree h fn)) (fa (stateLabel (designOf image) s ∷ []) (state-mask h fl fm small))
+    pub state-mask-inside : {masks : List ℕ} {k : ℕ} → Masks (designOf image) s masks → k ≡ stateIn image (x .«states_at») s .label → k < 18
+    state-mask-inside table e =
+        let small = byte-small (labels-few (known .describes)) (table .short) label-stands in
+        let is = state-label-is l e in
+        omega arith
+
+    body-tree : {n : ℕ} → n ≡ stateIn image (x .«states_at») s .command → cmdOf (designOf image) n ≡ bodyOf (designOf image) s
+    unfolding bodyOf
+    body-tree fn = ap (cmdOf (designOf image)) (body-is (known .describes) l fn)
+
+    pub state-flowing :
+        {labels masks : List ℕ} {n h : ℕ}
+        → LabelsKept (designOf image) labels
+        → BodiesKept (designOf image)
+        → Masks (designOf image) s masks
+        → n ≡ stateIn image (x .«states_at») s .command
+        → h ≡ length (inheritedScope (designOf image) s)
+        → Flowing image labels masks (x .«states_at») (x .«commands_at») (x .«expressions_at») s (16 + h) n
+    state-flowing labelling bodies table e above =
+        record {
+          design = x;
+          known = known;
+          labelling = labelling;
+          parameters = parameters;
+          table = table;
+          state = l;
+          own-from = ap (λ (n : ℕ). 16 + n) above;
+          command = command-at (known .describes) (known .commands) (body-below (known .describes) l e (known .states)) refl;
+          scoped = record { shaped = rw (body-tree e) (bodies .shaped s (state-count l)); scoped = rw (body-tree e) (bodies .scoped s (state-count l)) };
+          states-begin = refl;
+          expressions-begin = refl;
+        }
+
+    pub state-flow-rule :
+        {labels masks : List ℕ} {k n context p : ℕ}
+        → Masks (designOf image) s masks
+        → k ≡ stateIn image (x .«states_at») s .label
+        → n ≡ stateIn image (x .«states_at») s .command
+        → context ≡ getD masks k 0
+        → FirstFault (designOf image) labels s context n p
+        → FirstAt (designOf image) p (stateFlowFaults (relabelled (designOf image) labels) s)
+    unfolding stateFlowFaults
+    state-flow-rule {labels} {masks} {context = context} table fl fn fm fault =
+        let mask : MaskOf (designOf image) s (stateLabel (designOf image) s ∷ []) context = rw (fm, state-label-is l fl) (table .entry (stateLabel (designOf image) s) label-stands) in
+        rw (relabelled-body (designOf image) labels s, ← (body-tree fn)) (fault .first (stateLabel (designOf image) s ∷ []) mask)
 
 -- the states before s have no fault
 pub record NoneSo (d : Table) (labels : List ℕ) (s : ℕ) : Type 0 where

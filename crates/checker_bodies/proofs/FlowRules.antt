@@ -1,4 +1,4 @@
--- What the flow pass finds at an expression and at an assignment: what a place says, the first of two lists of faults, the labels that are read, and the labels of states.
+-- What the flow pass finds at an expression and at an assignment: what a place says, the first of two lists of faults, and the labels that are read.
 use Prim.Native.Nat.{ℕ, zero, suc, _/_, _%_, _^_, _≤_, _<_}
 use mathlib.Core.Path.{_≡_, refl, sym, _∙_, ap}
 use mathlib.Core.Bool.{Bool, true, false}
@@ -12,28 +12,32 @@ use Rattle.model.specs.declared.Refusal.{Refusal}
 use Rattle.model.specs.declared.Refusal.the-variants.{AssignFlow, GotoFlow, FallFlow}
 use Rattle.model.specs.declared.Answer.{Answer}
 use Rattle.model.specs.declared.Answer.the-variants.{Accepted, Refused}
-use Rattle.model.specs.Image.{Design as Table, Node, State, designOf, commandAt, expressionAt}
-use Rattle.model.specs.Limits.{commandsMax}
-use Rattle.model.specs.Lattice.{allFlowTo, registerLabel, stateLabel}
+use Rattle.model.specs.Image.{Design as Table, Node, designOf, commandAt, expressionAt}
+use Rattle.model.specs.Limits.{registersMax, commandsMax}
 use Rattle.model.specs.Kinds.{Operation, commandKind, expressionKind}
-use Rattle.model.specs.Trees.{Expr, constant, register, binary, exprOf, cmdOf, registersRead}
+use Rattle.model.specs.Trees.{Expr, constant, register, binary, assign, exprOf, cmdOf, registersRead}
+use Rattle.model.specs.Parameters.{labelByte}
 use Rattle.model.specs.Labelling.{relabelled}
-use Rattle.model.specs.Flow.{refusedUnless, labelsRead, assignFlows, flowFaults, firstOf, flowRefusal}
+use Rattle.model.specs.Flow.{refusedUnless, labelsRead, flowsEach, assignFlows, flowFaults, firstOf, flowRefusal}
+use Rattle.model.specs.Rules.{RegisterByte, ReadsScoped, Scoped}
 use Rattle.model.specs.Verdict.{_before_}
 use Rattle.model.proofs.Laws.Kinds.{expressionKinds, kind-constants, no-expression-kind}
 use Rattle.model.proofs.Laws.Firsts.{AreRefusals, first-append}
 use Rattle.model.proofs.Laws.Trees.{expr-constant, expr-register, expr-binary, cmd-assign}
-use Rattle.model.proofs.Exact.Records.{state-iff}
 use Rattle.design.specs.declared.Design.{Design}
-use Rattle.design.specs.Records.{nodeIn, stateIn}
+use Rattle.design.specs.Records.{nodeIn}
 use Rattle.design.specs.Describes.{Describes}
-use Rattle.design.proofs.Laws.{labels-count, labels-most, states-count, commands-count, expressions-count, state-in, command-in}
-use Rattle.design.proofs.FieldRules.{label-is as state-label, command-below, same-command, item-is, a-is, assigned-register, assigned-expression, expression-at, expression-place-inside, expression-kind-is, read-is, first-is, second-is, expression-holds, read-register, operation, operand-a-below, operand-b-below, lower-expression}
-use Rattle.design.specs.Kept.{RecordsKept}
+use Rattle.design.proofs.Laws.{registers-count, registers-most, commands-count, expressions-count, command-in}
+use Rattle.design.proofs.FieldRules.{command-below, same-command, item-is, a-is, assigned-byte, assigned-expression, expression-at, expression-place-inside, expression-kind-is, read-is, first-is, second-is, expression-holds, read-byte, operation, operand-a-below, operand-b-below, lower-expression}
+use Rattle.design.proofs.BoundRules.{labels-few}
 use Rattle.checker_bodies.specs.Places.{placeUnless}
-use Rattle.checker_bodies.specs.Flows.{MaskOf, Labelled, Naming, Gathering, Assigning, answerAmong, FirstAt}
+use Rattle.checker_bodies.specs.Masks.{MaskOf, Masks}
+use Rattle.checker_bodies.specs.Flows.{Named, Entered, labelIn, ReadsMask, AssignFault, Gathering, Assigning, answerAmong, FirstAt}
 use Rattle.checker_bodies.proofs.PlaceRules.{commands-few}
-use Rattle.checker_bodies.proofs.Masks.{mask-both, mask-none, label-entry-inside, entry-is, entry-below}
+use Rattle.checker_bodies.proofs.MaskRules.{flows-each-relabelled, mask-both, mask-none, named-byte, byte-entered, byte-label-small, label-is, label-byte}
+
+pub registers-few : {image : List ℕ} {x : Design} → Describes image x → length (designOf image .registers) ≤ registersMax
+registers-few d = let count = registers-count d in let most = registers-most d in omega arith
 
 -- ---- what a place says
 module _ (d : Table) where
@@ -101,26 +105,34 @@ module _ {image : List ℕ} {x : Design} {place : ℕ} (described : Describes im
 pub ruleset told-laws = (told-accepted, told-assign, told-goto, told-fall)
 
 -- ---- expressions
-labels-append : (d : Table) (rs ss : List ℕ) → map (registerLabel d) (rs ++ ss) ≡ map (registerLabel d) rs ++ map (registerLabel d) ss
+labels-append : (d : Table) (rs ss : List ℕ) → map (labelByte d) (rs ++ ss) ≡ map (labelByte d) rs ++ map (labelByte d) ss
 labels-append d [] ss = refl
-labels-append d (r ∷ rs) ss = ap (λ (more : List ℕ). registerLabel d r ∷ more) (labels-append d rs ss)
+labels-append d (r ∷ rs) ss = ap (λ (more : List ℕ). labelByte d r ∷ more) (labels-append d rs ss)
 
 labels-binary : (d : Table) (o : Operation) (p q : Expr) → labelsRead d (binary o p q) ≡ labelsRead d p ++ labelsRead d q
 unfolding labelsRead registersRead
 labels-binary d o p q = labels-append d (registersRead p) (registersRead q)
 
-labels-register : (d : Table) (r : ℕ) → labelsRead d (register r) ≡ registerLabel d r ∷ []
+labels-register : (d : Table) (n r : ℕ) → labelsRead d (register n r) ≡ labelByte d r ∷ []
 unfolding labelsRead registersRead
-labels-register d r = refl
+labels-register d n r = refl
 
 labels-constant : (d : Table) (v : ℕ) → labelsRead d (constant v) ≡ []
 unfolding labelsRead registersRead
 labels-constant d v = refl
 
 module _ {image labels : List ℕ} {place e : ℕ} (here : Gathering image labels place e) where
-  pub gathered-register : {k r : ℕ} → k ≡ 1 → k ≡ nodeIn image place e .kind → r ≡ nodeIn image place e .item → Labelled image labels r
-  gathered-register q p f =
-      record { design = here .design; known = here .known; labelling = here .labelling; register = read-register (here .expression) q p f }
+  abbrev d : Table
+  d = designOf image
+
+  few : length (designOf image .registers) ≤ registersMax
+  few = registers-few (here .known .describes)
+
+  pub read-entered : {k r : ℕ} → k ≡ 1 → k ≡ nodeIn image place e .kind → r ≡ nodeIn image place e .item → Entered labels r
+  read-entered q p f = byte-entered few (here .labelling) (read-byte (here .expression) q p f)
+
+  pub read-label-inside : {k r : ℕ} → k ≡ 1 → k ≡ nodeIn image place e .kind → r ≡ nodeIn image place e .item → labelIn labels r < 18
+  read-label-inside q p f = byte-label-small few (here .labelling) (labels-few (here .known .describes)) (read-byte (here .expression) q p f)
 
   lower-gathering : (m : ℕ) → m < e → Gathering image labels place m
   lower-gathering m l =
@@ -133,86 +145,77 @@ module _ {image labels : List ℕ} {place e : ℕ} (here : Gathering image label
   operand-b-gathering {b = b} u l other p f = lower-gathering b (operand-b-below (here .expression) u l other p f)
 
   -- ---- what is read
-  pub gathers-register : {k r m : ℕ} → k ≡ 1 → k ≡ nodeIn image place e .kind → r ≡ nodeIn image place e .item → MaskOf (designOf image .rows) (registerLabel (relabelled (designOf image) labels) r ∷ []) m
-      → MaskOf (designOf image .rows) (labelsRead (relabelled (designOf image) labels) (exprOf (designOf image) e)) m
+  pub gathers-register : (masks : List ℕ) {k r m : ℕ} → k ≡ 1 → k ≡ nodeIn image place e .kind → r ≡ nodeIn image place e .item → m ≡ getD masks (labelIn labels r) 0 → ReadsMask (designOf image) labels masks e m
   unfolding expressionKind
-  gathers-register q p f mask =
-      let d = designOf image in
-      rw
-      (expr-register d e (ap expressionKind (expression-kind-is (here .expression) p ∙ q)), labels-register (relabelled (designOf image) labels) (expressionAt d e .item))
-      (rw (read-is (here .expression) f) at mask)
+  gathers-register masks {r = r} {m = m} q p f g =
+      record { mask-of = λ s table scoped. rw (tree, labels-register (relabelled d labels) e (expressionAt d e .item)) (found s table (rw tree at scoped)) }
+    where
+      tree : exprOf d e ≡ register e (expressionAt d e .item)
+      tree = expr-register d e (ap expressionKind (expression-kind-is (here .expression) p ∙ q))
+
+      item : r ≡ expressionAt d e .item
+      item = read-is (here .expression) f
+
+      found : (s : ℕ) → Masks d s masks → ReadsScoped d s (register e (expressionAt d e .item)) → MaskOf d s (labelByte (relabelled d labels) (expressionAt d e .item) ∷ []) m
+      found s table scoped =
+          let named : Named d s r = named-byte few (read-byte (here .expression) q p f) (rw item scoped) in
+          rw (← item, ← (label-is few (here .labelling) named), g) (table .entry (labelIn labels r) (label-byte few (here .labelling) named))
 
   pub gathers-operation :
-      {k a b m n : ℕ}
+      {masks : List ℕ} {k a b m n : ℕ}
       → k < expressionKinds
       → 1 ≤ k
       → (k ≡ 1 → ⊥)
       → k ≡ nodeIn image place e .kind
       → a ≡ nodeIn image place e .a
       → b ≡ nodeIn image place e .b
-      → MaskOf (designOf image .rows) (labelsRead (relabelled (designOf image) labels) (exprOf (designOf image) a)) m
-      → MaskOf (designOf image .rows) (labelsRead (relabelled (designOf image) labels) (exprOf (designOf image) b)) n
-      → MaskOf (designOf image .rows) (labelsRead (relabelled (designOf image) labels) (exprOf (designOf image) e)) (bitAnd m n)
+      → ReadsMask (designOf image) labels masks a m
+      → ReadsMask (designOf image) labels masks b n
+      → ReadsMask (designOf image) labels masks e (bitAnd m n)
   gathers-operation {a = a} {b = b} u l other p f g mask mask′ =
-      let d = designOf image in
       let o = operation (here .expression) u l other p in
       let first : a ≡ expressionAt d e .a = first-is (here .expression) f in
       let second : b ≡ expressionAt d e .b = second-is (here .expression) g in
       let lower = rw first at (operand-a-below (here .expression) u l other p f) in
       let lower′ = rw second at (operand-b-below (here .expression) u l other p g) in
-      let tree = expr-binary d e (o .1) lower lower′ in
-      rw (tree, labels-binary (relabelled (designOf image) labels) (o .0) (exprOf d (expressionAt d e .a)) (exprOf d (expressionAt d e .b))) (mask-both (rw first at mask) (rw second at mask′))
+      let tree : exprOf d e ≡ binary (o .0) (exprOf d a) (exprOf d b) = rw (first, second) (expr-binary d e (o .1) lower lower′) in
+      record {
+        mask-of = λ s table scoped.
+            let parts : ReadsScoped d s (binary (o .0) (exprOf d a) (exprOf d b)) = rw tree at scoped in
+            rw (tree, labels-binary (relabelled d labels) (o .0) (exprOf d a) (exprOf d b)) (mask-both (mask .mask-of s table (parts .0)) (mask′ .mask-of s table (parts .1)));
+      }
 
-  pub gathers-low : {k : ℕ} → k < 1 → k ≡ nodeIn image place e .kind → MaskOf (designOf image .rows) (labelsRead (relabelled (designOf image) labels) (exprOf (designOf image) e)) 65535
-  gathers-low l p =
-      let d = designOf image in
+  pub gathers-low : (masks : List ℕ) {k : ℕ} → k < 1 → k ≡ nodeIn image place e .kind → ReadsMask (designOf image) labels masks e 262143
+  gathers-low masks l p =
       let none = expression-kind-is (here .expression) p in
-      rw (expr-constant d e (kind-constants (omega arith)), labels-constant (relabelled (designOf image) labels) _) (mask-none (here .known .describes))
+      record { mask-of = λ s table scoped. rw (expr-constant d e (kind-constants (omega arith)), labels-constant (relabelled d labels) _) (mask-none (labels-few (here .known .describes)) (table .short)) }
 
   -- no number from here on is a kind
-  pub gathers-high : {k : ℕ} → expressionKinds ≤ k → k ≡ nodeIn image place e .kind → MaskOf (designOf image .rows) (labelsRead (relabelled (designOf image) labels) (exprOf (designOf image) e)) 65535
-  gathers-high l p = absurd (rw (no-expression-kind l) at (expression-holds (here .expression) p))
+  pub gathers-high : (masks : List ℕ) {k : ℕ} → expressionKinds ≤ k → k ≡ nodeIn image place e .kind → ReadsMask (designOf image) labels masks e 262143
+  gathers-high masks l p = absurd (rw (no-expression-kind l) at (expression-holds (here .expression) p))
 
-pub ruleset reads-laws = (expression-place-inside, gathered-register, gathers-register, gathers-operation, gathers-low, gathers-high)
-
--- ---- states and their labels
-module _ {image : List ℕ} {x : Design} (known : RecordsKept image x) where
-  pub state-label-is : {s l : ℕ} → s < x .states → l ≡ stateIn image (x .«states_at») s .label → l ≡ stateLabel (designOf image) s
-  state-label-is h e = e ∙ ap (λ (y : State). y .label) (state-in (known .describes) h)
-
-  pub state-label-below : {s : ℕ} → s < x .states → stateLabel (designOf image) s < length (designOf image .rows)
-  state-label-below {s} h =
-      let states = states-count (known .describes) in
-      state-iff (designOf image) s .0 (known .states .kept s (omega arith)) .label
-
-module _ {image : List ℕ} {place s : ℕ} (here : Naming image place s) where
-  pub state-label-small : {l : ℕ} → l ≡ stateIn image place s .label → l < 64
-  state-label-small e =
-      let labels = labels-count (here .known .describes) in
-      let below = state-label-below (here .known) (here .state .state) in
-      let few = labels-most (here .known .describes) in
-      let is = state-label (here .state) e in
-      omega arith
-
-  pub state-bit :
-      {l m : ℕ} {b : Bool} {from : List ℕ}
-      → l ≡ stateIn image place s .label
-      → b ≡ eqb (m / 2 ^ l % 2) 1
-      → MaskOf (designOf image .rows) from m
-      → b ≡ allFlowTo (designOf image .rows) from (stateLabel (designOf image) s)
-  state-bit e f mask = f ∙ rw (state-label (here .state) e) (mask .bits (stateLabel (designOf image) s) (state-label-below (here .known) (here .state .state)))
+pub ruleset reads-laws = (expression-place-inside, read-entered, read-label-inside, gathers-register, gathers-operation, gathers-low, gathers-high)
 
 -- ---- an assignment
 module _ {image labels : List ℕ} {place expressionsAt n : ℕ} (a : Assigning image labels place expressionsAt n) where
+  abbrev y : Table
+  y = designOf image
+
   -- the kind byte
   assigns-byte : nodeIn image place n .kind ≡ 1
   assigns-byte = ap (λ (y : Node). y .kind) (same-command (a .command)) ∙ a .kind
 
-  assigned : {r : ℕ} → r ≡ nodeIn image place n .item → Labelled image labels r
-  assigned f = record { design = a .design; known = a .known; labelling = a .labelling; register = assigned-register (a .command) assigns-byte refl f }
+  assigned-few : length (designOf image .registers) ≤ registersMax
+  assigned-few = registers-few (a .known .describes)
 
-  pub assigned-inside : {r : ℕ} → r ≡ nodeIn image place n .item → r < length labels
-  assigned-inside f = label-entry-inside (assigned f)
+  written-byte : {r : ℕ} → r ≡ nodeIn image place n .item → RegisterByte (designOf image) r
+  written-byte f = assigned-byte (a .command) assigns-byte refl f
+
+  pub assigned-entered : {r : ℕ} → r ≡ nodeIn image place n .item → Entered labels r
+  assigned-entered f = byte-entered assigned-few (a .labelling) (written-byte f)
+
+  pub assigned-label-small : {r l : ℕ} → r ≡ nodeIn image place n .item → l ≡ labelIn labels r → l < 64
+  assigned-label-small f g = let small = byte-label-small assigned-few (a .labelling) (labels-few (a .known .describes)) (written-byte f) in omega arith
 
   pub assigned-gathering : {e : ℕ} → e ≡ nodeIn image place n .a → Gathering image labels expressionsAt e
   assigned-gathering f =
@@ -225,31 +228,33 @@ module _ {image labels : List ℕ} {place expressionsAt n : ℕ} (a : Assigning 
         expression = expression-at (a .known .describes) (a .known .expressions) (omega arith) (a .expressions-begin);
       }
 
-  assigned-label : {r l : ℕ} → r ≡ nodeIn image place n .item → l ≡ getD labels r 0 → l ≡ registerLabel (relabelled (designOf image) labels) (commandAt (designOf image) n .item)
-  assigned-label f g = entry-is (assigned f) g ∙ ap (registerLabel (relabelled (designOf image) labels)) (item-is (a .command) f)
-
-  assigned-below : registerLabel (relabelled (designOf image) labels) (commandAt (designOf image) n .item) < length (designOf image .rows)
-  assigned-below = entry-below (assigned (sym (ap (λ (y : Node). y .item) (same-command (a .command)))))
-
-  pub assigned-label-small : {r l : ℕ} → r ≡ nodeIn image place n .item → l ≡ getD labels r 0 → l < 64
-  assigned-label-small f g = let count = labels-count (a .known .describes) in let few = labels-most (a .known .describes) in let below = assigned-below in let is = assigned-label f g in omega arith
-
   pub assign-rule :
-      {r e l m context : ℕ} {b : Bool} {answer : ℕ} {from : List ℕ} (s : ℕ)
+      {masks : List ℕ} {r e l m context : ℕ} {b : Bool} {answer : ℕ}
       → r ≡ nodeIn image place n .item
       → e ≡ nodeIn image place n .a
-      → MaskOf (designOf image .rows) (labelsRead (relabelled (designOf image) labels) (exprOf (designOf image) e)) m
-      → l ≡ getD labels r 0
+      → ReadsMask (designOf image) labels masks e m
+      → l ≡ labelIn labels r
       → b ≡ eqb (bitAnd context m / 2 ^ l % 2) 1
       → answer ≡ placeUnless b n
-      → MaskOf (designOf image .rows) from context
-      → FirstAt (designOf image) answer (flowFaults (relabelled (designOf image) labels) s from (cmdOf (designOf image) n))
+      → AssignFault (designOf image) labels masks context n answer
   unfolding commandKind flowFaults flowRefusal
-  assign-rule {e = e} {b = b} {from = from} s fr fe read-mask fl fb fa mask =
-      let d = designOf image in
-      let under = relabelled d labels in
-      let tree = cmd-assign d n (ap commandKind (a .kind)) in
-      let both = mask-both mask (rw (a-is (a .command) fe) at read-mask) in
-      let charged = first-charged d b (command-below (a .command)) (commands-few (a .known .describes)) (ap (λ (k : ℕ). flowRefusal (commandKind k)) (a .kind)) in
-      let same : b ≡ assignFlows under from (commandAt d n .item) (exprOf d (commandAt d n .a)) = fb ∙ rw (assigned-label fr fl) (both .bits (registerLabel under (commandAt d n .item)) assigned-below) in
-      rw (fa, tree, ← same) charged
+  assign-rule {masks} {r} {e} {l} {m} {context} {b} {answer} fr fe read-mask fl fb fa =
+      record { fault = λ s table standing. record { first = λ from mask. judged s table (rw tree at (standing .scoped)) from mask } }
+    where
+      item : r ≡ commandAt y n .item
+      item = item-is (a .command) fr
+
+      expression : e ≡ commandAt y n .a
+      expression = a-is (a .command) fe
+
+      tree : cmdOf y n ≡ assign n r (exprOf y e)
+      tree = rw (item, expression) (cmd-assign y n (ap commandKind (a .kind)))
+
+      judged : (s : ℕ) → Masks y s masks → Scoped y s (assign n r (exprOf y e)) → (from : List ℕ) → MaskOf y s from context → FirstAt y answer (flowFaults (relabelled y labels) s from (cmdOf y n))
+      judged s table scoped from mask =
+          let named : Named y s r = named-byte assigned-few (written-byte fr) (scoped .0) in
+          let both = mask-both mask (read-mask .mask-of s table (scoped .1)) in
+          let bits = both .bits (labelIn labels r) (label-byte assigned-few (a .labelling) named) in
+          let same : b ≡ assignFlows (relabelled y labels) s from r (exprOf y e) = fb ∙ rw fl bits ∙ sym (flows-each-relabelled y s labels (from ++ labelsRead (relabelled y labels) (exprOf y e)) (labelIn labels r)) ∙ ap (flowsEach (relabelled y labels) s (from ++ labelsRead (relabelled y labels) (exprOf y e))) (label-is assigned-few (a .labelling) named) in
+          let charged = first-charged y b (command-below (a .command)) (commands-few (a .known .describes)) (ap (λ (k : ℕ). flowRefusal (commandKind k)) (a .kind)) in
+          rw (fa, tree, ← same) charged

@@ -144,9 +144,9 @@ module _ (d : Table) (s n : ℕ) where
   unfolding judgedOf transfers holdsFall shapeFaults
   fall-tree = refl
 
-  goto-tree : (t : ℕ) → record { transfers = true; falls = false; lowest = lowestOf (chargedUnless (siblingOrSelf d s t) n) } ≡ judgedOf d s (goto n t)
+  goto-tree : (t a b : ℕ) → record { transfers = true; falls = false; lowest = lowestOf (chargedUnless (siblingOrSelf d s t) n) } ≡ judgedOf d s (goto n t a b)
   unfolding judgedOf transfers holdsFall shapeFaults
-  goto-tree t = refl
+  goto-tree t a b = refl
 
   skip-tree : record { transfers = false; falls = false; lowest = Nowhere } ≡ judgedOf d s (skip n)
   unfolding judgedOf transfers holdsFall shapeFaults lowestOf
@@ -272,7 +272,7 @@ module _ {image : List ℕ} {states place s n : ℕ} {childed : Bool} (j : Judgi
   unfolding commandKind
   judged-goto {t = t} {b = b} f e et eb g h =
       let named = item-is (j .command) et in
-      transfer-among false b g h ∙ rw (eb, named, cmd-goto (designOf image) n (command-kind-of (j .command) goes f e refl)) (goto-tree (designOf image) s n (commandAt (designOf image) n .item))
+      transfer-among false b g h ∙ rw (eb, named, cmd-goto (designOf image) n (command-kind-of (j .command) goes f e refl)) (goto-tree (designOf image) s n (commandAt (designOf image) n .item) (commandAt (designOf image) n .a) (commandAt (designOf image) n .b))
 
   nowhere-among : {r : ℕ} → r ≡ judgementOf false false commandsMax → judgedAmong (length (designOf image .commands)) r ≡ record { transfers = false; falls = false; lowest = Nowhere }
   nowhere-among h =

@@ -1,12 +1,8 @@
 use Rattle.checker.specs.Stages.{fromLabels}
-use Rattle.checker.proofs.StageRules.{stage-refuses, stage-passes, known-registers, known-states, known-nodes, shape-known}
+use Rattle.checker.proofs.StageRules.{stage-refuses, stage-passes, known-lattice}
 use borrow.Author.Needs.{needs}
 use Rattle.checker.proofs.from_labels.Statement.{statement}
 use Rattle.checker.proofs.from_labels.Tie as tie
-use Rattle.checker.proofs.from_labels.Reads as reads
-use Rattle.checker.proofs.from_labels.Lts as lts
-use Rattle.checker_records.proofs.lattice.labels.Reads as labels-reads
-use Rattle.checker.proofs.from_registers.Reads as from-registers-reads
 
 labels-requires : tie.Need-labels-requires
 labels-requires c κs = search needs
@@ -18,7 +14,7 @@ enum-told : tie.Need-enum-told
 enum-told c = search needs
 
 from-registers-requires : tie.Need-from-registers-requires
-from-registers-requires c κs = search needs
+from-registers-requires c κs = search (known-lattice, needs)
 
 returns : tie.Need-returns
 unfolding fromLabels

@@ -13,8 +13,8 @@ enum-known-found c = search needs
 enum-told : tie.Need-enum-told
 enum-told c = search needs
 
-from-children-requires : tie.Need-from-children-requires
-from-children-requires c κs = search needs
+from-parameters-requires : tie.Need-from-parameters-requires
+from-parameters-requires c κs = search needs
 
 returns : tie.Need-returns
 unfolding fromPorts
@@ -27,4 +27,4 @@ returns-2 c = search (stage-refuses, stage-passes, needs)
 pub from-ports-spec : {M : Type 1} → statement M
 from-ports-spec =
     tie.close
-    (tie.spec ports-named-requires enum-known-found enum-told from-children-requires returns returns-2)
+    (tie.spec ports-named-requires enum-known-found enum-told from-parameters-requires returns returns-2)

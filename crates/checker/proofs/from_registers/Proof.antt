@@ -1,12 +1,8 @@
 use Rattle.checker.specs.Stages.{fromRegisters}
-use Rattle.checker.proofs.StageRules.{stage-refuses, stage-passes, known-registers, known-states, known-nodes, shape-known}
+use Rattle.checker.proofs.StageRules.{stage-refuses, stage-passes, known-registers}
 use borrow.Author.Needs.{needs}
 use Rattle.checker.proofs.from_registers.Statement.{statement}
 use Rattle.checker.proofs.from_registers.Tie as tie
-use Rattle.checker.proofs.from_registers.Reads as reads
-use Rattle.checker.proofs.from_registers.Lts as lts
-use Rattle.checker_records.proofs.registers.registers.Reads as registers-reads
-use Rattle.checker.proofs.from_states.Reads as from-states-reads
 
 registers-requires : tie.Need-registers-requires
 registers-requires c κs = search needs
@@ -18,7 +14,7 @@ enum-told : tie.Need-enum-told
 enum-told c = search needs
 
 from-states-requires : tie.Need-from-states-requires
-from-states-requires c κs = search (known-registers, known-states, known-nodes, shape-known, needs)
+from-states-requires c κs = search (known-registers, needs)
 
 returns : tie.Need-returns
 unfolding fromRegisters

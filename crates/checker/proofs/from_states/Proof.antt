@@ -1,12 +1,8 @@
 use Rattle.checker.specs.Stages.{fromStates}
-use Rattle.checker.proofs.StageRules.{stage-refuses, stage-passes, known-registers, known-states, known-nodes, shape-known}
+use Rattle.checker.proofs.StageRules.{stage-refuses, stage-passes, known-states}
 use borrow.Author.Needs.{needs}
 use Rattle.checker.proofs.from_states.Statement.{statement}
 use Rattle.checker.proofs.from_states.Tie as tie
-use Rattle.checker.proofs.from_states.Reads as reads
-use Rattle.checker.proofs.from_states.Lts as lts
-use Rattle.checker_records.proofs.states.states.Reads as states-reads
-use Rattle.checker.proofs.from_nodes.Reads as from-nodes-reads
 
 states-requires : tie.Need-states-requires
 states-requires c κs = search needs
@@ -18,7 +14,7 @@ enum-told : tie.Need-enum-told
 enum-told c = search needs
 
 from-nodes-requires : tie.Need-from-nodes-requires
-from-nodes-requires c κs = search (known-registers, known-states, known-nodes, shape-known, needs)
+from-nodes-requires c κs = search (known-states, needs)
 
 returns : tie.Need-returns
 unfolding fromStates

@@ -1,4 +1,4 @@
-use Rattle.checker.proofs.Accepted.{structured-directory, structured-keeps, structure-known}
+use Rattle.checker.proofs.Accepted.{structured-directory, structured-keeps, structure-known, structure-parameters, structure-bodies}
 use Rattle.checker.proofs.StageRules.{structure-refuses, structure-passes}
 use borrow.Author.Needs.{needs}
 use Rattle.checker.proofs.verdict.Statement.{statement}
@@ -20,7 +20,7 @@ read-requires : tie.Need-read-requires
 read-requires c κs = search (structured-directory, needs)
 
 flow-faults-requires : tie.Need-flow-faults-requires
-flow-faults-requires c κs = search (structured-keeps, structure-known, needs)
+flow-faults-requires c κs = (search (structured-keeps, structure-known, needs), search (structured-keeps, structure-parameters), search (structured-keeps, structure-bodies))
 
 returns-2 : tie.Need-returns-2
 returns-2 c = search (structure-refuses, structure-passes, needs)

@@ -1,4 +1,6 @@
 use Rattle.design.proofs.LabelRules.{registers-few, own-labels-kept}
+use Rattle.design.proofs.BoundRules.{scopes-short}
+use Rattle.checker.proofs.StageRules.{scopes-fit}
 use Rattle.checker.proofs.OwnLabels.{own-flow}
 use borrow.Author.Needs.{needs}
 use Rattle.checker.proofs.flow.flow_faults.Statement.{statement}
@@ -10,14 +12,33 @@ slice-aggregate-register-labels c = search needs
 register-labels-requires : tie.Need-register-labels-requires
 register-labels-requires c κs = (search needs, search (registers-few, needs))
 
+slice-aggregate-scopes : tie.Need-slice-aggregate-scopes
+slice-aggregate-scopes c = search needs
+
+scopes-requires : tie.Need-scopes-requires
+scopes-requires c κs = (search needs, search needs, search scopes-short, search (scopes-fit, needs))
+
 slice-aggregate-faults : tie.Need-slice-aggregate-faults
 slice-aggregate-faults c = search needs
 
+slice-aggregate-faults-2 : tie.Need-slice-aggregate-faults-2
+slice-aggregate-faults-2 c = search needs
+
 faults-requires : tie.Need-faults-requires
-faults-requires c κs = (search needs, search (own-labels-kept, registers-few, needs))
+faults-requires c κs = (search needs, search needs, search needs, search (own-labels-kept, registers-few, needs), search needs)
 
 returns : tie.Need-returns
 returns c = search (own-flow, needs)
 
 pub flow-faults-spec : {M : Type 1} → statement M
-flow-faults-spec = tie.close (tie.spec slice-aggregate-register-labels register-labels-requires slice-aggregate-faults faults-requires returns)
+flow-faults-spec =
+    tie.close
+    (tie.spec
+    slice-aggregate-register-labels
+    register-labels-requires
+    slice-aggregate-scopes
+    scopes-requires
+    slice-aggregate-faults
+    slice-aggregate-faults-2
+    faults-requires
+    returns)

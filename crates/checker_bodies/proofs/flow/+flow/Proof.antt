@@ -1,36 +1,37 @@
 use borrow.Author.Needs.{needs}
 use Rattle.design.proofs.FieldRules.{sequence-a-falls, sequence-b-falls, branch-b-falls, branch-c-falls}
-use Rattle.checker_bodies.proofs.FlowKinds.{flow-laws, mask-small, sequence-a-flowing, sequence-b-flowing, branch-b-flowing, branch-c-flowing}
+use Rattle.checker_bodies.proofs.FlowKinds.{flow-laws, sequence-a-flowing, sequence-b-flowing, branch-b-flowing, branch-c-flowing}
 use Prim.Native.Nat.{ℕ, _<_}
 use borrow.Fn.Kinds.{In}
 use borrow.Fn.PlainCycle.{Measures, is, falls, and}
 use Rattle.checker_bodies.proofs.flow.flow.Reads as flow
 use Rattle.checker_bodies.proofs.flow.flow.Kinds as flow-kinds
 use Rattle.checker_bodies.proofs.flow.+flow.Lts-flow as flow-lts
-use Rattle.design.proofs.Design.item.Reads as item-reads
+use Rattle.checker_bodies.proofs.flow.assign_flow.Reads as assign-flow-reads
+use Rattle.checker_bodies.proofs.flow.named_label.Reads as named-label-reads
+use Rattle.checker_bodies.proofs.flow.reads.Reads as reads-reads
+use Rattle.checker_bodies.proofs.places.charged_unless.Reads as charged-unless-reads
 use Rattle.design.proofs.Design.kind.Reads as kind-reads
 use Rattle.design.proofs.Design.part_a.Reads as part-a-reads
 use Rattle.design.proofs.Design.part_b.Reads as part-b-reads
 use Rattle.design.proofs.Design.part_c.Reads as part-c-reads
-use Rattle.checker_bodies.proofs.flow.assign_flow.Reads as assign-flow-reads
-use Rattle.checker_bodies.proofs.flow.flows_to_state.Reads as flows-to-state-reads
-use Rattle.checker_bodies.proofs.flow.reads.Reads as reads-reads
-use Rattle.checker_bodies.proofs.places.charged_unless.Reads as charged-unless-reads
+use Rattle.design.proofs.Design.state_label.Reads as state-label-reads
+use Rattle.design.proofs.rows.bit.Reads as bit-reads
 use Rattle.checker_bodies.proofs.flow.+flow.{statement}
 use Rattle.checker_bodies.proofs.flow.+flow.Tie.{close}
 
-abbrev μ-flow : Measures 2 flow-kinds.ps ℕ
-μ-flow κs a = a .1 .1 .1 .1 .1 .1 .1 .0
+abbrev μ-flow : Measures 3 flow-kinds.ps ℕ
+μ-flow κs a = a .1 .1 .1 .1 .1 .1 .1 .1 .1 .0
 
-abbrev flow-at : ℕ → In 2 flow-kinds.ps
-flow-at t = and 2 flow-kinds.ps (is 2 flow-kinds.ps μ-flow t) flow.Pre
+abbrev flow-at : ℕ → In 3 flow-kinds.ps
+flow-at t = and 3 flow-kinds.ps (is 3 flow-kinds.ps μ-flow t) flow.Pre
 
-abbrev flow-below : ℕ → In 2 flow-kinds.ps
-flow-below t = and 2 flow-kinds.ps (falls 2 flow-kinds.ps _<_ μ-flow t) flow.Pre
+abbrev flow-below : ℕ → In 3 flow-kinds.ps
+flow-below t = and 3 flow-kinds.ps (falls 3 flow-kinds.ps _<_ μ-flow t) flow.Pre
 
 -- what the callees ask and tell
 abbrev flow-calls : ℕ → flow-lts.Claims
-flow-calls t = (kind-reads.Asked, kind-reads.Learnt, assign-flow-reads.Asked, assign-flow-reads.Learnt, part-a-reads.Asked, part-a-reads.Learnt, part-b-reads.Asked, part-b-reads.Learnt, flow-below t, flow.Post, flows-to-state-reads.Asked, flows-to-state-reads.Learnt, charged-unless-reads.Asked, charged-unless-reads.Learnt, item-reads.Asked, item-reads.Learnt, part-c-reads.Asked, part-c-reads.Learnt, reads-reads.Asked, reads-reads.Learnt)
+flow-calls t = (kind-reads.Asked, kind-reads.Learnt, assign-flow-reads.Asked, assign-flow-reads.Learnt, part-a-reads.Asked, part-a-reads.Learnt, part-b-reads.Asked, part-b-reads.Learnt, flow-below t, flow.Post, state-label-reads.Asked, state-label-reads.Learnt, bit-reads.Asked, bit-reads.Learnt, charged-unless-reads.Asked, charged-unless-reads.Learnt, named-label-reads.Asked, named-label-reads.Learnt, part-c-reads.Asked, part-c-reads.Learnt, reads-reads.Asked, reads-reads.Learnt)
 
 flow-kind-requires : (t : ℕ) → flow-lts.Need-kind-requires (flow-calls t) (flow-at t) flow.Post
 flow-kind-requires t c κs = search (flow-laws, needs)
@@ -45,22 +46,28 @@ flow-part-b-requires : (t : ℕ) → flow-lts.Need-part-b-requires (flow-calls t
 flow-part-b-requires t c κs = search (flow-laws, needs)
 
 flow-flow-requires : (t : ℕ) → flow-lts.Need-flow-requires (flow-calls t) (flow-at t) flow.Post
-flow-flow-requires t c κs = (search sequence-a-falls, (search sequence-a-flowing, search (mask-small, needs)))
+flow-flow-requires t c κs = (search sequence-a-falls, search sequence-a-flowing)
+
+flow-returns : (t : ℕ) → flow-lts.Need-returns (flow-calls t) (flow-at t) flow.Post
+flow-returns t c = search (flow-laws, needs)
 
 flow-flow-requires-2 : (t : ℕ) → flow-lts.Need-flow-requires-2 (flow-calls t) (flow-at t) flow.Post
-flow-flow-requires-2 t c κs = (search sequence-b-falls, (search sequence-b-flowing, search (mask-small, needs)))
+flow-flow-requires-2 t c κs = (search sequence-b-falls, search sequence-b-flowing)
 
-flow-flows-to-state-requires : (t : ℕ) → flow-lts.Need-flows-to-state-requires (flow-calls t) (flow-at t) flow.Post
-flow-flows-to-state-requires t c κs = search (flow-laws, needs)
+flow-state-label-requires : (t : ℕ) → flow-lts.Need-state-label-requires (flow-calls t) (flow-at t) flow.Post
+flow-state-label-requires t c κs = search (flow-laws, needs)
+
+flow-bit-requires : (t : ℕ) → flow-lts.Need-bit-requires (flow-calls t) (flow-at t) flow.Post
+flow-bit-requires t c κs = search (flow-laws, needs)
 
 flow-charged-unless-requires : (t : ℕ) → flow-lts.Need-charged-unless-requires (flow-calls t) (flow-at t) flow.Post
 flow-charged-unless-requires t c κs = search (flow-laws, needs)
 
-flow-item-requires : (t : ℕ) → flow-lts.Need-item-requires (flow-calls t) (flow-at t) flow.Post
-flow-item-requires t c κs = search (flow-laws, needs)
+flow-named-label-requires : (t : ℕ) → flow-lts.Need-named-label-requires (flow-calls t) (flow-at t) flow.Post
+flow-named-label-requires t c κs = search (flow-laws, needs)
 
-flow-flows-to-state-requires-2 : (t : ℕ) → flow-lts.Need-flows-to-state-requires-2 (flow-calls t) (flow-at t) flow.Post
-flow-flows-to-state-requires-2 t c κs = search (flow-laws, needs)
+flow-bit-requires-2 : (t : ℕ) → flow-lts.Need-bit-requires-2 (flow-calls t) (flow-at t) flow.Post
+flow-bit-requires-2 t c κs = search (flow-laws, needs)
 
 flow-charged-unless-requires-2 : (t : ℕ) → flow-lts.Need-charged-unless-requires-2 (flow-calls t) (flow-at t) flow.Post
 flow-charged-unless-requires-2 t c κs = search (flow-laws, needs)
@@ -78,19 +85,16 @@ flow-reads-requires : (t : ℕ) → flow-lts.Need-reads-requires (flow-calls t) 
 flow-reads-requires t c κs = search (flow-laws, needs)
 
 flow-flow-requires-3 : (t : ℕ) → flow-lts.Need-flow-requires-3 (flow-calls t) (flow-at t) flow.Post
-flow-flow-requires-3 t c κs = (search branch-b-falls, (search branch-b-flowing, search (mask-small, needs)))
-
-flow-flow-requires-4 : (t : ℕ) → flow-lts.Need-flow-requires-4 (flow-calls t) (flow-at t) flow.Post
-flow-flow-requires-4 t c κs = (search branch-c-falls, (search branch-c-flowing, search (mask-small, needs)))
-
-flow-returns : (t : ℕ) → flow-lts.Need-returns (flow-calls t) (flow-at t) flow.Post
-flow-returns t c = search (flow-laws, needs)
+flow-flow-requires-3 t c κs = (search branch-b-falls, search branch-b-flowing)
 
 flow-returns-2 : (t : ℕ) → flow-lts.Need-returns-2 (flow-calls t) (flow-at t) flow.Post
 flow-returns-2 t c = search (flow-laws, needs)
 
+flow-flow-requires-4 : (t : ℕ) → flow-lts.Need-flow-requires-4 (flow-calls t) (flow-at t) flow.Post
+flow-flow-requires-4 t c κs = (search branch-c-falls, search branch-c-flowing)
+
 flow-returns-3 : (t : ℕ) → flow-lts.Need-returns-3 (flow-calls t) (flow-at t) flow.Post
-flow-returns-3 t c = λ from mask. c .assign-flow .ensures _ from mask
+flow-returns-3 t c = search (flow-laws, needs)
 
 flow-returns-4 : (t : ℕ) → flow-lts.Need-returns-4 (flow-calls t) (flow-at t) flow.Post
 flow-returns-4 t c = search (flow-laws, needs)
@@ -118,10 +122,11 @@ pub +flow-spec : {M : Type 1} → statement M
     (flow-flow-requires t)
     (flow-returns t)
     (flow-flow-requires-2 t)
-    (flow-flows-to-state-requires t)
+    (flow-state-label-requires t)
+    (flow-bit-requires t)
     (flow-charged-unless-requires t)
-    (flow-item-requires t)
-    (flow-flows-to-state-requires-2 t)
+    (flow-named-label-requires t)
+    (flow-bit-requires-2 t)
     (flow-charged-unless-requires-2 t)
     (flow-part-a-requires-2 t)
     (flow-part-b-requires-2 t)

@@ -15,14 +15,14 @@ use Rattle.checker_bodies.proofs.flow.register_mask.Reads as register-m
 use Rattle.checker_bodies.proofs.flow.+reads.{statement}
 use Rattle.checker_bodies.proofs.flow.+reads.Tie.{close}
 
-abbrev μ-reads : Measures 2 reads-kinds.ps ℕ
-μ-reads κs a = a .1 .1 .1 .0
+abbrev μ-reads : Measures 3 reads-kinds.ps ℕ
+μ-reads κs a = a .1 .1 .1 .1 .0
 
-abbrev reads-at : ℕ → In 2 reads-kinds.ps
-reads-at t = and 2 reads-kinds.ps (is 2 reads-kinds.ps μ-reads t) reads′.Pre
+abbrev reads-at : ℕ → In 3 reads-kinds.ps
+reads-at t = and 3 reads-kinds.ps (is 3 reads-kinds.ps μ-reads t) reads′.Pre
 
-abbrev reads-below : ℕ → In 2 reads-kinds.ps
-reads-below t = and 2 reads-kinds.ps (falls 2 reads-kinds.ps _<_ μ-reads t) reads′.Pre
+abbrev reads-below : ℕ → In 3 reads-kinds.ps
+reads-below t = and 3 reads-kinds.ps (falls 3 reads-kinds.ps _<_ μ-reads t) reads′.Pre
 
 -- what the callees ask and tell
 abbrev reads-calls : ℕ → reads-lts.Claims

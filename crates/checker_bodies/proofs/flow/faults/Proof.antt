@@ -1,22 +1,31 @@
 use Prim.Native.Nat.{_-_, _≤_}
 use borrow.Author.Needs.{needs}
 use Rattle.model.specs.Image.{designOf}
+use Rattle.checker_bodies.specs.Masks.{Rows}
 use Rattle.checker_bodies.proofs.FlowKinds.{NoneSo, faults-laws}
 use Rattle.checker_bodies.proofs.flow.faults.Statement.{statement}
 use Rattle.checker_bodies.proofs.flow.faults.Tie as tie
-use Rattle.checker_bodies.proofs.flow.faults.Reads as reads
-use Rattle.checker_bodies.proofs.flow.faults.Lts as lts
-use Rattle.checker_bodies.proofs.flow.answer.Reads as answer-reads
-use Rattle.checker_bodies.proofs.flow.state_flow.Reads as state-flow-reads
 
 abbrev Inv-loop : tie.InvT-loop
-Inv-loop image design labels s₀ s = NoneSo (designOf image) labels s × (s ≤ design .states)
+Inv-loop image design labels scopes masks₀ s₀ masks s = NoneSo (designOf image) labels s × (s ≤ design .states) × Rows (designOf image) masks
 
 abbrev μ-loop : tie.MeasureT-loop
-μ-loop image design labels s₀ s = design .states - s
+μ-loop image design labels scopes masks₀ s₀ masks s = design .states - s
+
+slice-aggregate-label-rows : tie.Need-slice-aggregate-label-rows Inv-loop μ-loop
+slice-aggregate-label-rows c = search needs
+
+label-rows-requires : tie.Need-label-rows-requires Inv-loop μ-loop
+label-rows-requires c κs = search needs
 
 loop-holds : tie.Need-loop-holds Inv-loop μ-loop
 loop-holds c = search (faults-laws, needs)
+
+slice-aggregate-scope-masks : tie.Need-slice-aggregate-scope-masks Inv-loop μ-loop
+slice-aggregate-scope-masks c = search needs
+
+scope-masks-requires : tie.Need-scope-masks-requires Inv-loop μ-loop
+scope-masks-requires c κs = search needs
 
 state-flow-requires : tie.Need-state-flow-requires Inv-loop μ-loop
 state-flow-requires c κs = search needs
@@ -45,7 +54,11 @@ faults-spec =
     (tie.spec
     Inv-loop
     μ-loop
+    slice-aggregate-label-rows
+    label-rows-requires
     loop-holds
+    slice-aggregate-scope-masks
+    scope-masks-requires
     state-flow-requires
     answer-requires
     returns
