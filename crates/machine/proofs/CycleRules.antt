@@ -1,11 +1,12 @@
--- A cycle body by body: as many bodies are left as states were not yet reached, and what they leave from here on is what the whole cycle leaves.
-use Prim.Native.Nat.{ℕ, suc, _+_, _-_, _≤_, _<_}
+-- A cycle body by body: as many bodies are left as states were not yet reached, and what they leave from here on is what the whole cycle leaves. Each body is that of a
+-- state along the targets, where all that is in scope is soundly bound; and a cycle leaves good areas good, so it can be run again.
+use Prim.Native.Nat.{ℕ, suc, _+_, _-_, _*_, _≤_, _<_}
 use mathlib.Core.Path.{_≡_, refl, sym, _∙_, ap}
-use mathlib.Core.Bool.{Bool, true, false, cond}
+use mathlib.Core.Bool.{true}
 use mathlib.Core.List.{List, [], _∷_, _++_, append-nil}
 use native.Mathlib.Omega.{arith}
-use native.Mathlib.Decide.{ℕ-discrete}
-use lib.ListN.{length, getD, set, length-set}
+use lib.ListN.{length, getD, set, length-set, length-drop}
+use lib.Seq.{length-take-le, getD-take}
 use mir.Syntax.{w32}
 use mir.Val.{Fits}
 use Rattle.model.specs.declared.Ending.{Ending}
@@ -13,33 +14,20 @@ use Rattle.model.specs.declared.Ending.the-variants.{Goto, Fall}
 use Rattle.model.specs.declared.Outcome.{Outcome}
 use Rattle.model.specs.declared.Outcome.the-variants.{Continued, Transferred}
 use Rattle.model.specs.Image.{Design as Table, States, designOf}
-use Rattle.model.specs.States.{parent, defaultTarget, within}
-use Rattle.model.specs.Lattice.{stateLabel}
-use Rattle.model.specs.Trees.{cmdOf, bodyOf}
-use Rattle.model.specs.Values.{wordsOf}
-use Rattle.model.specs.Machine.{Executed, Areas, Cycle, exec, goneTo, afterBody, runFrom, cycle, afterCycles, cycles, afterLast}
-use Rattle.model.proofs.Laws.States.{sibling-child}
-use Rattle.model.proofs.Laws.Gotos.{length-gone, gone-other, gone-parent}
+use Rattle.model.specs.Bindings.{bodyWith, boundBy, onPath}
+use Rattle.model.specs.Machine.{Areas, Cycle, exec, goneTo, afterBody, runFrom, cycle, afterCycles, cycles, afterLast}
+use Rattle.model.specs.Calls.{targetsIn, bindingsIn}
+use Rattle.model.proofs.Laws.Words.{length-wordsOf}
 use Rattle.model.proofs.Laws.Cycles.{after-first}
-use Rattle.model.proofs.Independence.Endings.{exec-ends}
+use Rattle.model.proofs.Independence.Relation.{Good}
+use Rattle.model.proofs.Independence.Path.{Live, live-sound, target-live, root-live, run-good}
 use Rattle.design.specs.declared.Design.{Design}
-use Rattle.design.specs.Records.{stateIn}
-use Rattle.design.proofs.FieldRules.{body-is, body-below}
-use Rattle.design.proofs.Laws.{registers-count, states-count}
-use Rattle.design.proofs.ResetRules.{default-inside, states-few, state-fits}
-use Rattle.design.specs.Kept.{RecordsKept}
-use Rattle.machine_commands.specs.Executions.{Executing, executedAs, valuesIn}
-use Rattle.machine.specs.Cycles.{Running, Cycled, areasIn, overwritten}
-
--- ---- the command of a state
-module _ {image : List ℕ} {x : Design} {s c : ℕ} (known : RecordsKept image x) (l : s < x .states) (e : c ≡ stateIn image (x .«states_at») s .command) where
-  pub body-executing : Executing image x c
-  body-executing = record { known = known; node = body-below (known .describes) l e (known .states) }
-
-  pub body-rule : (before after : List ℕ) {o : Outcome} → executedAs (wordsOf (x .registers) after) o ≡ exec (designOf image .registers) (wordsOf (x .registers) before) (cmdOf (designOf image) c)
-      → executedAs (valuesIn (designOf image) after) o ≡ exec (designOf image .registers) (valuesIn (designOf image) before) (bodyOf (designOf image) s)
-  unfolding bodyOf
-  body-rule before after h = rw (← registers-count (known .describes), ← body-is (known .describes) l e) h
+use Rattle.design.proofs.Laws.{states-count}
+use Rattle.design.proofs.ResetRules.{states-few, state-fits}
+use Rattle.machine_commands.specs.Executions.{executedAs, valuesIn}
+use Rattle.machine.specs.Bindings.{ArgumentsFit, Gone}
+use Rattle.machine.specs.Cycles.{Running, Entered, Ends, Cycled, areasIn, overwritten}
+use Rattle.machine.proofs.BodyRules.{accepted}
 
 -- ---- the walk as it is written
 pub put-shown : (shown old : List ℕ) (v : ℕ) → length shown < length old → set (overwritten shown old) (length shown) v ≡ overwritten (shown ++ v ∷ []) old
@@ -57,9 +45,9 @@ one-more [] v rest = refl
 one-more (a ∷ shown) v rest = ap (λ (more : List ℕ). a ∷ more) (one-more shown v rest)
 
 -- ---- one body
-ran-step : (d : Table) (f s : ℕ) (areas : Areas) {values : List ℕ} {o : Outcome} → executedAs values o ≡ exec (d .registers) (areas .registers) (bodyOf d s)
+ran-step : (d : Table) (f s : ℕ) (areas : Areas) {values : List ℕ} {o : Outcome} → executedAs values o ≡ exec (d .registers) (areas .registers) (bodyWith d (areas .bindings) s)
     → runFrom d (suc f) s areas
-    ≡ afterBody d o s (record { registers = values; targets = areas .targets }) (runFrom d f (getD (areas .targets) s 0) (record { registers = values; targets = areas .targets }))
+    ≡ afterBody d o s (record { registers = values; targets = areas .targets; bindings = areas .bindings }) (runFrom d f (getD (areas .targets) s 0) (record { registers = values; targets = areas .targets; bindings = areas .bindings }))
 unfolding runFrom
 ran-step d f s areas e = rw (← e)
 
@@ -92,9 +80,9 @@ cycle-begins d start before l =
 one-left : {f : ℕ} (n m : ℕ) → n < m → n + f ≡ m → f ≡ suc (f - 1)
 one-left n m l e = omega arith
 
-module _ {d : Table} {start now : Areas} {before walk values : List ℕ} {n s : ℕ} {o : Outcome} (so : CycleSo d start before n s now walk) (l : n < length (d .states)) (long : length (d .states) ≤ length before) (ran : executedAs values o ≡ exec (d .registers) (now .registers) (bodyOf d s)) where
+module _ {d : Table} {start now : Areas} {before walk values : List ℕ} {n s : ℕ} {o : Outcome} (so : CycleSo d start before n s now walk) (l : n < length (d .states)) (long : length (d .states) ≤ length before) (ran : executedAs values o ≡ exec (d .registers) (now .registers) (bodyWith d (now .bindings) s)) where
   abbrev areasLeft : Areas
-  areasLeft = record { registers = values; targets = now .targets }
+  areasLeft = record { registers = values; targets = now .targets; bindings = now .bindings }
 
   abbrev fellRun : Cycle
   fellRun = runFrom d (so .left - 1) (getD (now .targets) s 0) areasLeft
@@ -109,30 +97,33 @@ module _ {d : Table} {start now : Areas} {before walk values : List ℕ} {n s : 
   count-on = let count = so .count in let more = length-one-more (so .shown) s in omega arith
 
   -- where the cycle ends with this body
-  ends-at : (c : Areas) → afterBody d o s areasLeft fellRun ≡ record { after = c; walk = s ∷ [] } → Cycled (cycle d start) c before (set walk n s) (n + 1)
-  ends-at c h =
-      let whole : cycle d start .walk ≡ so .shown ++ s ∷ [] = so .walked ∙ ap (λ (y : Cycle). so .shown ++ y .walk) (same-run ∙ h) in
+  ends-at : (c : Areas) → afterBody d o s areasLeft fellRun .after ≡ c → afterBody d o s areasLeft fellRun .walk ≡ s ∷ [] → Cycled (cycle d start) c before (set walk n s) (n + 1)
+  ends-at c h k =
+      let whole : cycle d start .walk ≡ so .shown ++ s ∷ [] = so .walked ∙ ap (λ (w : List ℕ). so .shown ++ w) (ap (λ (y : Cycle). y .walk) same-run ∙ k) in
       record {
-        after = sym (so .after ∙ ap (λ (y : Cycle). y .after) (same-run ∙ h));
+        after = sym (so .after ∙ ap (λ (y : Cycle). y .after) same-run ∙ h);
         walk = shown-on ∙ sym (ap (λ (w : List ℕ). overwritten w before) whole);
         count = count-on ∙ sym (ap length whole);
       }
 
   pub cycle-stops : o ≡ Continued → Cycled (cycle d start) areasLeft before (set walk n s) (n + 1)
   unfolding afterBody
-  cycle-stops h = ends-at areasLeft (rw h)
+  cycle-stops h = ends-at areasLeft (rw h) (rw h)
 
-  pub cycle-goes : {e : Ending} {t : ℕ} → o ≡ Transferred e → e ≡ Goto t → Cycled (cycle d start) (record { registers = values; targets = goneTo d t (now .targets) }) before (set walk n s) (n + 1)
+  pub cycle-goes : {e : Ending} {t a b : ℕ} → o ≡ Transferred e → e ≡ Goto t a b → Cycled (cycle d start) (record { registers = values; targets = goneTo d t (now .targets); bindings = boundBy d t a b (now .bindings) }) before (set walk n s) (n + 1)
   unfolding afterBody
-  cycle-goes {t = t} h k = ends-at (record { registers = values; targets = goneTo d t (now .targets) }) (rw (h, k))
+  cycle-goes {t = t} {a = a} {b = b} h k = ends-at (record { registers = values; targets = goneTo d t (now .targets); bindings = boundBy d t a b (now .bindings) }) (rw (h, k)) (rw (h, k))
 
-  fell-run : {e : Ending} → o ≡ Transferred e → e ≡ Fall → afterBody d o s areasLeft fellRun ≡ record { after = fellRun .after; walk = s ∷ fellRun .walk }
+  fell-after : {e : Ending} → o ≡ Transferred e → e ≡ Fall → afterBody d o s areasLeft fellRun .after ≡ fellRun .after
   unfolding afterBody
-  fell-run h k = rw (h, k)
+  fell-after h k = rw (h, k)
+
+  fell-walk : {e : Ending} → o ≡ Transferred e → e ≡ Fall → afterBody d o s areasLeft fellRun .walk ≡ s ∷ fellRun .walk
+  unfolding afterBody
+  fell-walk h k = rw (h, k)
 
   pub cycle-falls : {e : Ending} {q : ℕ} → o ≡ Transferred e → e ≡ Fall → q ≡ getD (now .targets) s 0 → q < length (d .states) → CycleSo d start before (n + 1) q areasLeft (set walk n s)
   cycle-falls {q = q} h k at inside =
-      let same = same-run ∙ fell-run h k in
       let bodies = so .bodies in
       record {
         shown = so .shown ++ s ∷ [];
@@ -141,8 +132,8 @@ module _ {d : Table} {start now : Areas} {before walk values : List ℕ} {n s : 
         bodies = omega arith;
         state = inside;
         written = shown-on;
-        after = so .after ∙ ap (λ (y : Cycle). y .after) same ∙ rw at;
-        walked = so .walked ∙ ap (λ (y : Cycle). so .shown ++ y .walk) same ∙ rw at (one-more (so .shown) s (fellRun .walk));
+        after = so .after ∙ ap (λ (y : Cycle). y .after) same-run ∙ fell-after h k ∙ rw at;
+        walked = so .walked ∙ ap (λ (w : List ℕ). so .shown ++ w) (ap (λ (y : Cycle). y .walk) same-run ∙ fell-walk h k) ∙ rw at (one-more (so .shown) s (fellRun .walk));
       }
 
 -- as many bodies as there are states ran: none is left
@@ -158,78 +149,83 @@ cycle-full {d} {start} {now} {before} {walk} {n} {s} so l =
       count = so .count ∙ sym (ap length whole);
     }
 
--- ---- and what is known of the areas meanwhile
-pub record Cycling (image : List ℕ) (x : Design) (table registers₀ targets₀ walk₀ : List ℕ) (n s : ℕ) (registers targets walk : List ℕ) : Type 0 where
-  pub so : CycleSo (designOf image) (areasIn (designOf image) registers₀ targets₀) walk₀ n s (areasIn (designOf image) registers targets) walk
-  pub running : Running image x table registers targets
+-- ---- good areas
+module _ {image : List ℕ} {x : Design} {table scopes registers area : List ℕ} (running : Running image x table scopes registers area) where
+  states-are : x .states ≡ length (designOf image .states)
+  states-are = states-count (running .known .describes)
+
+  some-state : 0 < length (designOf image .states)
+  some-state =
+      let count = states-are in
+      let is = running .known .describes .states in
+      let some = running .keeps .directory .sections States .at-least in
+      omega arith
+
+  running-good : Good (designOf image) (areasIn (designOf image) registers area)
+  running-good =
+      let count = states-are in
+      let size = running .states in
+      let behind = length-drop (length (designOf image .states)) area in
+      record {
+        registers-length = length-wordsOf (length (designOf image .registers)) registers;
+        targets-length = length-take-le (length (designOf image .states)) area (omega arith);
+        fitting = running .fitting;
+        sound = running .sound;
+        bindings-length = omega arith;
+        bound = running .bound;
+      }
+
+  -- a cycle leaves what it asks for
+  pub running-again : {after gone before walk : List ℕ} {n : ℕ} → Cycled (cycle (designOf image) (areasIn (designOf image) registers area)) (areasIn (designOf image) after gone) before walk n → length after ≡ length registers → length gone ≡ length area → Running image x table scopes after gone
+  unfolding cycle
+  running-again cycled same same′ =
+      let d = designOf image in
+      let start = areasIn d registers area in
+      let whole = accepted (running .keeps) (running .known .describes) in
+      let good = run-good d whole (length (d .states)) 0 start (root-live d whole start some-state) running-good in
+      let left = rw (← cycled .after) at good in
+      record {
+        known = running .known;
+        keeps = running .keeps;
+        defaults = running .defaults;
+        scopes = running .scopes;
+        area = same ∙ running .area;
+        states = same′ ∙ running .states;
+        fitting = left .fitting;
+        sound = left .sound;
+        bound = left .bound;
+      }
+
+-- ---- and what is known of the areas meanwhile: only registers change before a goto, which ends the cycle
+pub record Cycling (image : List ℕ) (x : Design) (table scopes registers₀ area₀ walk₀ : List ℕ) (n s : ℕ) (registers area walk : List ℕ) : Type 0 where
+  pub so : CycleSo (designOf image) (areasIn (designOf image) registers₀ area₀) walk₀ n s (areasIn (designOf image) registers area) walk
+  pub running : Running image x table scopes registers₀ area₀
+  pub on : onPath (designOf image) (targetsIn (designOf image) area₀) s ≡ true
   pub registers-long : length registers ≡ length registers₀
-  pub targets-long : length targets ≡ length targets₀
+  pub same : area ≡ area₀
   pub before : x .states ≤ length walk₀
   pub long : length walk ≡ length walk₀
 
-pub cycling-begins : {image : List ℕ} {x : Design} {table registers targets walk : List ℕ} → Running image x table registers targets → x .states ≤ length walk → Cycling image x table registers targets walk 0 0 registers targets walk
-cycling-begins {image} {x} {table} {registers} {targets} {walk} running l =
-    let count = states-count (running .known .describes) in
-    let is = running .known .describes .states in
-    let some = running .keeps .directory .sections States .at-least in
+pub cycling-begins : {image : List ℕ} {x : Design} {table scopes registers area walk : List ℕ} → Running image x table scopes registers area → x .states ≤ length walk → Cycling image x table scopes registers area walk 0 0 registers area walk
+cycling-begins {image} {x} {table} {scopes} {registers} {area} {walk} running l =
+    let d = designOf image in
+    let start = areasIn d registers area in
     record {
-      so = cycle-begins (designOf image) (areasIn (designOf image) registers targets) walk (omega arith);
+      so = cycle-begins d start walk (some-state running);
       running = running;
+      on = root-live d (accepted (running .keeps) (running .known .describes)) start (some-state running) .on;
       registers-long = refl;
-      targets-long = refl;
+      same = refl;
       before = l;
       long = refl;
     }
 
--- a body changes registers, and a goto targets
-pub running-ran : {image : List ℕ} {x : Design} {table registers targets after : List ℕ} → Running image x table registers targets → length after ≡ length registers → Running image x table after targets
-running-ran running same = record { known = running .known; keeps = running .keeps; defaults = running .defaults; area = same ∙ running .area; states = running .states; inside = running .inside }
-
--- a goto names a state
-named-state : {image : List ℕ} {x : Design} {table registers targets values : List ℕ} {s t : ℕ} {o : Outcome} {e : Ending} → Running image x table registers targets → s < length (designOf image .states)
-    → executedAs values o ≡ exec (designOf image .registers) (valuesIn (designOf image) registers) (bodyOf (designOf image) s) → o ≡ Transferred e → e ≡ Goto t → t < length (designOf image .states)
-named-state {image} {x} {table} {registers} {s = s} {t = t} running l ran h k =
-    let d = designOf image in
-    let rules = running .keeps .design in
-    let ends = exec-ends d s (stateLabel d s ∷ []) (valuesIn d registers) (bodyOf d s) (rules .structure .shaped s l) (rules .flowing s l) in
-    let came : exec (d .registers) (valuesIn d registers) (bodyOf d s) .outcome ≡ Transferred (Goto t) = ap (λ (y : Executed). y .outcome) (sym ran) ∙ rw (h, k) in
-    let sibling = (rw came at ends) .1 in
-    sibling-child d s t sibling .state
-
--- the table after a goto has states in it
-gone-inside-at : {image : List ℕ} {x : Design} {table registers targets : List ℕ} {t : ℕ} → Running image x table registers targets → t < x .states → (q : ℕ) → q < x .states → Dec (q ≡ parent (designOf image) t) → getD (goneTo (designOf image) t targets) q 0 < x .states
-gone-inside-at {image} {x} {table} {registers} {targets} {t} running l q k (yes e) =
-    let same = running .states in
-    let is = ap (λ (p : ℕ). getD (goneTo (designOf image) t targets) p 0) e ∙ gone-parent (designOf image) t targets (omega arith) in
-    omega arith
-gone-inside-at {image} {x} {table} {registers} {targets} {t} running l q k (no e) =
-    let same = running .states in
-    let old = running .inside q k in
-    let default = default-inside (running .known .describes) k refl in
-    let is = gone-other (designOf image) t targets q (omega arith) e in
-    go (within (designOf image) t q) default old is
-  where
-    go : (b : Bool) → defaultTarget (designOf image) q < x .states → getD targets q 0 < x .states → getD (goneTo (designOf image) t targets) q 0 ≡ cond b (defaultTarget (designOf image) q) (getD targets q 0) → getD (goneTo (designOf image) t targets) q 0 < x .states
-    go true default old is = omega arith
-    go false default old is = omega arith
-
-running-gone : {image : List ℕ} {x : Design} {table registers targets gone : List ℕ} {t : ℕ} → Running image x table registers targets → t < x .states → gone ≡ goneTo (designOf image) t targets → Running image x table registers gone
-running-gone {image} {x} {table} {registers} {targets} {gone} {t} running l e =
-    record {
-      known = running .known;
-      keeps = running .keeps;
-      defaults = running .defaults;
-      area = running .area;
-      states = ap length e ∙ length-gone (designOf image) t targets ∙ running .states;
-      inside = λ q k. rw e (gone-inside-at running l q k (ℕ-discrete q (parent (designOf image) t)));
-    }
-
-module _ {image : List ℕ} {x : Design} {table registers₀ targets₀ walk₀ registers targets walk : List ℕ} {n s : ℕ} (c : Cycling image x table registers₀ targets₀ walk₀ n s registers targets walk) where
-  states-are : x .states ≡ length (designOf image .states)
-  states-are = states-count (c .running .known .describes)
+module _ {image : List ℕ} {x : Design} {table scopes registers₀ area₀ walk₀ registers area walk : List ℕ} {n s : ℕ} (c : Cycling image x table scopes registers₀ area₀ walk₀ n s registers area walk) where
+  count-are : x .states ≡ length (designOf image .states)
+  count-are = states-are (c .running)
 
   pub cycling-state : s < x .states
-  cycling-state = let count = states-are in let state = c .so .state in omega arith
+  cycling-state = let count = count-are in let state = c .so .state in omega arith
 
   pub cycling-fits : s < 256
   cycling-fits = state-fits (c .running .known .describes) cycling-state
@@ -237,67 +233,108 @@ module _ {image : List ℕ} {x : Design} {table registers₀ targets₀ walk₀ 
   pub cycling-inside : n < x .states → n < length walk
   cycling-inside l = let long = c .long in let before = c .before in omega arith
 
-  pub cycling-target : s < length targets
-  cycling-target = let same = c .running .states in let state = cycling-state in omega arith
+  pub cycling-size : length area ≡ 3 * x .states
+  cycling-size = rw (c .same) (c .running .states)
+
+  pub cycling-target : s < length area
+  cycling-target = let size = cycling-size in let state = cycling-state in omega arith
 
   pub cycling-registers : (after : List ℕ) → length after ≡ length registers → length after ≡ length registers₀
   cycling-registers after same = same ∙ c .registers-long
 
-  pub cycling-gone : {gone : List ℕ} (t : ℕ) → gone ≡ goneTo (designOf image) t targets → length gone ≡ length targets₀
-  cycling-gone t e = ap length e ∙ length-gone (designOf image) t targets ∙ c .targets-long
+  pub cycling-area : length area ≡ length area₀
+  cycling-area = ap length (c .same)
+
+  pub cycling-gone : {t a b : ℕ} {gone : List ℕ} → Gone (designOf image) t a b area gone → length gone ≡ length area₀
+  cycling-gone g = g .long ∙ cycling-area
 
   below : n < x .states → n < length (designOf image .states)
-  below l = let count = states-are in omega arith
+  below l = let count = count-are in omega arith
 
   enough : length (designOf image .states) ≤ length walk₀
-  enough = let count = states-are in let before = c .before in omega arith
+  enough = let count = count-are in let before = c .before in omega arith
 
-  module _ (after : List ℕ) {o : Outcome} (l : n < x .states) (ran : executedAs (valuesIn (designOf image) after) o ≡ exec (designOf image .registers) (valuesIn (designOf image) registers) (bodyOf (designOf image) s)) where
-    pub cycling-stops : o ≡ Continued → Cycled (cycle (designOf image) (areasIn (designOf image) registers₀ targets₀)) (areasIn (designOf image) after targets) walk₀ (set walk n s) (n + 1)
+  -- the areas at the beginning of the cycle, which the targets and bindings still are
+  abbrev start : Areas
+  start = areasIn (designOf image) registers₀ area₀
+
+  live : Live (designOf image) (areasIn (designOf image) registers₀ area₀) s
+  live = record { state = c .so .state; on = c .on }
+
+  pub cycling-entered : Entered image x scopes registers area s
+  cycling-entered =
+      let whole = accepted (c .running .keeps) (c .running .known .describes) in
+      record {
+        known = c .running .known;
+        keeps = c .running .keeps;
+        scopes = c .running .scopes;
+        area = c .registers-long ∙ c .running .area;
+        states = cycling-size;
+        state = cycling-state;
+        bound = rw (c .same) (live-sound (designOf image) whole start (running-good (c .running)) s live);
+      }
+
+  module _ (after : List ℕ) {o : Outcome} (l : n < x .states) (ran : executedAs (valuesIn (designOf image) after) o ≡ exec (designOf image .registers) (valuesIn (designOf image) registers) (bodyWith (designOf image) (bindingsIn (designOf image) area) s)) where
+    pub cycling-stops : o ≡ Continued → Cycled (cycle (designOf image) (areasIn (designOf image) registers₀ area₀)) (areasIn (designOf image) after area) walk₀ (set walk n s) (n + 1)
     cycling-stops h = cycle-stops (c .so) (below l) enough ran h
 
-    pub cycling-names : {e : Ending} {t : ℕ} → o ≡ Transferred e → e ≡ Goto t → t < x .states
-    cycling-names h k = let count = states-are in let state = named-state (c .running) (c .so .state) ran h k in omega arith
+    pub stops-running : o ≡ Continued → length after ≡ length registers → Running image x table scopes after area
+    stops-running h same = running-again (c .running) (cycling-stops h) (cycling-registers after same) cycling-area
 
-    pub cycling-goes : {e : Ending} {t : ℕ} {gone : List ℕ} → o ≡ Transferred e → e ≡ Goto t → gone ≡ goneTo (designOf image) t targets
-        → Cycled (cycle (designOf image) (areasIn (designOf image) registers₀ targets₀)) (areasIn (designOf image) after gone) walk₀ (set walk n s) (n + 1)
-    cycling-goes h k g = rw g (cycle-goes (c .so) (below l) enough ran h k)
+    pub cycling-goes : {e : Ending} {t a b : ℕ} {gone : List ℕ} → o ≡ Transferred e → e ≡ Goto t a b → Gone (designOf image) t a b area gone
+        → Cycled (cycle (designOf image) (areasIn (designOf image) registers₀ area₀)) (areasIn (designOf image) after gone) walk₀ (set walk n s) (n + 1)
+    cycling-goes h k g = rw (g .targets, g .bindings) (cycle-goes (c .so) (below l) enough ran h k)
 
-    pub cycling-gone-running : {e : Ending} {t : ℕ} {gone : List ℕ} → length after ≡ length registers → o ≡ Transferred e → e ≡ Goto t → gone ≡ goneTo (designOf image) t targets → Running image x table after gone
-    cycling-gone-running same h k g = running-gone (running-ran (c .running) same) (cycling-names h k) g
+    pub goes-running : {e : Ending} {t a b : ℕ} {gone : List ℕ} → length after ≡ length registers → o ≡ Transferred e → e ≡ Goto t a b → Gone (designOf image) t a b area gone → Running image x table scopes after gone
+    goes-running same h k g = running-again (c .running) (cycling-goes h k g) (cycling-registers after same) (cycling-gone g)
 
-    pub cycling-falls : {e : Ending} {q : ℕ} → length after ≡ length registers → o ≡ Transferred e → e ≡ Fall → q ≡ getD targets s 0 → Cycling image x table registers₀ targets₀ walk₀ (n + 1) q after targets (set walk n s)
+    pub cycling-falls : {e : Ending} {q : ℕ} → length after ≡ length registers → o ≡ Transferred e → e ≡ Fall → q ≡ getD area s 0 → Cycling image x table scopes registers₀ area₀ walk₀ (n + 1) q after area (set walk n s)
     cycling-falls {q = q} same h k at =
-        let count = states-are in
-        let inside = c .running .inside s cycling-state in
+        let d = designOf image in
+        let whole = accepted (c .running .keeps) (c .running .known .describes) in
+        let points : q ≡ getD (targetsIn d area) s 0 = at ∙ sym (getD-take (length (d .states)) area s 0 (c .so .state)) in
+        let points₀ : q ≡ getD (targetsIn d area₀) s 0 = rw (c .same) at points in
+        let next = target-live d whole start (running-good (c .running)) s live in
         record {
-          so = cycle-falls (c .so) (below l) enough ran h k at (omega arith);
-          running = running-ran (c .running) same;
+          so = cycle-falls (c .so) (below l) enough ran h k points (rw points₀ (next .state));
+          running = c .running;
+          on = rw points₀ (next .on);
           registers-long = same ∙ c .registers-long;
-          targets-long = c .targets-long;
+          same = c .same;
           before = c .before;
           long = length-set walk n s ∙ c .long;
         }
 
-  pub cycling-full : x .states ≤ n → Cycled (cycle (designOf image) (areasIn (designOf image) registers₀ targets₀)) (areasIn (designOf image) registers targets) walk₀ walk n
-  cycling-full l = cycle-full (c .so) (let count = states-are in omega arith)
+  pub cycling-full : x .states ≤ n → Cycled (cycle (designOf image) (areasIn (designOf image) registers₀ area₀)) (areasIn (designOf image) registers area) walk₀ walk n
+  cycling-full l = cycle-full (c .so) (let count = count-are in omega arith)
+
+  pub full-running : x .states ≤ n → Running image x table scopes registers area
+  full-running l = running-again (c .running) (cycling-full l) (c .registers-long) cycling-area
+
+-- ---- a goto
+pub named-state : {image : List ℕ} {x : Design} {o : Outcome} {e : Ending} {t a b : ℕ} → Ends image x o → o ≡ Transferred e → e ≡ Goto t a b → t < x .states
+named-state {t = t} {a = a} {b = b} ends h k = ends .state t a b (h ∙ ap Transferred k)
+
+-- what the body told stands first, so that it can be given: `search` does not come to it
+pub arguments-fit : {image : List ℕ} {x : Design} {o : Outcome} → Ends image x o → (e : Ending) (t a b : ℕ) → o ≡ Transferred e → e ≡ Goto t a b → ArgumentsFit image x t a b
+arguments-fit ends e t a b h k = ends .arguments t a b (h ∙ ap Transferred k)
 
 -- ---- so many cycles
 -- i cycles ran, and the others go on from here
-pub record RunSo (image : List ℕ) (x : Design) (table : List ℕ) (count : ℕ) (registers₀ targets₀ : List ℕ) (i : ℕ) (registers targets walk : List ℕ) : Type 0 where
+pub record RunSo (image : List ℕ) (x : Design) (table scopes : List ℕ) (count : ℕ) (registers₀ area₀ : List ℕ) (i : ℕ) (registers area walk : List ℕ) : Type 0 where
   pub left : ℕ
   pub rest : i + left ≡ count
-  pub same : afterCycles (designOf image) left (areasIn (designOf image) registers targets) ≡ afterCycles (designOf image) count (areasIn (designOf image) registers₀ targets₀)
-  pub running : Running image x table registers targets
+  pub same : afterCycles (designOf image) left (areasIn (designOf image) registers area) ≡ afterCycles (designOf image) count (areasIn (designOf image) registers₀ area₀)
+  pub running : Running image x table scopes registers area
   pub registers-long : length registers ≡ length registers₀
-  pub targets-long : length targets ≡ length targets₀
+  pub area-long : length area ≡ length area₀
   pub walk-long : length walk ≡ 64
 
-pub run-begins : {image : List ℕ} {x : Design} {table registers targets walk : List ℕ} (count : ℕ) → Running image x table registers targets → length walk ≡ 64 → RunSo image x table count registers targets 0 registers targets walk
+pub run-begins : {image : List ℕ} {x : Design} {table scopes registers area walk : List ℕ} (count : ℕ) → Running image x table scopes registers area → length walk ≡ 64 → RunSo image x table scopes count registers area 0 registers area walk
 run-begins count running long =
-    record { left = count; rest = omega arith; same = refl; running = running; registers-long = refl; targets-long = refl; walk-long = long }
+    record { left = count; rest = omega arith; same = refl; running = running; registers-long = refl; area-long = refl; walk-long = long }
 
-module _ {image : List ℕ} {x : Design} {count i : ℕ} {table registers₀ targets₀ registers targets walk : List ℕ} (so : RunSo image x table count registers₀ targets₀ i registers targets walk) where
+module _ {image : List ℕ} {x : Design} {count i : ℕ} {table scopes registers₀ area₀ registers area walk : List ℕ} (so : RunSo image x table scopes count registers₀ area₀ i registers area walk) where
   pub run-walk : 64 ≡ length walk
   run-walk = sym (so .walk-long)
 
@@ -307,12 +344,12 @@ module _ {image : List ℕ} {x : Design} {count i : ℕ} {table registers₀ tar
   pub run-room : x .states ≤ length walk
   run-room = let few = states-few (so .running .known .describes) in let long = so .walk-long in omega arith
 
-  pub run-more : {after gone before written : List ℕ} {n : ℕ} → i < count → Cycled (cycle (designOf image) (areasIn (designOf image) registers targets)) (areasIn (designOf image) after gone) before written n
-      → Running image x table after gone
+  pub run-more : {after gone before written : List ℕ} {n : ℕ} → i < count → Cycled (cycle (designOf image) (areasIn (designOf image) registers area)) (areasIn (designOf image) after gone) before written n
+      → Running image x table scopes after gone
       → length after ≡ length registers
-      → length gone ≡ length targets
+      → length gone ≡ length area
       → length written ≡ length walk
-      → RunSo image x table count registers₀ targets₀ (i + 1) after gone written
+      → RunSo image x table scopes count registers₀ area₀ (i + 1) after gone written
   run-more {after} {gone} l cycled running same same′ long =
       let d = designOf image in
       let rest = so .rest in
@@ -321,16 +358,16 @@ module _ {image : List ℕ} {x : Design} {count i : ℕ} {table registers₀ tar
         left = so .left - 1;
         rest = omega arith;
         same = ap (afterCycles d (so .left - 1)) (cycled .after)
-            ∙ sym (after-first d (so .left - 1) (areasIn d registers targets))
-            ∙ ap (λ (n : ℕ). afterCycles d n (areasIn d registers targets)) (sym one)
+            ∙ sym (after-first d (so .left - 1) (areasIn d registers area))
+            ∙ ap (λ (n : ℕ). afterCycles d n (areasIn d registers area)) (sym one)
             ∙ so .same;
         running = running;
         registers-long = same ∙ so .registers-long;
-        targets-long = same′ ∙ so .targets-long;
+        area-long = same′ ∙ so .area-long;
         walk-long = long ∙ so .walk-long;
       }
 
-  pub run-done : count ≤ i → areasIn (designOf image) registers targets ≡ afterCycles (designOf image) count (areasIn (designOf image) registers₀ targets₀)
+  pub run-done : count ≤ i → areasIn (designOf image) registers area ≡ afterCycles (designOf image) count (areasIn (designOf image) registers₀ area₀)
   unfolding afterCycles cycles afterLast
   run-done l =
       let rest = so .rest in

@@ -1,3 +1,5 @@
--- Laws of the targets of states, and of cycles.
+-- Laws of the targets of states, of bindings, of bodies, and of cycles.
 pub mod TargetRules
+pub mod BindingRules
+pub mod BodyRules
 pub mod CycleRules

@@ -1,2 +1,3 @@
--- What the contracts of this crate cite: what is known where a cycle runs, and what it leaves.
+-- What the contracts of this crate cite: what bindings are as the code has them, what is known where a cycle runs, and what it leaves.
+pub mod Bindings
 pub mod Cycles

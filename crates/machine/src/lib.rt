@@ -1,3 +1,4 @@
-// The machine along its states: the targets, and cycles.
+// The machine along its states: the targets, the bindings, and cycles.
+pub mod bindings;
 pub mod cycle;
 pub mod targets;

@@ -1,4 +1,4 @@
-// The target area: one byte for each state.
+// The targets, in front in their area: one byte for each state.
 use design::Design;
 use design::states::is_child;
 use design::wide;

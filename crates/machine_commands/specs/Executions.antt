@@ -1,35 +1,58 @@
 -- What is known where expression e is evaluated and where command n runs, what a command leaves as the code gives it, and what the command that ran last came to.
-use Prim.Native.Nat.{ℕ, _*_, _<_}
+use Prim.Native.Nat.{ℕ, _*_, _/_, _%_, _<_}
 use mathlib.Core.Path.{_≡_}
-use mathlib.Core.List.{List}
+use mathlib.Core.List.{List, [], _∷_}
 use lib.ListN.{length}
 use Rattle.model.specs.Limits.{wordLength}
 use Rattle.model.specs.declared.Ending.the-variants.{Goto, Fall}
 use Rattle.model.specs.declared.Outcome.{Outcome}
 use Rattle.model.specs.declared.Outcome.the-variants.{Continued, Transferred}
-use Rattle.model.specs.Image.{Design as Table, Node}
+use Rattle.model.specs.Image.{Design as Table, Node, designOf}
 use Rattle.model.specs.Kinds.{CommandKind, skips, assigns, sequences, falls, goes, branches, unknownCommand, commandKind}
+use Rattle.model.specs.Trees.{Expr, constant, register, binary, Cmd, skip, assign, sequence, fall, goto, branch, exprOf, cmdOf}
 use Rattle.model.specs.Values.{wordsOf}
+use Rattle.model.specs.Bindings.{named}
 use Rattle.model.specs.Machine.{Executed}
 use Rattle.design.specs.declared.Design.{Design}
 use Rattle.design.specs.RecordsAt.{CommandAt, ExpressionAt}
 use Rattle.design.specs.Kept.{RecordsKept}
 
-pub record Executing (image : List ℕ) (x : Design) (n : ℕ) : Type 0 where
+-- the registers bound to the two parameters in scope, from the one number in which they are handed down
+abbrev pub boundOf : ℕ → List ℕ
+boundOf packed = packed % 256 ∷ packed / 256 ∷ []
+
+-- the registers that an expression reads, and that a command reads or writes, exist
+unfoldable pub ReadsFit : Table → List ℕ → Expr → Type 0
+ReadsFit d bound (constant v) = Unit {0}
+ReadsFit d bound (register n r) = named bound r < length (d .registers)
+ReadsFit d bound (binary o p q) = ReadsFit d bound p × ReadsFit d bound q
+
+unfoldable pub CommandFits : Table → List ℕ → Cmd → Type 0
+CommandFits d bound (skip n) = Unit {0}
+CommandFits d bound (assign n r e) = (named bound r < length (d .registers)) × ReadsFit d bound e
+CommandFits d bound (sequence n p q) = CommandFits d bound p × CommandFits d bound q
+CommandFits d bound (fall n) = Unit {0}
+CommandFits d bound (goto n t a b) = Unit {0}
+CommandFits d bound (branch n e p q) = ReadsFit d bound e × CommandFits d bound p × CommandFits d bound q
+
+pub record Executing (image : List ℕ) (x : Design) (bound n : ℕ) : Type 0 where
   pub known : RecordsKept image x
   pub node : n < x .commands
+  pub fits : CommandFits (designOf image) (boundOf bound) (cmdOf (designOf image) n)
 
 -- the same, where the recursion has the places of a design instead of the design: expression e is evaluated, and command n runs
-pub record Evaluating (image : List ℕ) (at : ℕ) (registers : List ℕ) (e : ℕ) : Type 0 where
+pub record Evaluating (image : List ℕ) (at : ℕ) (registers : List ℕ) (bound e : ℕ) : Type 0 where
   pub design : Design
   pub known : RecordsKept image design
   pub expression : ExpressionAt image design at e
+  pub fits : ReadsFit (designOf image) (boundOf bound) (exprOf (designOf image) e)
   pub area : length registers ≡ wordLength * design .registers
 
-pub record Performing (image : List ℕ) (registersAt commandsAt expressionsAt : ℕ) (registers : List ℕ) (n : ℕ) : Type 0 where
+pub record Performing (image : List ℕ) (registersAt commandsAt expressionsAt : ℕ) (registers : List ℕ) (bound n : ℕ) : Type 0 where
   pub design : Design
   pub known : RecordsKept image design
   pub command : CommandAt image design commandsAt n
+  pub fits : CommandFits (designOf image) (boundOf bound) (cmdOf (designOf image) n)
   pub registers-begin : registersAt ≡ design .«registers_at»
   pub expressions-begin : expressionsAt ≡ design .«expressions_at»
   pub area : length registers ≡ wordLength * design .registers
@@ -41,15 +64,15 @@ valuesIn d registers = wordsOf (length (d .registers)) registers
 abbrev pub executedAs : List ℕ → Outcome → Executed
 executedAs values o = record { registers = values; outcome = o }
 
--- what a command that holds no other comes to, by its kind
-unfoldable pub cameToBy : CommandKind → Node → Outcome
-cameToBy skips x = Continued
-cameToBy assigns x = Continued
-cameToBy sequences x = Continued
-cameToBy falls x = Transferred Fall
-cameToBy goes x = Transferred (Goto (x .item))
-cameToBy branches x = Continued
-cameToBy unknownCommand x = Continued
+-- what a command that holds no other comes to, by its kind and the registers bound
+unfoldable pub cameToBy : List ℕ → CommandKind → Node → Outcome
+cameToBy bound skips x = Continued
+cameToBy bound assigns x = Continued
+cameToBy bound sequences x = Continued
+cameToBy bound falls x = Transferred Fall
+cameToBy bound goes x = Transferred (Goto (x .item) (named bound (x .a)) (named bound (x .b)))
+cameToBy bound branches x = Continued
+cameToBy bound unknownCommand x = Continued
 
-unfoldable pub cameTo : Node → Outcome
-cameTo x = cameToBy (commandKind (x .kind)) x
+unfoldable pub cameTo : List ℕ → Node → Outcome
+cameTo bound x = cameToBy bound (commandKind (x .kind)) x

@@ -4,12 +4,37 @@ use design::Design;
 use design::words::word;
 ghost use Prim.Native.Nat.{_≤_};
 ghost use mathlib.Core.Path.{_≡_};
+ghost use lib.ListN.{length};
 ghost use Rattle.model.specs.Image.{designOf};
 ghost use Rattle.model.specs.Kinds.{Operation, operates, expressionKind};
 ghost use Rattle.model.specs.Trees.{exprOf};
 ghost use Rattle.model.specs.Values.{apply as applyOf, oneOrZero};
+ghost use Rattle.model.specs.Bindings.{named as namedOf, exprWith};
 ghost use Rattle.model.specs.Machine.{eval};
-ghost use Rattle.machine_commands.specs.Executions.{Evaluating, valuesIn};
+ghost use Rattle.design.specs.Records.{nodeIn, nodeEnd};
+ghost use Rattle.machine_commands.specs.Executions.{Evaluating, boundOf, valuesIn};
+
+// The register that a register byte names: a byte below the first parameter's is a register's number.
+pub fn named(bound: usize, r: usize) -> usize
+    ensures { λ x. ⌜ x ≡ namedOf (boundOf bound) r ⌝ }
+{
+    if r < Design::PARAMETER_REGISTER {
+        return r;
+    }
+    match r - Design::PARAMETER_REGISTER {
+        0 => bound % 256,
+        1 => bound / 256,
+        _ => 0,
+    }
+}
+
+// The register that node n names.
+pub fn item_named(image: &[u8], at: usize, bound: usize, n: usize) -> usize
+    requires { ⌜ nodeEnd at n ≤ length (now image) ⌝ }
+    ensures { λ x. ⌜ x ≡ namedOf (boundOf bound) (nodeIn (now (image .entry)) at n .item) ⌝ }
+{
+    named(bound, Design::item(image, at, n))
+}
 
 // 1 where a test holds, and 0 where it does not.
 fn one_or_zero(test: bool) -> u32
@@ -37,24 +62,25 @@ fn apply(kind: u8, x: u32, y: u32) -> u32
     }
 }
 
-// The value of expression e over the registers. The place is where the expressions begin: the whole
-// design would be copied at every call.
+// The value of expression e over the registers, with the registers bound to the parameters in scope.
+// The place is where the expressions begin: the whole design would be copied at every call. The bound
+// registers are packed in one number: a further argument costs time too.
 // A reborrow keeps the slice in registers of the processor; image itself would go through memory.
-pub fn evaluate(image: &[u8], at: usize, registers: &[u8], e: usize) -> u32
-    requires { ⌜ Evaluating (now image) at (now registers) e ⌝ }
-    ensures { λ v. ⌜ v ≡ eval (valuesIn (designOf (now (image .entry))) (now (registers .entry))) (exprOf (designOf (now (image .entry))) e) ⌝ }
+pub fn evaluate(image: &[u8], at: usize, registers: &[u8], bound: usize, e: usize) -> u32
+    requires { ⌜ Evaluating (now image) at (now registers) bound e ⌝ }
+    ensures { λ v. ⌜ v ≡ eval (valuesIn (designOf (now (image .entry))) (now (registers .entry))) (exprWith (boundOf bound) (exprOf (designOf (now (image .entry))) e)) ⌝ }
 {
     let kind = Design::kind(image, at, e);
     match kind {
         1 => {
-            let r = Design::item(image, at, e);
+            let r = item_named(image, at, bound, e);
             word(registers, r)
         }
         2..=11 => {
             let a = Design::part_a(image, at, e);
             let b = Design::part_b(image, at, e);
-            let x = evaluate(&*image, at, &*registers, a);
-            let y = evaluate(&*image, at, &*registers, b);
+            let x = evaluate(&*image, at, &*registers, bound, a);
+            let y = evaluate(&*image, at, &*registers, bound, b);
             apply(kind, x, y)
         }
         _ => Design::constant(image, at, e),

@@ -1,5 +1,7 @@
 // What a command does to the registers, and what it comes to, by recursion over parts.
 use crate::evaluate::evaluate;
+use crate::evaluate::item_named;
+use crate::evaluate::named;
 use design::Design;
 use design::widths::cut;
 use design::words::put_word;
@@ -14,8 +16,9 @@ ghost use Rattle.model.specs.Limits.{wordLength};
 ghost use Rattle.model.specs.Image.{designOf, commandAt};
 ghost use Rattle.model.specs.Trees.{cmdOf};
 ghost use Rattle.model.specs.Values.{wordsOf};
+ghost use Rattle.model.specs.Bindings.{cmdWith};
 ghost use Rattle.model.specs.Machine.{exec};
-ghost use Rattle.machine_commands.specs.Executions.{Executing, Performing, executedAs, cameTo, valuesIn};
+ghost use Rattle.machine_commands.specs.Executions.{Executing, Performing, boundOf, executedAs, cameTo, valuesIn};
 
 // A fall or a goto, by the number of its kind.
 fn transfers(kind: u8) -> bool
@@ -33,17 +36,18 @@ fn last_run(
     commands_at: usize,
     expressions_at: usize,
     registers: &mut [u8],
+    bound: usize,
     n: usize,
 ) -> usize
-    requires { ⌜ Performing (now image) «registers_at» «commands_at» «expressions_at» (now registers) n ⌝ }
-    ensures { λ l. ⌜ (executedAs (valuesIn (designOf (now (image .entry))) (now (registers .exit))) (cameTo (commandAt (designOf (now (image .entry))) l)) ≡ exec (designOf (now (image .entry)) .registers) (valuesIn (designOf (now (image .entry))) (now (registers .entry))) (cmdOf (designOf (now (image .entry))) n)) × (l < length (designOf (now (image .entry)) .commands)) × (length (now (registers .exit)) ≡ length (now (registers .entry))) ⌝ }
+    requires { ⌜ Performing (now image) «registers_at» «commands_at» «expressions_at» (now registers) bound n ⌝ }
+    ensures { λ l. ⌜ (executedAs (valuesIn (designOf (now (image .entry))) (now (registers .exit))) (cameTo (boundOf bound) (commandAt (designOf (now (image .entry))) l)) ≡ exec (designOf (now (image .entry)) .registers) (valuesIn (designOf (now (image .entry))) (now (registers .entry))) (cmdWith (boundOf bound) (cmdOf (designOf (now (image .entry))) n))) × (l < length (designOf (now (image .entry)) .commands)) × (length (now (registers .exit)) ≡ length (now (registers .entry))) ⌝ }
 {
     let a = Design::part_a(image, commands_at, n);
     let b = Design::part_b(image, commands_at, n);
     match Design::kind(image, commands_at, n) {
         1 => {
-            let r = Design::item(image, commands_at, n);
-            let v = evaluate(&*image, expressions_at, &*registers, a);
+            let r = item_named(image, commands_at, bound, n);
+            let v = evaluate(&*image, expressions_at, &*registers, bound, a);
             let width = Design::register_width(image, registers_at, r);
             put_word(registers, r, cut(v, width));
             n
@@ -55,6 +59,7 @@ fn last_run(
                 commands_at,
                 expressions_at,
                 registers,
+                bound,
                 a,
             );
             if transfers(Design::kind(image, commands_at, first)) {
@@ -66,18 +71,20 @@ fn last_run(
                 commands_at,
                 expressions_at,
                 registers,
+                bound,
                 b,
             )
         }
         5 => {
             let c = Design::part_c(image, commands_at, n);
-            if evaluate(&*image, expressions_at, &*registers, a) == 0 {
+            if evaluate(&*image, expressions_at, &*registers, bound, a) == 0 {
                 return last_run(
                     &*image,
                     registers_at,
                     commands_at,
                     expressions_at,
                     registers,
+                    bound,
                     c,
                 );
             }
@@ -87,6 +94,7 @@ fn last_run(
                 commands_at,
                 expressions_at,
                 registers,
+                bound,
                 b,
             )
         }
@@ -95,9 +103,15 @@ fn last_run(
 }
 
 // Command n runs: the registers are what it leaves, and the answer is what it came to.
-pub fn execute(image: &[u8], design: Design, registers: &mut [u8], n: usize) -> Outcome
-    requires { ⌜ Executing (now image) design n × (length (now registers) ≡ wordLength * design .registers) ⌝ }
-    ensures { λ o. ⌜ (executedAs (wordsOf (design .registers) (now (registers .exit))) o ≡ exec (designOf (now (image .entry)) .registers) (wordsOf (design .registers) (now (registers .entry))) (cmdOf (designOf (now (image .entry))) n)) × (length (now (registers .exit)) ≡ length (now (registers .entry))) ⌝ }
+pub fn execute(
+    image: &[u8],
+    design: Design,
+    registers: &mut [u8],
+    bound: usize,
+    n: usize,
+) -> Outcome
+    requires { ⌜ Executing (now image) design bound n × (length (now registers) ≡ wordLength * design .registers) ⌝ }
+    ensures { λ o. ⌜ (executedAs (wordsOf (design .registers) (now (registers .exit))) o ≡ exec (designOf (now (image .entry)) .registers) (wordsOf (design .registers) (now (registers .entry))) (cmdWith (boundOf bound) (cmdOf (designOf (now (image .entry))) n))) × (length (now (registers .exit)) ≡ length (now (registers .entry))) ⌝ }
 {
     let at = design.commands_at;
     let last = last_run(
@@ -106,11 +120,17 @@ pub fn execute(image: &[u8], design: Design, registers: &mut [u8], n: usize) -> 
         design.commands_at,
         design.expressions_at,
         registers,
+        bound,
         n,
     );
     match Design::kind(image, at, last) {
         3 => Outcome::Transferred(Ending::Fall),
-        4 => Outcome::Transferred(Ending::Goto(Design::item(image, at, last))),
+        4 => {
+            let t = Design::item(image, at, last);
+            let a = named(bound, Design::part_a(image, at, last));
+            let b = named(bound, Design::part_b(image, at, last));
+            Outcome::Transferred(Ending::Goto(t, a, b))
+        }
         _ => Outcome::Continued,
     }
 }

@@ -1,19 +1,14 @@
 use Prim.Native.Nat.{_-_}
 use borrow.Author.Needs.{needs}
-use Rattle.machine.proofs.CycleRules.{Cycling, cycling-begins, cycling-state, cycling-fits, cycling-inside, cycling-target, cycling-registers, cycling-gone, cycling-stops, cycling-names, cycling-goes, cycling-falls, cycling-full, cycling-gone-running, running-ran}
+use Rattle.machine.proofs.CycleRules.{Cycling, cycling-begins, cycling-entered, cycling-fits, cycling-inside, cycling-size, cycling-target, cycling-registers, cycling-area, cycling-gone, cycling-stops, stops-running, named-state, arguments-fit, cycling-goes, goes-running, cycling-falls, cycling-full, full-running}
 use Rattle.machine.proofs.cycle.cycle.Statement.{statement}
 use Rattle.machine.proofs.cycle.cycle.Tie as tie
-use Rattle.machine.proofs.cycle.cycle.Reads as reads
-use Rattle.machine.proofs.cycle.cycle.Lts as lts
-use Rattle.machine.proofs.cycle.body.Reads as body-reads
-use Rattle.design.proofs.wide.Reads as wide-reads
-use Rattle.machine.proofs.targets.go_to.Reads as go-to-reads
 
 abbrev Inv-loop : tie.InvT-loop
-Inv-loop image design defaults registers₀ targets₀ walk₀ s₀ n₀ registers targets walk s n = Cycling image design defaults registers₀ targets₀ walk₀ n s registers targets walk
+Inv-loop image design defaults scopes registers₀ area₀ walk₀ s₀ n₀ registers area walk s n = Cycling image design defaults scopes registers₀ area₀ walk₀ n s registers area walk
 
 abbrev μ-loop : tie.MeasureT-loop
-μ-loop image design defaults registers₀ targets₀ walk₀ s₀ n₀ registers targets walk s n = design .states - n
+μ-loop image design defaults scopes registers₀ area₀ walk₀ s₀ n₀ registers area walk s n = design .states - n
 
 loop-holds : tie.Need-loop-holds Inv-loop μ-loop
 loop-holds c = search (cycling-begins, needs)
@@ -28,7 +23,7 @@ add-n : tie.Need-add-n Inv-loop μ-loop
 add-n c = search needs
 
 body-requires : tie.Need-body-requires Inv-loop μ-loop
-body-requires c κs = search (cycling-state, needs)
+body-requires c κs = search cycling-entered
 
 enum-known-outcome : tie.Need-enum-known-outcome Inv-loop μ-loop
 enum-known-outcome c = search needs
@@ -40,19 +35,19 @@ same-length : tie.Need-same-length Inv-loop μ-loop
 same-length c = search (cycling-registers, needs)
 
 same-length-2 : tie.Need-same-length-2 Inv-loop μ-loop
-same-length-2 c = search needs
+same-length-2 c = search (cycling-area, needs)
 
 same-length-3 : tie.Need-same-length-3 Inv-loop μ-loop
 same-length-3 c = search needs
 
 returns : tie.Need-returns Inv-loop μ-loop
-returns c = (search (cycling-stops, needs), search (running-ran, needs))
+returns c = (search (cycling-stops, needs), search (stops-running, needs))
 
 enum-known-ending : tie.Need-enum-known-ending Inv-loop μ-loop
 enum-known-ending c = search needs
 
-go-to-requires : tie.Need-go-to-requires Inv-loop μ-loop
-go-to-requires c κs = search (cycling-names, cycling-state, needs)
+transfer-requires : tie.Need-transfer-requires Inv-loop μ-loop
+transfer-requires c κs = (search needs, search needs, search needs, search cycling-size, search named-state, search (arguments-fit (c .before .before .before .before .before .before .before .before .before .body .ensures .1)))
 
 same-length-4 : tie.Need-same-length-4 Inv-loop μ-loop
 same-length-4 c = search (cycling-registers, needs)
@@ -64,7 +59,7 @@ same-length-6 : tie.Need-same-length-6 Inv-loop μ-loop
 same-length-6 c = search needs
 
 returns-2 : tie.Need-returns-2 Inv-loop μ-loop
-returns-2 c = (search (cycling-goes, needs), search (cycling-gone-running, needs))
+returns-2 c = (search (cycling-goes, needs), search (goes-running, needs))
 
 enum-told-2 : tie.Need-enum-told-2 Inv-loop μ-loop
 enum-told-2 c = search needs
@@ -85,13 +80,13 @@ same-length-7 : tie.Need-same-length-7 Inv-loop μ-loop
 same-length-7 c = search needs
 
 same-length-8 : tie.Need-same-length-8 Inv-loop μ-loop
-same-length-8 c = search needs
+same-length-8 c = search (cycling-area, needs)
 
 same-length-9 : tie.Need-same-length-9 Inv-loop μ-loop
 same-length-9 c = search needs
 
 returns-3 : tie.Need-returns-3 Inv-loop μ-loop
-returns-3 c = (search (cycling-full, needs), search needs)
+returns-3 c = (search (cycling-full, needs), search (full-running, needs))
 
 pub cycle-spec : {M : Type 1} → statement M
 cycle-spec =
@@ -111,7 +106,7 @@ cycle-spec =
     same-length-3
     returns
     enum-known-ending
-    go-to-requires
+    transfer-requires
     same-length-4
     same-length-5
     same-length-6

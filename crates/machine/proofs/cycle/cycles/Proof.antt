@@ -4,15 +4,12 @@ use borrow.Author.Needs.{needs}
 use Rattle.machine.proofs.CycleRules.{RunSo, run-begins, run-walk, run-fits, run-room, run-more, run-done}
 use Rattle.machine.proofs.cycle.cycles.Statement.{statement}
 use Rattle.machine.proofs.cycle.cycles.Tie as tie
-use Rattle.machine.proofs.cycle.cycles.Reads as reads
-use Rattle.machine.proofs.cycle.cycles.Lts as lts
-use Rattle.machine.proofs.cycle.cycle.Reads as cycle-reads
 
 abbrev Inv-loop : tie.InvT-loop
-Inv-loop image design defaults registers₀ targets₀ count walk₀ i₀ registers targets walk i = RunSo image design defaults count registers₀ targets₀ i registers targets walk
+Inv-loop image design defaults scopes registers₀ area₀ count walk₀ i₀ registers area walk i = RunSo image design defaults scopes count registers₀ area₀ i registers area walk
 
 abbrev μ-loop : tie.MeasureT-loop
-μ-loop image design defaults registers₀ targets₀ count walk₀ i₀ registers targets walk i = count - i
+μ-loop image design defaults scopes registers₀ area₀ count walk₀ i₀ registers area walk i = count - i
 
 loop-holds : tie.Need-loop-holds Inv-loop μ-loop
 loop-holds c = search (run-begins, needs)

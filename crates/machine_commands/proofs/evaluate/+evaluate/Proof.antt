@@ -9,17 +9,17 @@ use Rattle.machine_commands.proofs.evaluate.evaluate.Reads as evaluate
 use Rattle.machine_commands.proofs.evaluate.evaluate.Kinds as evaluate-kinds
 use Rattle.machine_commands.proofs.evaluate.+evaluate.Lts-evaluate as evaluate-lts
 use Rattle.design.proofs.Design.constant.Reads as constant-reads
-use Rattle.design.proofs.Design.item.Reads as item-reads
 use Rattle.design.proofs.Design.kind.Reads as kind-reads
 use Rattle.design.proofs.Design.part_a.Reads as part-a-reads
 use Rattle.design.proofs.Design.part_b.Reads as part-b-reads
 use Rattle.machine_commands.proofs.evaluate.apply.Reads as apply-reads
+use Rattle.machine_commands.proofs.evaluate.item_named.Reads as item-named-reads
 use Rattle.design.proofs.words.word.Reads as word-reads
 use Rattle.machine_commands.proofs.evaluate.+evaluate.{statement}
 use Rattle.machine_commands.proofs.evaluate.+evaluate.Tie.{close}
 
 abbrev μ-evaluate : Measures 2 evaluate-kinds.ps ℕ
-μ-evaluate κs a = a .1 .1 .1 .0
+μ-evaluate κs a = a .1 .1 .1 .1 .0
 
 abbrev evaluate-at : ℕ → In 2 evaluate-kinds.ps
 evaluate-at t = and 2 evaluate-kinds.ps (is 2 evaluate-kinds.ps μ-evaluate t) evaluate.Pre
@@ -30,13 +30,13 @@ evaluate-below t =
 
 -- what the callees ask and tell
 abbrev evaluate-calls : ℕ → evaluate-lts.Claims
-evaluate-calls t = (kind-reads.Asked, kind-reads.Learnt, item-reads.Asked, item-reads.Learnt, word-reads.Asked, word-reads.Learnt, part-a-reads.Asked, part-a-reads.Learnt, part-b-reads.Asked, part-b-reads.Learnt, evaluate-below t, evaluate.Post, apply-reads.Asked, apply-reads.Learnt, constant-reads.Asked, constant-reads.Learnt)
+evaluate-calls t = (kind-reads.Asked, kind-reads.Learnt, item-named-reads.Asked, item-named-reads.Learnt, word-reads.Asked, word-reads.Learnt, part-a-reads.Asked, part-a-reads.Learnt, part-b-reads.Asked, part-b-reads.Learnt, evaluate-below t, evaluate.Post, apply-reads.Asked, apply-reads.Learnt, constant-reads.Asked, constant-reads.Learnt)
 
 evaluate-kind-requires : (t : ℕ) → evaluate-lts.Need-kind-requires (evaluate-calls t) (evaluate-at t) evaluate.Post
 evaluate-kind-requires t c κs = search (expression-place-inside, needs)
 
-evaluate-item-requires : (t : ℕ) → evaluate-lts.Need-item-requires (evaluate-calls t) (evaluate-at t) evaluate.Post
-evaluate-item-requires t c κs = search (expression-place-inside, needs)
+evaluate-item-named-requires : (t : ℕ) → evaluate-lts.Need-item-named-requires (evaluate-calls t) (evaluate-at t) evaluate.Post
+evaluate-item-named-requires t c κs = search (expression-place-inside, needs)
 
 evaluate-word-requires : (t : ℕ) → evaluate-lts.Need-word-requires (evaluate-calls t) (evaluate-at t) evaluate.Post
 evaluate-word-requires t c κs = search (evaluate-laws, needs)
@@ -73,7 +73,7 @@ pub +evaluate-spec : {M : Type 1} → statement M
     (evaluate-at t)
     evaluate.Post
     (evaluate-kind-requires t)
-    (evaluate-item-requires t)
+    (evaluate-item-named-requires t)
     (evaluate-word-requires t)
     (evaluate-part-a-requires t)
     (evaluate-part-b-requires t)

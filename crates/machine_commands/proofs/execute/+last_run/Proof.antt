@@ -7,7 +7,6 @@ use borrow.Fn.PlainCycle.{Measures, is, falls, and}
 use Rattle.machine_commands.proofs.execute.last_run.Reads as last-run
 use Rattle.machine_commands.proofs.execute.last_run.Kinds as last-run-kinds
 use Rattle.machine_commands.proofs.execute.+last_run.Lts-last_run as last-run-lts
-use Rattle.design.proofs.Design.item.Reads as item-reads
 use Rattle.design.proofs.Design.kind.Reads as kind-reads
 use Rattle.design.proofs.Design.part_a.Reads as part-a-reads
 use Rattle.design.proofs.Design.part_b.Reads as part-b-reads
@@ -16,12 +15,13 @@ use Rattle.design.proofs.Design.register_width.Reads as register-width-reads
 use Rattle.design.proofs.widths.cut.Reads as cut-reads
 use Rattle.design.proofs.words.put_word.Reads as put-word-reads
 use Rattle.machine_commands.proofs.evaluate.evaluate.Reads as evaluate-reads
+use Rattle.machine_commands.proofs.evaluate.item_named.Reads as item-named-reads
 use Rattle.machine_commands.proofs.execute.transfers.Reads as transfers-reads
 use Rattle.machine_commands.proofs.execute.+last_run.{statement}
 use Rattle.machine_commands.proofs.execute.+last_run.Tie.{close}
 
 abbrev μ-last-run : Measures 2 last-run-kinds.ps ℕ
-μ-last-run κs a = a .1 .1 .1 .1 .1 .0
+μ-last-run κs a = a .1 .1 .1 .1 .1 .1 .0
 
 abbrev last-run-at : ℕ → In 2 last-run-kinds.ps
 last-run-at t = and 2 last-run-kinds.ps (is 2 last-run-kinds.ps μ-last-run t) last-run.Pre
@@ -32,7 +32,7 @@ last-run-below t =
 
 -- what the callees ask and tell
 abbrev last-run-calls : ℕ → last-run-lts.Claims
-last-run-calls t = (part-a-reads.Asked, part-a-reads.Learnt, part-b-reads.Asked, part-b-reads.Learnt, kind-reads.Asked, kind-reads.Learnt, item-reads.Asked, item-reads.Learnt, evaluate-reads.Asked, evaluate-reads.Learnt, register-width-reads.Asked, register-width-reads.Learnt, cut-reads.Asked, cut-reads.Learnt, put-word-reads.Asked, put-word-reads.Learnt, last-run-below t, last-run.Post, transfers-reads.Asked, transfers-reads.Learnt, part-c-reads.Asked, part-c-reads.Learnt)
+last-run-calls t = (part-a-reads.Asked, part-a-reads.Learnt, part-b-reads.Asked, part-b-reads.Learnt, kind-reads.Asked, kind-reads.Learnt, item-named-reads.Asked, item-named-reads.Learnt, evaluate-reads.Asked, evaluate-reads.Learnt, register-width-reads.Asked, register-width-reads.Learnt, cut-reads.Asked, cut-reads.Learnt, put-word-reads.Asked, put-word-reads.Learnt, last-run-below t, last-run.Post, transfers-reads.Asked, transfers-reads.Learnt, part-c-reads.Asked, part-c-reads.Learnt)
 
 last-run-part-a-requires : (t : ℕ) → last-run-lts.Need-part-a-requires (last-run-calls t) (last-run-at t) last-run.Post
 last-run-part-a-requires t c κs = search (command-place-inside, needs)
@@ -43,8 +43,8 @@ last-run-part-b-requires t c κs = search (command-place-inside, needs)
 last-run-kind-requires : (t : ℕ) → last-run-lts.Need-kind-requires (last-run-calls t) (last-run-at t) last-run.Post
 last-run-kind-requires t c κs = search (command-place-inside, needs)
 
-last-run-item-requires : (t : ℕ) → last-run-lts.Need-item-requires (last-run-calls t) (last-run-at t) last-run.Post
-last-run-item-requires t c κs = search (command-place-inside, needs)
+last-run-item-named-requires : (t : ℕ) → last-run-lts.Need-item-named-requires (last-run-calls t) (last-run-at t) last-run.Post
+last-run-item-named-requires t c κs = search (command-place-inside, needs)
 
 last-run-evaluate-requires : (t : ℕ) → last-run-lts.Need-evaluate-requires (last-run-calls t) (last-run-at t) last-run.Post
 last-run-evaluate-requires t c κs = search assigned-evaluating
@@ -122,7 +122,7 @@ pub +last-run-spec : {M : Type 1} → statement M
     (last-run-part-a-requires t)
     (last-run-part-b-requires t)
     (last-run-kind-requires t)
-    (last-run-item-requires t)
+    (last-run-item-named-requires t)
     (last-run-evaluate-requires t)
     (last-run-register-width-requires t)
     (last-run-cut-requires t)

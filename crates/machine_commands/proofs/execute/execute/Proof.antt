@@ -12,6 +12,18 @@ kind-requires c κs = search (answer-inside, needs)
 item-requires : tie.Need-item-requires
 item-requires c κs = search (answer-inside, needs)
 
+part-a-requires : tie.Need-part-a-requires
+part-a-requires c κs = search (answer-inside, needs)
+
+named-requires : tie.Need-named-requires
+named-requires c κs = search needs
+
+part-b-requires : tie.Need-part-b-requires
+part-b-requires c κs = search (answer-inside, needs)
+
+named-requires-2 : tie.Need-named-requires-2
+named-requires-2 c κs = search needs
+
 same-length : tie.Need-same-length
 same-length c = search needs
 
@@ -37,6 +49,10 @@ execute-spec =
     last-run-requires
     kind-requires
     item-requires
+    part-a-requires
+    named-requires
+    part-b-requires
+    named-requires-2
     same-length
     returns
     same-length-2
