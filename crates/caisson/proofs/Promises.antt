@@ -5,7 +5,7 @@ use mathlib.Core.Logic.{_↔_}
 use mathlib.Core.List.{List, [], _∷_}
 use lib.ListN.{length}
 use Rattle.model.specs.declared.Refusal.{Refusal}
-use Rattle.model.specs.Limits.{cyclesMax, wordLength}
+use Rattle.model.specs.Limits.{cyclesMax, wordLength, targetLength}
 use Rattle.model.specs.Image.{AreBytes, designOf}
 use Rattle.model.specs.Answers.{Numbers, numberOf, numbersOf}
 use Rattle.model.specs.Rules.{Keeps}
@@ -53,7 +53,7 @@ pub registers-length-told :
     (image : List ℕ) (h : HostAnswer) → RegistersMeasured image h → AnswersBy (imageTable image) (wordLength * length (designOf image .registers)) (told h)
 registers-length-told image h measured = rw (registers-measured image h measured) (meaning.registers-length-exactly image)
 
-pub targets-length-told : (image : List ℕ) (h : HostAnswer) → TargetsMeasured image h → AnswersBy (imageTable image) (length (designOf image .states)) (told h)
+pub targets-length-told : (image : List ℕ) (h : HostAnswer) → TargetsMeasured image h → AnswersBy (imageTable image) (targetLength * length (designOf image .states)) (told h)
 targets-length-told image h measured = rw (targets-measured image h measured) (meaning.targets-length-exactly image)
 
 -- ---- demand 1: a refusal changes no lent byte

@@ -1,13 +1,18 @@
 -- What is promised of the exported raising, 02, E6, as a C host has it. Each takes the postcondition of the exported function (`RaiseContracts`), and no more.
-use Prim.Native.Nat.{ℕ}
+use Prim.Native.Nat.{ℕ, _<_}
 use mathlib.Core.Path.{_≡_, sym, _∙_, ap}
+use mathlib.Core.Logic.{_↔_}
+use mathlib.Core.Bool.{true}
 use mathlib.Core.List.{List}
 use lib.ListN.{length}
 use Rattle.model.specs.declared.Answer.the-variants.{Accepted}
+use Rattle.model.specs.Image.{designOf, stateAt}
+use Rattle.model.specs.Parameters.{hasParameters}
 use Rattle.model.specs.Answers.{Numbers, numbersOf}
 use Rattle.model.specs.Rules.{Keeps}
 use Rattle.model.specs.Refusals.{raiseTable, AnswersBy}
 use Rattle.model.specs.Raising.{LeftOut, LeastRaising, raise}
+use Rattle.model.specs.Verdict.{structure}
 use Rattle.model.proofs.Exact.{verdict-exact}
 use Rattle.model.proofs.RaisingPromises as meaning
 use Rattle.caisson.specs.declared.HostAnswer.{HostAnswer}
@@ -26,19 +31,26 @@ module _ (image before : List ℕ) (h : HostAnswer) (after : List ℕ) (called :
   told-number = ap (λ (x : Numbers). x .number) raise-told
 
   -- "Given an image that passes all checks up to 9, 16 included"; 14 "judged after the image checks"; "It refuses with 18, place 0 and after 14, exactly if no
-  -- accepted raising exists." Accepted exactly when every rule of the table is kept, refused exactly by the first that is broken.
+  -- accepted raising exists." 02, E8: "raising refuses with 20, place 0, after its image checks and before 14, an image that has parameters." Accepted exactly when
+  -- every rule of the table is kept, refused exactly by the first that is broken.
   pub raise-told-exactly : AnswersBy (raiseTable image before) 0 (told h)
   raise-told-exactly = rw raise-told (meaning.raise-exactly image before)
+
+  -- 02, E8: of an image that passes the checks up to 9, a host is told 20 exactly if a state has a parameter.
+  pub told-parameters-exactly : structure image ≡ Accepted 0 → (told h ≡ record { number = 20; place = 0; count = 0 }) ↔ (hasParameters (designOf image) ≡ true)
+  told-parameters-exactly accepted = rw raise-told (meaning.raise-parameters-exactly image before accepted)
 
   -- "the same image with inner register labels raised, never lowered, so that the whole is accepted. Port and state labels are fixed. The result is the least:
   -- every accepted raising gives each register a label at or above ours."
   pub told-least : h .number ≡ 0 → LeastRaising image after
   told-least accepted = rw raise-leaves (meaning.raised-least image before (sym told-number ∙ accepted))
 
-  -- "An accepted image comes back unchanged", byte for byte.
-  pub told-comes-back : Keeps image → length before ≡ length image → (told h ≡ record { number = 0; place = 0; count = 0 }) × (after ≡ image)
-  told-comes-back keeps long =
-      let back = meaning.accepted-comes-back image before (verdict-exact image .1 keeps) long in
+  -- "An accepted image comes back unchanged", byte for byte. 02, E8: one without parameters, as others are refused with 20.
+  pub told-comes-back : Keeps image → ((s : ℕ) → s < length (designOf image .states) → stateAt (designOf image) s .parameters ≡ 0)
+      → length before ≡ length image
+      → (told h ≡ record { number = 0; place = 0; count = 0 }) × (after ≡ image)
+  told-comes-back keeps plain long =
+      let back = meaning.accepted-comes-back image before (verdict-exact image .1 keeps) plain long in
       (raise-told ∙ ap (λ (x : LeftOut). numbersOf (x .answer)) back, raise-leaves ∙ ap (λ (x : LeftOut). x .out) back)
 
   -- 01, demand 1: "No lent byte changes" on a refusal.

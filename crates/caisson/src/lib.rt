@@ -55,7 +55,7 @@ pub extern "C" fn caisson_registers_length(image: &[u8]) -> HostAnswer
     in_numbers(answer)
 }
 
-// The length in bytes of the target area that an image asks for.
+// The length in bytes of the area of targets and bindings that an image asks for.
 #[no_mangle]
 pub extern "C" fn caisson_targets_length(image: &[u8]) -> HostAnswer
     ensures { λ r. ⌜ told r ≡ numbersOf (targetsLength (now (image .entry))) ⌝ }
@@ -64,7 +64,7 @@ pub extern "C" fn caisson_targets_length(image: &[u8]) -> HostAnswer
     in_numbers(answer)
 }
 
-// Reset values and default targets.
+// Reset values, default targets, and no bindings.
 #[no_mangle]
 pub extern "C" fn caisson_reset(
     image: &[u8],

@@ -1,13 +1,13 @@
 -- What each call leaves, case by case of what it judged: a refusal leaves the areas as they were lent, and the bytes of an area of the right length are
 -- those of its values.
 use Prim.Native.Nat.{ℕ, _+_, _*_, _^_, _≤_, _<_}
-use mathlib.Core.Path.{_≡_, refl, sym, _∙_, ap}
-use mathlib.Core.Bool.{Bool, true, false, not, _&&_, _||_}
+use mathlib.Core.Path.{_≡_, sym, _∙_, ap}
+use mathlib.Core.Bool.{Bool, true, false, not, _&&_}
 use mathlib.Core.List.{List}
 use native.Mathlib.Omega.{arith}
 use lib.Dec.{eqb, leb, ltb}
-use lib.ListN.{length, getD, set}
-use borrow.Author.Tests.{eq-eqb, ne-eqb, eqb-true, ltb-true, lt-ltb, le-ltb}
+use lib.ListN.{length, getD, set, take, take-append-drop}
+use borrow.Author.Tests.{eq-eqb, eqb-true, ltb-true, lt-ltb, le-ltb}
 use mir.Syntax.{w8, w64}
 use mir.Val.{Fits}
 use Rattle.model.specs.declared.Found.{Found}
@@ -16,20 +16,23 @@ use Rattle.model.specs.declared.Refusal.{Refusal}
 use Rattle.model.specs.declared.Refusal.the-variants.{NoPort, Area, CycleCount, PortValue}
 use Rattle.model.specs.declared.Answer.{Answer}
 use Rattle.model.specs.declared.Answer.the-variants.{Accepted, Refused}
-use Rattle.model.specs.Limits.{cyclesMax, wordLength}
+use Rattle.model.specs.Limits.{cyclesMax, wordLength, targetLength}
 use Rattle.model.specs.Indices.{lowestFailing}
 use Rattle.model.specs.Image.{Design as Table, Registers, Register, AreBytes, word32At, designOf, registerAt}
-use Rattle.model.specs.States.{isChild, hasChild, isPort}
+use Rattle.model.specs.States.{isPort}
 use Rattle.model.specs.Rules.{Keeps}
 use Rattle.model.specs.Answers.{numberOf}
 use Rattle.model.specs.Verdict.{verdict, refusedAt, _before_}
-use Rattle.model.specs.Values.{fits, wordsOf, bytesOf}
+use Rattle.model.specs.Values.{modulus, fits, wordsOf, bytesOf}
+use Rattle.model.specs.Bindings.{bindingSound}
 use Rattle.model.specs.Machine.{Areas, resetAreas, targetSound, afterCycles}
-use Rattle.model.specs.Calls.{Lent, Left, LeftRegisters, lengthAnswer, targetsAnswer, registerAreaAnswer, contentKept, contentsAnswer, isWritable, portAnswer, valueAnswer, cyclesAnswer, areasOf, lentOf, registersLength, targetsLength, resetAnswer, reset, runAnswer, run, writePortAnswer, writePort}
+use Rattle.model.specs.Calls.{Lent, Left, LeftRegisters, lengthAnswer, targetsIn, bindingsIn, targetsAnswer, bindingsAnswer, registerAreaAnswer, contentKept, contentsAnswer, isWritable, portAnswer, valueAnswer, cyclesAnswer, areasOf, lentOf, registersLength, targetsLength, resetAnswer, reset, runAnswer, run, writePortAnswer, writePort}
 use Rattle.model.proofs.Laws.Booleans.{not-true, not-false, and-first, and-second}
 use Rattle.model.proofs.Laws.Indices.{failing-none}
-use Rattle.model.proofs.Laws.States.{child-of}
-use Rattle.model.proofs.Laws.Words.{bytes-of-words}
+use Rattle.model.proofs.Laws.Equivalences.{less-iff}
+use Rattle.model.proofs.Laws.Verdict.{found-nothing}
+use Rattle.model.proofs.Laws.Words.{bytes-of-words, length-wordsOf}
+use Rattle.model.proofs.Independence.Widths.{fitting-each}
 use Rattle.model.proofs.Exact.Records.{state-iff}
 use Rattle.design.specs.declared.Design.{Design}
 use Rattle.design.specs.Records.{registerIn, registerEnd}
@@ -37,12 +40,15 @@ use Rattle.design.specs.Describes.{Describes}
 use Rattle.design.specs.Kept.{StatesKept, RecordsKept}
 use Rattle.design.specs.Words.{putWord}
 use Rattle.design.specs.Resets.{Defaults, lends}
+use Rattle.design.specs.Scopes.{Scopes}
 use Rattle.design.proofs.Laws.{registers-count, states-count, register-inside, register-in}
+use Rattle.design.proofs.ResetRules.{states-few}
 use Rattle.design.proofs.WordRules.{words-at, words-put, length-put}
 use Rattle.design.proofs.WidthRules.{width-is}
+use Rattle.machine.specs.Bindings.{TargetsSound}
 use Rattle.machine.specs.Cycles.{Running, areasIn}
 use Rattle.checker.proofs.Accepted.{accepted-known}
-use Rattle.calls.specs.Stages.{leftAs, leftRegistersAs, resetOn, writePortOn, runOn}
+use Rattle.calls.specs.Stages.{leftAs, leftRegistersAs, resetOn, writePortOn, runOn, runSound}
 
 pub registers-few : {image : List ℕ} {x : Design} → Describes image x → x .registers ≤ 64
 registers-few d = omega (arith, d .registers, d .directory .sections Registers)
@@ -54,8 +60,11 @@ area-fits d = let few = registers-few d in record { fits = omega arith }
 pub registers-bytes : {image : List ℕ} {x : Design} {n : ℕ} → Describes image x → n ≡ wordLength * x .registers → Accepted n ≡ Accepted (wordLength * length (designOf image .registers))
 registers-bytes d e = ap Accepted (rw (← registers-count d) e)
 
-pub targets-bytes : {image : List ℕ} {x : Design} → Describes image x → Accepted (x .states) ≡ Accepted (length (designOf image .states))
-targets-bytes d = ap Accepted (states-count d)
+pub targets-fit : {image : List ℕ} {x : Design} → Describes image x → Fits w64 (3 * x .states)
+targets-fit d = let few = states-few d in record { fits = omega arith }
+
+pub targets-bytes : {image : List ℕ} {x : Design} {n : ℕ} → Describes image x → n ≡ targetLength * x .states → Accepted n ≡ Accepted (targetLength * length (designOf image .states))
+targets-bytes d e = ap Accepted (rw (← states-count d) e)
 
 pub states-kept : {image : List ℕ} → Keeps image → StatesKept (designOf image)
 states-kept {image} keeps = record { kept = λ s l. state-iff (designOf image) s .1 (keeps .design .structure .states s l) }
@@ -71,15 +80,6 @@ module _ {image : List ℕ} {x : Design} (d : Describes image x) (registers : Li
   pub area-long : not b ≡ false → length registers ≡ 4 * x .registers
   area-long h = eqb-true (length registers) (4 * x .registers) (sym e ∙ not-false b h)
 
-  pub wrong-registers : (targets : List ℕ) → not b ≡ true → lengthAnswer (designOf image) (lends registers targets) ≡ Refused Area 0
-  unfolding lengthAnswer refusedAt
-  wrong-registers targets h = rw (area-is, not-true b h)
-
-  pub wrong-targets : (targets : List ℕ) → not b ≡ false → (length targets ≡ x .states → ⊥) → lengthAnswer (designOf image) (lends registers targets) ≡ Refused Area 0
-  unfolding lengthAnswer refusedAt
-  wrong-targets targets h k =
-      rw (area-is, not-false b h, ne-eqb (length targets) (length (designOf image .states)) (λ same. k (same ∙ sym (states-count d))))
-
   pub wrong-area : not b ≡ true → registerAreaAnswer (designOf image) registers ≡ Refused Area 0
   unfolding registerAreaAnswer refusedAt
   wrong-area h = rw (area-is, not-true b h)
@@ -88,12 +88,30 @@ module _ {image : List ℕ} {x : Design} (d : Describes image x) (registers : Li
   unfolding registerAreaAnswer refusedAt
   right-area h = rw (area-is, not-false b h)
 
-pub right-lengths : {image : List ℕ} {x : Design} (registers targets : List ℕ) → Describes image x → length registers ≡ 4 * x .registers → length targets ≡ x .states → lengthAnswer (designOf image) (lends registers targets) ≡ Accepted 0
+-- of both areas
+pub both-kept : {a b p q : Bool} → a ≡ p → b ≡ q → (a && b) ≡ (p && q)
+both-kept h k = rw (h, k)
+
+module _ {image : List ℕ} {x : Design} (d : Describes image x) (registers targets : List ℕ) {b : Bool} (e : b ≡ (eqb (length registers) (4 * x .registers) && eqb (length targets) (3 * x .states))) where
+  pub wrong-lengths : not b ≡ true → lengthAnswer (designOf image) (lends registers targets) ≡ Refused Area 0
+  unfolding lengthAnswer refusedAt
+  wrong-lengths h =
+      let both : (eqb (length registers) (4 * length (designOf image .registers)) && eqb (length targets) (3 * length (designOf image .states))) ≡ b = rw (← registers-count d, ← states-count d) (sym e) in
+      rw (both, not-true b h)
+
+  pub registers-long : not b ≡ false → length registers ≡ 4 * x .registers
+  registers-long h = eqb-true (length registers) (4 * x .registers) (and-first (eqb (length registers) (4 * x .registers)) (eqb (length targets) (3 * x .states)) (sym e ∙ not-false b h))
+
+  pub targets-long : not b ≡ false → length targets ≡ 3 * x .states
+  targets-long h = eqb-true (length targets) (3 * x .states) (and-second (eqb (length registers) (4 * x .registers)) (eqb (length targets) (3 * x .states)) (sym e ∙ not-false b h))
+
+pub right-lengths : {image : List ℕ} {x : Design} (registers targets : List ℕ) → Describes image x → length registers ≡ 4 * x .registers → length targets ≡ 3 * x .states → lengthAnswer (designOf image) (lends registers targets) ≡ Accepted 0
 unfolding lengthAnswer refusedAt
 right-lengths {image} registers targets d h k =
     let count = registers-count d in
+    let states = states-count d in
     rw
-    (eq-eqb (length registers) (4 * length (designOf image .registers)) (omega arith), eq-eqb (length targets) (length (designOf image .states)) (k ∙ states-count d))
+    (eq-eqb (length registers) (4 * length (designOf image .registers)) (omega arith), eq-eqb (length targets) (3 * length (designOf image .states)) (omega arith))
 
 -- ---- reset
 pub reset-refuses : (d : Table) (registers targets : List ℕ) → lengthAnswer d (lends registers targets) ≡ Refused Area 0 → leftAs (Refused Area 0) registers targets ≡ resetOn d (lends registers targets)
@@ -216,7 +234,18 @@ module _ {image : List ℕ} {x : Design} (known : RecordsKept image x) (r : ℕ)
         (ap (λ (area : List ℕ). leftRegistersAs (Accepted 0) area) made)
 
 -- ---- run
--- a fresh table that default targets were written to
+-- a table of scopes for the most states
+pub scopes-room : {image : List ℕ} {x : Design} → Describes image x → 3 * x .states ≤ 192
+scopes-room d = let few = states-few d in omega arith
+
+-- the targets stand in front in their area
+pub front-inside : {n : ℕ} (area : List ℕ) → length area ≡ 3 * n → n ≤ length area
+front-inside area e = omega arith
+
+pub front-unsound : {image : List ℕ} {x : Design} (area : List ℕ) {f : Found} → Describes image x → f ≡ lowestFailing (targetSound (designOf image) (take (x .states) area)) (length (designOf image .states))
+    → f ≡ lowestFailing (targetSound (designOf image) (targetsIn (designOf image) area)) (length (designOf image .states))
+front-unsound {image} area d h = h ∙ ap (λ (n : ℕ). lowestFailing (targetSound (designOf image) (take n area)) (length (designOf image .states))) (states-count d)
+
 pub run-refuses : (d : Table) (registers targets : List ℕ) (n : ℕ) → lengthAnswer d (lends registers targets) ≡ Refused Area 0 → leftAs (Refused Area 0) registers targets ≡ runOn d (lends registers targets) n
 unfolding runOn _before_
 run-refuses d registers targets n h = rw h
@@ -226,60 +255,75 @@ pub run-refuses-contents : (d : Table) (registers targets : List ℕ) (n : ℕ) 
 unfolding runOn _before_
 run-refuses-contents d registers targets n right h = rw (right, h)
 
-module _ (d : Table) (registers targets : List ℕ) (n : ℕ) {f : Found} (right : lengthAnswer d (lends registers targets) ≡ Accepted 0) (fit : contentsAnswer d registers ≡ Accepted 0) (found : f ≡ lowestFailing (targetSound d targets) (length (d .states))) where
-  pub run-refuses-target : {p : ℕ} → f ≡ At p → leftAs (Refused Area p) registers targets ≡ runOn d (lends registers targets) n
+module _ (d : Table) (registers targets : List ℕ) (n : ℕ) {f : Found} where
+  pub run-refuses-target : {p : ℕ} → f ≡ At p → f ≡ lowestFailing (targetSound d (targetsIn d targets)) (length (d .states)) → lengthAnswer d (lends registers targets) ≡ Accepted 0 → contentsAnswer d registers ≡ Accepted 0
+      → leftAs (Refused Area p) registers targets ≡ runOn d (lends registers targets) n
   unfolding runOn targetsAnswer refusedAt _before_
-  run-refuses-target h = rw (right, fit, ← found, h)
+  run-refuses-target h found right fit = rw (right, fit, ← found, h)
 
-  pub run-refuses-count : {b : Bool} → f ≡ Nowhere → b ≡ leb n cyclesMax → not b ≡ true → leftAs (Refused CycleCount 0) registers targets ≡ runOn d (lends registers targets) n
-  unfolding runOn targetsAnswer cyclesAnswer refusedAt _before_
-  run-refuses-count {b} h e k = rw (right, fit, ← found, h, ← e, not-true b k)
+  module _ {g : Found} (none : f ≡ Nowhere) (found : f ≡ lowestFailing (targetSound d (targetsIn d targets)) (length (d .states))) where
+    pub run-refuses-binding : {p : ℕ} → g ≡ At p → g ≡ lowestFailing (bindingSound d (targetsIn d targets) (bindingsIn d targets)) (length (d .states)) → lengthAnswer d (lends registers targets) ≡ Accepted 0 → contentsAnswer d registers ≡ Accepted 0
+        → leftAs (Refused Area p) registers targets ≡ runOn d (lends registers targets) n
+    unfolding runOn targetsAnswer bindingsAnswer refusedAt _before_
+    run-refuses-binding h loose right fit = rw (right, fit, ← found, none, ← loose, h)
 
-  pub run-accepts : {b : Bool} → f ≡ Nowhere → b ≡ leb n cyclesMax → not b ≡ false → runOn d (lends registers targets) n ≡ record { answer = Accepted n; lent = lentOf (afterCycles d n (areasIn d registers targets)) }
-  unfolding runOn targetsAnswer cyclesAnswer areasOf refusedAt _before_
-  run-accepts {b} h e k = rw (right, fit, ← found, h, ← e, not-false b k)
+    pub run-passes : {left : Left} → left ≡ runSound d (lends registers targets) n → g ≡ Nowhere → g ≡ lowestFailing (bindingSound d (targetsIn d targets) (bindingsIn d targets)) (length (d .states)) → lengthAnswer d (lends registers targets) ≡ Accepted 0 → contentsAnswer d registers ≡ Accepted 0
+        → left ≡ runOn d (lends registers targets) n
+    unfolding runOn runSound targetsAnswer bindingsAnswer refusedAt _before_
+    run-passes k tied loose right fit = rw (right, fit, ← found, none, ← loose, tied) k
 
--- a sound target is a state
-sound-inside : (d : Table) (targets : List ℕ) (s : ℕ) → s < length (d .states) → targetSound d targets s ≡ true → getD targets s 0 < length (d .states)
-unfolding targetSound
-sound-inside d targets s l h = go (isChild d s (getD targets s 0)) refl h
-  where
-    go : (b : Bool) → isChild d s (getD targets s 0) ≡ b → (b || (not (hasChild d s) && eqb (getD targets s 0) s)) ≡ true → getD targets s 0 < length (d .states)
-    go true e h = child-of d s (getD targets s 0) e .state
-    go false e h = let same = eqb-true (getD targets s 0) s (and-second (not (hasChild d s)) (eqb (getD targets s 0) s) h) in omega arith
+-- what the judged areas give to the cycles
+pub targets-sound : (d : Table) (area : List ℕ) {f : Found} → f ≡ Nowhere → f ≡ lowestFailing (targetSound d (targetsIn d area)) (length (d .states)) → TargetsSound d area
+targets-sound d area none found = record { sound = failing-none (targetSound d (targetsIn d area)) (length (d .states)) (sym found ∙ none) }
 
-pub run-running : {image : List ℕ} {x : Design} {f : Found} {table : List ℕ} (registers targets : List ℕ) → Keeps image → Describes image x → Defaults (designOf image) table
+fitting-contents : (d : Table) (registers : List ℕ) → contentsAnswer d registers ≡ Accepted 0 → (r : ℕ) → getD (wordsOf (length (d .registers)) registers) r 0 < modulus (d .registers) r
+unfolding contentsAnswer contentKept refusedAt
+fitting-contents d registers fit =
+    fitting-each (d .registers) (wordsOf (length (d .registers)) registers) (length-wordsOf (length (d .registers)) registers)
+    (λ r l. less-iff .0 (failing-none (contentKept d registers) (length (d .registers)) (found-nothing Area (lowestFailing (contentKept d registers) (length (d .registers))) fit) r l))
+
+pub run-running : {image : List ℕ} {x : Design} {f g : Found} {table inScope : List ℕ} (registers targets : List ℕ) → Keeps image → Describes image x → Defaults (designOf image) table → Scopes (designOf image) inScope
     → length registers ≡ 4 * x .registers
-    → length targets ≡ x .states
-    → f ≡ lowestFailing (targetSound (designOf image) targets) (length (designOf image .states))
+    → length targets ≡ 3 * x .states
+    → contentsAnswer (designOf image) registers ≡ Accepted 0
     → f ≡ Nowhere
-    → Running image x table registers targets
-run-running {image} {x} registers targets keeps describes defaults area long found none =
+    → f ≡ lowestFailing (targetSound (designOf image) (targetsIn (designOf image) targets)) (length (designOf image .states))
+    → g ≡ Nowhere
+    → g ≡ lowestFailing (bindingSound (designOf image) (targetsIn (designOf image) targets) (bindingsIn (designOf image) targets)) (length (designOf image .states))
+    → Running image x table inScope registers targets
+run-running {image} registers targets keeps describes defaults scopes area long fit none found tied loose =
     let d = designOf image in
-    let count = states-count describes in
     record {
       known = accepted-known keeps describes;
       keeps = keeps;
       defaults = defaults;
+      scopes = scopes;
       area = area;
       states = long;
-      inside = λ s l. let state : s < length (d .states) = omega arith in let inside = sound-inside d targets s state (failing-none (targetSound d targets) (length (d .states)) (sym found ∙ none) s state) in omega arith;
+      fitting = fitting-contents d registers fit;
+      sound = failing-none (targetSound d (targetsIn d targets)) (length (d .states)) (sym found ∙ none);
+      bound = failing-none (bindingSound d (targetsIn d targets) (bindingsIn d targets)) (length (d .states)) (sym loose ∙ tied);
     }
 
 -- the bytes that a run leaves are those of its values
-pub bytes-left : {image : List ℕ} {x : Design} {table : List ℕ} (registers targets : List ℕ) {areas : Areas} → AreBytes registers → Running image x table registers targets → areasIn (designOf image) registers targets ≡ areas → lends registers targets ≡ lentOf areas
+pub bytes-left : {image : List ℕ} {x : Design} {table inScope : List ℕ} (registers targets : List ℕ) {areas : Areas} → AreBytes registers → Running image x table inScope registers targets → areasIn (designOf image) registers targets ≡ areas → lends registers targets ≡ lentOf areas
 unfolding lentOf
 bytes-left {image} registers targets bytes running e =
     let d = designOf image in
     let count = registers-count (running .known .describes) in
     let area = running .area in
     let same : bytesOf (wordsOf (length (d .registers)) registers) ≡ registers = bytes-of-words (length (d .registers)) registers bytes (omega arith) in
-    rw (← e, same)
+    rw (← e, same, take-append-drop (length (d .states)) targets)
 
-pub run-makes : (d : Table) (registers targets registers₀ targets₀ : List ℕ) (n : ℕ) → runOn d (lends registers₀ targets₀) n ≡ record { answer = Accepted n; lent = lentOf (afterCycles d n (areasIn d registers₀ targets₀)) }
-    → lends registers targets ≡ lentOf (afterCycles d n (areasIn d registers₀ targets₀))
-    → leftAs (Accepted n) registers targets ≡ runOn d (lends registers₀ targets₀) n
-run-makes d registers targets registers₀ targets₀ n h k = ap (λ (lent : Lent). record { answer = Accepted n; lent = lent }) k ∙ sym h
+-- the count, and the cycles
+module _ (d : Table) (n : ℕ) {b : Bool} (e : b ≡ leb n cyclesMax) where
+  pub count-refuses : (registers targets : List ℕ) → not b ≡ true → leftAs (Refused CycleCount 0) registers targets ≡ runSound d (lends registers targets) n
+  unfolding runSound cyclesAnswer refusedAt _before_
+  count-refuses registers targets h = rw (← e, not-true b h)
+
+  pub run-makes : (registers targets registers₀ targets₀ : List ℕ) → not b ≡ false → lends registers targets ≡ lentOf (afterCycles d n (areasIn d registers₀ targets₀)) → leftAs (Accepted n) registers targets ≡ runSound d (lends registers₀ targets₀) n
+  unfolding runSound cyclesAnswer areasOf refusedAt _before_
+  run-makes registers targets registers₀ targets₀ h k = rw (← e, not-false b h) (ap (λ (lent : Lent). record { answer = Accepted n; lent = lent }) k)
 
 -- ---- numbers
 pub number-of : {r q : Refusal} {n : ℕ} → r ≡ q → n ≡ numberOf q → n ≡ numberOf r
@@ -313,7 +357,7 @@ module _ (image : List ℕ) {a : Answer} (e : a ≡ verdict image) where
     unfolding registersLength _before_
     accepted-registers-length k = rw (← e, h) k
 
-    pub accepted-targets-length : {b : Answer} → b ≡ Accepted (length (designOf image .states)) → b ≡ targetsLength image
+    pub accepted-targets-length : {b : Answer} → b ≡ Accepted (targetLength * length (designOf image .states)) → b ≡ targetsLength image
     unfolding targetsLength _before_
     accepted-targets-length k = rw (← e, h) k
 

@@ -8,7 +8,7 @@ use Rattle.model.specs.Image.{Design as Table}
 use Rattle.model.specs.Verdict.{_before_}
 use Rattle.model.specs.Values.{wordsOf, bytesOf}
 use Rattle.model.specs.Machine.{resetAreas, afterCycles}
-use Rattle.model.specs.Calls.{Lent, Left, LeftRegisters, leaves, leavesRegisters, lengthAnswer, targetsAnswer, registerAreaAnswer, contentsAnswer, portAnswer, valueAnswer, cyclesAnswer, areasOf, lentOf}
+use Rattle.model.specs.Calls.{Lent, Left, LeftRegisters, leaves, leavesRegisters, lengthAnswer, targetsAnswer, bindingsAnswer, registerAreaAnswer, contentsAnswer, portAnswer, valueAnswer, cyclesAnswer, areasOf, lentOf}
 use Rattle.design.specs.Resets.{lends}
 
 abbrev pub leftAs : Answer → List ℕ → List ℕ → Left
@@ -30,6 +30,10 @@ writePortOn d registers r v =
 unfoldable pub runOn : Table → Lent → ℕ → Left
 runOn d lent n =
     leaves
-    (lengthAnswer d lent before contentsAnswer d (lent .registers) before targetsAnswer d lent before cyclesAnswer n before Accepted n)
+    (lengthAnswer d lent before contentsAnswer d (lent .registers) before targetsAnswer d lent before bindingsAnswer d lent before cyclesAnswer n before Accepted n)
     lent
     (lentOf (afterCycles d n (areasOf d lent)))
+
+-- and once both areas are sound
+unfoldable pub runSound : Table → Lent → ℕ → Left
+runSound d lent n = leaves (cyclesAnswer n before Accepted n) lent (lentOf (afterCycles d n (areasOf d lent)))

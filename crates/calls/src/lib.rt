@@ -31,7 +31,7 @@ pub fn registers_length(image: &[u8]) -> Answer
     }
 }
 
-// The length in bytes of the target area that an image asks for.
+// The length in bytes of the area of targets and bindings that an image asks for.
 pub fn targets_length(image: &[u8]) -> Answer
     ensures { λ a. ⌜ a ≡ targetsLength (now (image .entry)) ⌝ }
 {
@@ -42,7 +42,7 @@ pub fn targets_length(image: &[u8]) -> Answer
     }
 }
 
-// Writes the reset values and the default targets.
+// Writes the reset values and the default targets, and clears the bindings behind them.
 pub fn reset(image: &[u8], registers: &mut [u8], targets: &mut [u8]) -> Answer
     ensures { λ a. ⌜ leftAs a (now (registers .exit)) (now (targets .exit)) ≡ resetOf (now (image .entry)) (lends (now (registers .entry)) (now (targets .entry))) ⌝ }
 {

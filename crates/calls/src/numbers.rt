@@ -26,6 +26,8 @@ pub fn number(refusal: Refusal) -> u32
         Refusal::PortAssigned => 16,
         Refusal::PortValue => 17,
         Refusal::NoRaising => 18,
+        Refusal::Parameter => 19,
+        Refusal::RaiseParameters => 20,
         Refusal::GateDirectory => 25,
         Refusal::GateWire => 26,
     }

@@ -1,5 +1,5 @@
 // Reset on an image that keeps the rules.
-use crate::areas::register_area_kept;
+use crate::areas::areas_kept;
 use design::Design;
 use model::Answer;
 use model::Refusal;
@@ -14,10 +14,7 @@ pub fn reset(image: &[u8], registers: &mut [u8], targets: &mut [u8]) -> Answer
     ensures { λ a. ⌜ leftAs a (now (registers .exit)) (now (targets .exit)) ≡ resetOn (designOf (now (image .entry))) (lends (now (registers .entry)) (now (targets .entry))) ⌝ }
 {
     let design = Design::read(image);
-    if !register_area_kept(design, registers.len()) {
-        return Answer::Refused(Refusal::Area, 0);
-    }
-    if targets.len() != design.states {
+    if !areas_kept(design, registers.len(), targets.len()) {
         return Answer::Refused(Refusal::Area, 0);
     }
     design.reset(image, registers, targets);

@@ -1,8 +1,11 @@
 // Run on an image that keeps the rules: all that can be done once is done before the first cycle.
-use crate::areas::register_area_kept;
+use crate::areas::areas_kept;
 use crate::contents::too_large;
 use design::Design;
 use design::reset::default_targets;
+use design::scopes::SCOPE_LENGTH;
+use design::scopes::scopes;
+use machine::bindings::unbound;
 use machine::cycle::cycles;
 use machine::targets::unsound;
 use model::Answer;
@@ -12,17 +15,25 @@ ghost use Prim.Native.Nat.{_*_};
 ghost use mathlib.Core.Path.{_≡_};
 ghost use lib.Dec.{leb};
 ghost use lib.ListN.{length};
-ghost use Rattle.model.specs.Limits.{cyclesMax, wordLength};
+ghost use Rattle.model.specs.Limits.{cyclesMax, wordLength, targetLength};
+ghost use Rattle.model.specs.Indices.{lowestFailing};
 ghost use Rattle.model.specs.declared.Answer.the-variants.{Accepted};
 ghost use Rattle.model.specs.Image.{designOf};
 ghost use Rattle.model.specs.Rules.{Keeps};
-ghost use Rattle.model.specs.Calls.{contentsAnswer};
+ghost use Rattle.model.specs.Machine.{targetSound};
+ghost use Rattle.model.specs.Calls.{contentsAnswer, targetsIn};
 ghost use Rattle.design.specs.Describes.{Describes};
+ghost use Rattle.design.specs.Kept.{StatesKept};
 ghost use Rattle.design.specs.Resets.{Defaults, lends};
-ghost use Rattle.calls.specs.Stages.{leftAs, runOn};
+ghost use Rattle.design.specs.Scopes.{Scopes};
+ghost use Rattle.machine.specs.Cycles.{Running};
+ghost use Rattle.calls.specs.Stages.{leftAs, runOn, runSound};
 
 // The most cycles of a run.
 const MOST_CYCLES: u32 = 1000000;
+
+// The length of a table of scopes for the most states.
+const SCOPES: usize = SCOPE_LENGTH * Design::STATES;
 
 // A run of so many cycles is short enough.
 fn count_kept(count: u32) -> bool
@@ -31,27 +42,82 @@ fn count_kept(count: u32) -> bool
     count <= MOST_CYCLES
 }
 
+// The lowest state whose target is not sound. The targets stand in front in their area.
+fn unsound_target(image: &[u8], design: Design, defaults: &[u8], area: &[u8]) -> Found
+    requires { ⌜ Describes (now image) design × StatesKept (designOf (now image)) × Defaults (designOf (now image)) (now defaults) × (length (now area) ≡ targetLength * design .states) ⌝ }
+    ensures { λ f. ⌜ f ≡ lowestFailing (targetSound (designOf (now (image .entry))) (targetsIn (designOf (now (image .entry))) (now (area .entry)))) (length (designOf (now (image .entry)) .states)) ⌝ }
+{
+    unsound(image, design, defaults, &area[..design.states])
+}
+
+// A run on sound areas.
+fn run_sound(
+    image: &[u8],
+    design: Design,
+    defaults: &[u8],
+    in_scope: &[u8],
+    registers: &mut [u8],
+    targets: &mut [u8],
+    count: u32,
+) -> Answer
+    requires { ⌜ Running (now image) design (now defaults) (now «in_scope») (now registers) (now targets) ⌝ }
+    ensures { λ a. ⌜ leftAs a (now (registers .exit)) (now (targets .exit)) ≡ runSound (designOf (now (image .entry))) (lends (now (registers .entry)) (now (targets .entry))) count ⌝ }
+{
+    if !count_kept(count) {
+        return Answer::Refused(Refusal::CycleCount, 0);
+    }
+    cycles(image, design, defaults, in_scope, registers, targets, count);
+    Answer::Accepted(count as usize)
+}
+
 // A run on areas of the right lengths, where every register is within its width.
 fn run_on(
     image: &[u8],
     design: Design,
     defaults: &[u8],
+    in_scope: &[u8],
     registers: &mut [u8],
     targets: &mut [u8],
     count: u32,
 ) -> Answer
-    requires { ⌜ Keeps (now image) × Describes (now image) design × Defaults (designOf (now image)) (now defaults) × (length (now registers) ≡ wordLength * design .registers) × (length (now targets) ≡ design .states) × (contentsAnswer (designOf (now image)) (now registers) ≡ Accepted 0) ⌝ }
+    requires { ⌜ Keeps (now image) × Describes (now image) design × Defaults (designOf (now image)) (now defaults) × Scopes (designOf (now image)) (now «in_scope») × (length (now registers) ≡ wordLength * design .registers) × (length (now targets) ≡ targetLength * design .states) × (contentsAnswer (designOf (now image)) (now registers) ≡ Accepted 0) ⌝ }
     ensures { λ a. ⌜ leftAs a (now (registers .exit)) (now (targets .exit)) ≡ runOn (designOf (now (image .entry))) (lends (now (registers .entry)) (now (targets .entry))) count ⌝ }
 {
-    let found = unsound(image, design, defaults, targets);
+    let found = unsound_target(image, design, defaults, targets);
     if let Found::At(place) = found {
         return Answer::Refused(Refusal::Area, place);
     }
-    if !count_kept(count) {
-        return Answer::Refused(Refusal::CycleCount, 0);
+    let loose = unbound(image, design, targets);
+    if let Found::At(place) = loose {
+        return Answer::Refused(Refusal::Area, place);
     }
-    cycles(image, design, defaults, registers, targets, count);
-    Answer::Accepted(count as usize)
+    run_sound(image, design, defaults, in_scope, registers, targets, count)
+}
+
+// The same, with fresh tables of the default targets and of what is in scope of each state.
+fn with_tables(
+    image: &[u8],
+    design: Design,
+    registers: &mut [u8],
+    targets: &mut [u8],
+    count: u32,
+) -> Answer
+    requires { ⌜ Keeps (now image) × Describes (now image) design × (length (now registers) ≡ wordLength * design .registers) × (length (now targets) ≡ targetLength * design .states) × (contentsAnswer (designOf (now image)) (now registers) ≡ Accepted 0) ⌝ }
+    ensures { λ a. ⌜ leftAs a (now (registers .exit)) (now (targets .exit)) ≡ runOn (designOf (now (image .entry))) (lends (now (registers .entry)) (now (targets .entry))) count ⌝ }
+{
+    let mut defaults = [0u8; Design::STATES];
+    default_targets(image, design, &mut defaults);
+    let mut in_scope = [0u8; SCOPES];
+    scopes(image, design, &mut in_scope);
+    run_on(
+        image,
+        design,
+        &defaults,
+        &in_scope,
+        registers,
+        targets,
+        count,
+    )
 }
 
 pub fn run(image: &[u8], registers: &mut [u8], targets: &mut [u8], count: u32) -> Answer
@@ -59,17 +125,12 @@ pub fn run(image: &[u8], registers: &mut [u8], targets: &mut [u8], count: u32) -
     ensures { λ a. ⌜ leftAs a (now (registers .exit)) (now (targets .exit)) ≡ runOn (designOf (now (image .entry))) (lends (now (registers .entry)) (now (targets .entry))) count ⌝ }
 {
     let design = Design::read(image);
-    if !register_area_kept(design, registers.len()) {
-        return Answer::Refused(Refusal::Area, 0);
-    }
-    if targets.len() != design.states {
+    if !areas_kept(design, registers.len(), targets.len()) {
         return Answer::Refused(Refusal::Area, 0);
     }
     let found = too_large(image, design, registers);
     if let Found::At(place) = found {
         return Answer::Refused(Refusal::Area, place);
     }
-    let mut defaults = [0u8; Design::STATES];
-    default_targets(image, design, &mut defaults);
-    run_on(image, design, &defaults, registers, targets, count)
+    with_tables(image, design, registers, targets, count)
 }

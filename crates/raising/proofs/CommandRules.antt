@@ -11,52 +11,38 @@ use lib.Bits.{bitAnd}
 use lib.ListN.{length}
 use mir.Syntax.{w64}
 use mir.Val.{Fits}
-use Rattle.model.specs.Image.{Design as Table, designOf, commandAt}
+use Rattle.model.specs.Image.{Design as Table, State, designOf, commandAt}
 use Rattle.model.specs.Lattice.{stateLabel}
 use Rattle.model.specs.Kinds.{sequences, branches, commandKind}
-use Rattle.model.specs.Trees.{exprOf, cmdOf, bodyOf}
-use Rattle.model.specs.Flow.{labelsRead}
-use Rattle.model.specs.Labelling.{relabelled}
-use Rattle.model.specs.Rules.{CommandHolds}
+use Rattle.model.specs.Trees.{sequence, branch, exprOf, cmdOf, bodyOf}
+use Rattle.model.specs.Rules.{ReadsScoped, Scoped, CommandHolds}
 use Rattle.model.specs.Raising.{labelsReadBy, raisedBy, raisedByStates, raisedOnce, raisedTimes}
 use Rattle.model.proofs.Laws.Booleans.{not-true}
 use Rattle.model.proofs.Raising.Settled.{raised-stays}
 use Rattle.model.proofs.Laws.Trees.{cmd-skip, cmd-sequence, cmd-fall, cmd-goto, cmd-branch}
 use Rattle.design.specs.declared.Design.{Design}
-use Rattle.design.specs.Records.{nodeIn, rowIn, stateIn}
+use Rattle.design.specs.Records.{nodeIn, rowIn, rowEnd, stateIn}
 use Rattle.design.specs.RecordsAt.{CommandAt}
-use Rattle.design.proofs.Laws.{labels-count, labels-most, registers-count, row-in}
+use Rattle.design.proofs.Laws.{labels-count, labels-most, registers-count, states-count, row-inside, row-in, state-in}
 use Rattle.design.proofs.LabelRules.{registers-few}
-use Rattle.design.proofs.FieldRules.{body-is, command-kind-is, command-kind-of, a-is, b-is, c-is, command-holds, condition, sequence-a-below, sequence-b-below, branch-b-below, branch-c-below}
-use Rattle.checker_bodies.specs.Flows.{MaskOf, Gathering}
-use Rattle.checker_bodies.proofs.Masks.{mask-both, mask-row}
-use Rattle.checker_bodies.proofs.FlowRules.{state-label-is, state-label-below}
-use Rattle.raising.specs.Passes.{Labelling, Raising, Assigns, Moved, RaisedAt, RaisedTo}
-use Rattle.raising.proofs.PassRules.{command-here, gathering, read-mask, moved-none, moved-both}
+use Rattle.design.proofs.FieldRules.{body-is, body-below, command-kind-is, command-kind-of, a-is, b-is, c-is, command-holds, condition, sequence-a-below, sequence-b-below, branch-b-below, branch-c-below}
+use Rattle.checker_bodies.specs.Masks.{Rows}
+use Rattle.checker_bodies.specs.Flows.{ReadsMask, Gathering}
+use Rattle.raising.specs.Passes.{Labelling, Raising, RaisingCommand, Assigns, Moved, RaisedAt, RaisedTo}
+use Rattle.raising.proofs.MaskRules.{mask-both, mask-row, plain-here, read-mask}
+use Rattle.raising.proofs.PassRules.{command-here, gathering, moved-none, moved-both}
 
-module _ {image labels : List ℕ} {x : Design} {n : ℕ} (here : Raising image x labels) (l : n < x .commands) where
+module _ {image masks labels : List ℕ} {x : Design} {n : ℕ} (of : RaisingCommand image x masks labels n) where
   at : CommandAt image x (x .«commands_at») n
-  at = command-here here l
+  at = command-here (of .raising) (of .command)
 
   pub assigns-here : {k : ℕ} → k ≡ 1 → k ≡ nodeIn image (x .«commands_at») n .kind → Assigns image x n
-  assigns-here q p = record { command = l; kind = command-kind-is at q p }
+  assigns-here q p = record { command = of .command; kind = command-kind-is at q p; stands = of .stands }
 
   pub condition-gathers : {k e : ℕ} → k ≡ 5 → k ≡ nodeIn image (x .«commands_at») n .kind → e ≡ nodeIn image (x .«commands_at») n .a → Gathering image labels (x .«expressions_at») e
-  condition-gathers q p f = gathering here (condition at q p f)
+  condition-gathers q p f = gathering (of .raising) (condition at q p f)
 
-  -- parts are commands, of lower numbers
-  pub sequence-a-here : {k a : ℕ} → k ≡ 2 → k ≡ nodeIn image (x .«commands_at») n .kind → a ≡ nodeIn image (x .«commands_at») n .a → a < x .commands
-  sequence-a-here q p f = let below = sequence-a-below at q p f in omega arith
-
-  pub sequence-b-here : {k b : ℕ} → k ≡ 2 → k ≡ nodeIn image (x .«commands_at») n .kind → b ≡ nodeIn image (x .«commands_at») n .b → b < x .commands
-  sequence-b-here q p f = let below = sequence-b-below at q p f in omega arith
-
-  pub branch-b-here : {k b : ℕ} → k ≡ 5 → k ≡ nodeIn image (x .«commands_at») n .kind → b ≡ nodeIn image (x .«commands_at») n .b → b < x .commands
-  branch-b-here q p f = let below = branch-b-below at q p f in omega arith
-
-  pub branch-c-here : {k c : ℕ} → k ≡ 5 → k ≡ nodeIn image (x .«commands_at») n .kind → c ≡ nodeIn image (x .«commands_at») n .c → c < x .commands
-  branch-c-here q p f = let below = branch-c-below at q p f in omega arith
-
+  -- parts have lower numbers
   pub sequence-a-lower : {k a t : ℕ} → k ≡ 2 → k ≡ nodeIn image (x .«commands_at») n .kind → a ≡ nodeIn image (x .«commands_at») n .a → n ≡ t → a < t
   sequence-a-lower q p f e = rw (← e) (sequence-a-below at q p f)
 
@@ -68,6 +54,47 @@ module _ {image labels : List ℕ} {x : Design} {n : ℕ} (here : Raising image 
 
   pub branch-c-lower : {k c t : ℕ} → k ≡ 5 → k ≡ nodeIn image (x .«commands_at») n .kind → c ≡ nodeIn image (x .«commands_at») n .c → n ≡ t → c < t
   branch-c-lower q p f e = rw (← e) (branch-c-below at q p f)
+
+  -- ---- parts stand in the same state
+  part-raising : {m : ℕ} {now : List ℕ} → m < n → Scoped (designOf image) (of .stands .state) (cmdOf (designOf image) m) → Labelling (designOf image) now → RaisingCommand image x masks now m
+  part-raising lower scoped own =
+      let here = of .raising in
+      let below = of .command in
+      record {
+        raising = record { known = here .known; structured = here .structured; plain = here .plain; labelling = own };
+        rows = of .rows;
+        command = omega arith;
+        stands = record { state = of .stands .state; exists = of .stands .exists; scoped = scoped };
+      }
+
+  module _ {k : ℕ} (kind : k ≡ 2) (byte : k ≡ nodeIn image (x .«commands_at») n .kind) where
+    sequence-scoped : Scoped (designOf image) (of .stands .state) (sequence n (cmdOf (designOf image) (commandAt (designOf image) n .a)) (cmdOf (designOf image) (commandAt (designOf image) n .b)))
+    unfolding commandKind
+    sequence-scoped =
+        let tree = cmd-sequence (designOf image) n (command-kind-of at sequences kind byte refl) (command-holds at kind byte .1) (command-holds at kind byte .2) in
+        rw tree at (of .stands .scoped)
+
+    pub sequence-a-raising : {a : ℕ} → a ≡ nodeIn image (x .«commands_at») n .a → RaisingCommand image x masks labels a
+    sequence-a-raising f = part-raising (sequence-a-below at kind byte f) (rw (a-is at f) (sequence-scoped .0)) (of .raising .labelling)
+
+    pub sequence-b-raising : {a b mask : ℕ} {middle : List ℕ} {p : Bool} → RaisedAt (designOf image) mask a labels middle p → b ≡ nodeIn image (x .«commands_at») n .b → RaisingCommand image x masks middle b
+    sequence-b-raising first f = part-raising (sequence-b-below at kind byte f) (rw (b-is at f) (sequence-scoped .1)) (first .change .labelling)
+
+  module _ {k : ℕ} (kind : k ≡ 5) (byte : k ≡ nodeIn image (x .«commands_at») n .kind) where
+    branch-scoped : Scoped (designOf image) (of .stands .state) (branch n (exprOf (designOf image) (commandAt (designOf image) n .a)) (cmdOf (designOf image) (commandAt (designOf image) n .b)) (cmdOf (designOf image) (commandAt (designOf image) n .c)))
+    unfolding commandKind
+    branch-scoped =
+        let tree = cmd-branch (designOf image) n (command-kind-of at branches kind byte refl) (command-holds at kind byte .2) (command-holds at kind byte .3) in
+        rw tree at (of .stands .scoped)
+
+    condition-scoped : {e : ℕ} → e ≡ nodeIn image (x .«commands_at») n .a → ReadsScoped (designOf image) (of .stands .state) (exprOf (designOf image) e)
+    condition-scoped f = rw (a-is at f) (branch-scoped .0)
+
+    pub branch-b-raising : {b : ℕ} → b ≡ nodeIn image (x .«commands_at») n .b → RaisingCommand image x masks labels b
+    branch-b-raising f = part-raising (branch-b-below at kind byte f) (rw (b-is at f) (branch-scoped .1)) (of .raising .labelling)
+
+    pub branch-c-raising : {b c mask : ℕ} {middle : List ℕ} {p : Bool} → RaisedAt (designOf image) mask b labels middle p → c ≡ nodeIn image (x .«commands_at») n .c → RaisingCommand image x masks middle c
+    branch-c-raising first f = part-raising (branch-c-below at kind byte f) (rw (c-is at f) (branch-scoped .2)) (first .change .labelling)
 
   -- ---- what a command makes of the table
   pub sequence-raises :
@@ -94,7 +121,7 @@ module _ {image labels : List ℕ} {x : Design} {n : ℕ} (here : Raising image 
       → e ≡ nodeIn image (x .«commands_at») n .a
       → b ≡ nodeIn image (x .«commands_at») n .b
       → c ≡ nodeIn image (x .«commands_at») n .c
-      → MaskOf (designOf image .rows) (labelsRead (relabelled (designOf image) labels) (exprOf (designOf image) e)) m
+      → ReadsMask (designOf image) labels masks e m
       → RaisedAt (designOf image) (bitAnd mask m) b labels middle p
       → RaisedAt (designOf image) (bitAnd mask m) c middle after q
       → RaisedAt (designOf image) mask n labels after (p || q)
@@ -105,7 +132,7 @@ module _ {image labels : List ℕ} {x : Design} {n : ℕ} (here : Raising image 
         change = moved-both (first .change) (second .change);
         is = λ context around.
             let inner = context ++ labelsReadBy labels (exprOf (designOf image) e) in
-            let inside = mask-both around (read-mask here e read) in
+            let inside = mask-both around (read-mask (of .raising) e read (of .rows) (of .stands .exists) (condition-scoped kind byte fe)) in
             second .is inner inside ∙ rw (tree, ← (a-is at fe), ← (b-is at fb), ← (c-is at fc), first .is inner inside) refl;
       }
 
@@ -124,30 +151,50 @@ module _ {image labels : List ℕ} {x : Design} {n : ℕ} (here : Raising image 
   pub other-still : {k mask : ℕ} → (k ≡ 1 → ⊥) → (k ≡ 2 → ⊥) → (k ≡ 5 → ⊥) → k ≡ nodeIn image (x .«commands_at») n .kind → RaisedAt (designOf image) mask n labels labels false
   other-still {k} a b c p =
       record {
-        change = moved-none (here .labelling);
+        change = moved-none (of .raising .labelling);
         is = λ context around. unmoved context k (sym (command-kind-is at refl p)) a b c (command-holds at refl p);
       }
 
 pub ruleset command-laws = (assigns-here, condition-gathers, sequence-raises, branch-raises, other-still)
 
 -- ---- the body of a state, whose context is its label
+module _ {image labels : List ℕ} {x : Design} {s : ℕ} (here : Raising image x labels) (l : s < x .states) where
+  state-label-is : {k : ℕ} → k ≡ stateIn image (x .«states_at») s .label → k ≡ stateLabel (designOf image) s
+  state-label-is e = e ∙ ap (λ (y : State). y .label) (state-in (here .known .describes) l)
+
+  pub state-row-inside : {k : ℕ} → k ≡ stateIn image (x .«states_at») s .label → rowEnd k ≤ length image
+  state-row-inside e =
+      let count = labels-count (here .known .describes) in
+      let below = plain-here here .states s in
+      row-inside (here .known .describes) (rw (state-label-is e) (omega arith))
+
+  pub state-raising : {masks : List ℕ} {n : ℕ} → Rows (designOf image) masks → n ≡ stateIn image (x .«states_at») s .command → RaisingCommand image x masks labels n
+  unfolding bodyOf
+  state-raising rows e =
+      let count = states-count (here .known .describes) in
+      record {
+        raising = here;
+        rows = rows;
+        command = body-below (here .known .describes) l e (here .known .states);
+        stands = record { state = s; exists = omega arith; scoped = rw (body-is (here .known .describes) l e) (here .structured .scoped s (omega arith)) };
+      }
+
 pub state-raises :
     {image labels after : List ℕ} {x : Design} {s n label mask : ℕ} {moved : Bool}
     → RaisedAt (designOf image) mask n labels after moved
     → mask ≡ rowIn image label
-    → mask < 65536
     → label ≡ stateIn image (x .«states_at») s .label
     → n ≡ stateIn image (x .«states_at») s .command
     → s < x .states
     → Raising image x labels
     → RaisedTo (designOf image) (raisedBy (designOf image) (stateLabel (designOf image) s ∷ []) (bodyOf (designOf image) s) labels) labels after moved
 unfolding bodyOf
-state-raises {image} {x = x} {s} {label = label} raised row small fl fn l here =
+state-raises {image} {x = x} {s} {label = label} raised row fl fn l here =
     let known = here .known in
-    let is = state-label-is known l fl in
+    let is = state-label-is here l fl in
     let count = labels-count (known .describes) in
-    let below = state-label-below known l in
-    let mask = mask-row {rows = designOf image .rows} {l = label} (row ∙ row-in (known .describes) (omega arith)) small in
+    let below = plain-here here .states s in
+    let mask = mask-row {rows = designOf image .rows} {l = label} (row ∙ row-in (known .describes) (omega arith)) in
     record { change = raised .change; is = rw (← (body-is (known .describes) l fn)) (raised .is (stateLabel (designOf image) s ∷ []) (rw is at mask)) }
 
 -- ---- one pass: the bodies of the first s states
@@ -170,7 +217,7 @@ module _ {d : Table} {start : List ℕ} where
 
 -- what is known after the bodies so far
 pub raising-so : {image start now : List ℕ} {x : Design} {s : ℕ} {moved : Bool} → OnceSo (designOf image) start s now moved → Raising image x start → Raising image x now
-raising-so so here = record { known = here .known; lattice = here .lattice; labelling = so .change .labelling }
+raising-so so here = record { known = here .known; structured = here .structured; plain = here .plain; labelling = so .change .labelling }
 
 -- ---- passes: with those that are left the whole comes out
 pub record TimesSo (d : Table) (start : List ℕ) (most i : ℕ) (now : List ℕ) : Type 0 where
@@ -202,7 +249,7 @@ most-passes e here = e ∙ rw (registers-count (here .known .describes), labels-
 
 -- what is known after the passes so far
 pub raising-times : {image start now : List ℕ} {x : Design} {most i : ℕ} → TimesSo (designOf image) start most i now → Raising image x start → Raising image x now
-raising-times so here = record { known = here .known; lattice = here .lattice; labelling = so .labelling }
+raising-times so here = record { known = here .known; structured = here .structured; plain = here .plain; labelling = so .labelling }
 
 -- they can be counted
 pub most-fits : {image labels : List ℕ} {x : Design} → Raising image x labels → Fits w64 (x .registers * x .labels)
@@ -212,8 +259,12 @@ most-fits {x = x} here =
     let product = mul-le-mul-right (x .labels) registers in
     record { fits = omega arith }
 
-pub pass-fits : {image labels : List ℕ} {x : Design} {i n : ℕ} → i < n → n ≡ x .registers * x .labels → Raising image x labels → Fits w64 (i + 1)
-pass-fits l e here = let product = most-fits here .fits in record { fits = omega arith }
+pub most-few : {image labels : List ℕ} {x : Design} {n : ℕ} → n ≡ x .registers * x .labels → Raising image x labels → n ≤ 1024
+most-few {x = x} e here =
+    let registers = registers-few (here .known .describes) in
+    let labels = labels-most (here .known .describes) in
+    let product = mul-le-mul-right (x .labels) registers in
+    omega arith
 
 -- what a pass leaves is a table of labels
 pub labelling-to : {d : Table} {raised before after : List ℕ} {moved : Bool} → RaisedTo d raised before after moved → Labelling d after

@@ -20,8 +20,7 @@ use Rattle.design.proofs.Laws.{labels-most}
 use Rattle.checker_records.specs.LabelTests.{leastIn}
 use Rattle.checker_records.proofs.Subsets.{bitOf, inside}
 use Rattle.checker_records.proofs.LatticeRules.{all-same}
-use Rattle.checker_bodies.specs.Flows.{MaskOf}
-use Rattle.raising.specs.Passes.{leastOf}
+use Rattle.raising.specs.Passes.{leastOf, RowMask}
 
 -- tests that agree below n find the same there
 lowest-same : (p q : ℕ → Bool) (n : ℕ) → ((k : ℕ) → k < n → p k ≡ q k) → lowest p n ≡ lowest q n
@@ -29,7 +28,7 @@ unfolding lowest
 lowest-same p q zero h = refl
 lowest-same p q (suc n) h = rw (lowest-same p q n (λ k l. h k (omega arith)), h n (omega arith))
 
-module _ (rows labels : List ℕ) (among : ℕ) (mask : MaskOf rows labels among) (small : among < 2 ^ length rows) where
+module _ (rows labels : List ℕ) (among : ℕ) (mask : RowMask rows labels among) (small : among < 2 ^ length rows) where
   least-same : (k : ℕ) → k < length rows → leastIn rows among k ≡ leastAboveAll rows labels k
   unfolding leastIn leastAboveAll flowsTo
   least-same k l =

@@ -1,6 +1,7 @@
 -- Laws of this crate.
 pub mod ByteRules
 pub mod JoinRules
+pub mod MaskRules
 pub mod PassRules
 pub mod CommandRules
 pub mod StageRules

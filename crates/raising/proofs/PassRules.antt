@@ -10,14 +10,13 @@ use lib.Bits.{bitAnd, and-le-l}
 use lib.Dec.{eqb}
 use lib.ListN.{length, getD, set, length-set}
 use lib.Seq.{set-getD}
-use Rattle.model.specs.Image.{Design as Table, Node, designOf}
+use Rattle.model.specs.Image.{Design as Table, Node, designOf, commandAt}
 use Rattle.model.specs.Kinds.{commandKind}
-use Rattle.model.specs.Trees.{exprOf, cmdOf}
-use Rattle.model.specs.Flow.{labelsRead}
-use Rattle.model.specs.Labelling.{relabelled}
+use Rattle.model.specs.Trees.{assign, exprOf, cmdOf}
+use Rattle.model.specs.Rules.{Scoped}
 use Rattle.model.specs.Raising.{joinOf, labelsReadBy, raisedBy}
 use Rattle.model.proofs.Laws.Joins.{flow-tail, join-stays}
-use Rattle.model.proofs.Laws.Relabelling.{labels-read}
+use Rattle.model.proofs.Laws.Plain.{plain-name}
 use Rattle.model.proofs.Raising.Orders.{set-cases}
 use Rattle.model.proofs.Laws.Trees.{cmd-assign}
 use Rattle.design.specs.declared.Design.{Design}
@@ -25,9 +24,10 @@ use Rattle.design.specs.Records.{nodeIn, rowIn, rowEnd}
 use Rattle.design.specs.RecordsAt.{CommandAt}
 use Rattle.design.proofs.Laws.{labels-count, labels-most, expressions-count, row-inside, row-in}
 use Rattle.design.proofs.FieldRules.{command-at, same-command, item-is, a-is, assigned-register, assigned-expression, condition, expression-at}
-use Rattle.checker_bodies.specs.Flows.{MaskOf, Gathering}
-use Rattle.checker_bodies.proofs.Masks.{mask-both, mask-row}
-use Rattle.raising.specs.Passes.{leastOf, Labelling, Raising, Assigns, Moved, RaisedAt, RaisedTo}
+use Rattle.checker_bodies.specs.Masks.{Rows}
+use Rattle.checker_bodies.specs.Flows.{ReadsMask, Gathering}
+use Rattle.raising.specs.Passes.{leastOf, RowMask, Labelling, Raising, Assigns, Moved, RaisedAt, RaisedTo}
+use Rattle.raising.proofs.MaskRules.{mask-both, mask-row, read-mask}
 use Rattle.raising.proofs.JoinRules.{least-is-join, least-label}
 
 -- ---- tables that move
@@ -48,10 +48,10 @@ moved-both {p = p} {q = q} first second = record { labelling = second .labelling
 
 -- what is known stays known
 pub raising-on : {image before after : List ℕ} {x : Design} {mask n : ℕ} {moved : Bool} → RaisedAt (designOf image) mask n before after moved → Raising image x before → Raising image x after
-raising-on raised here = record { known = here .known; lattice = here .lattice; labelling = raised .change .labelling }
+raising-on raised here = record { known = here .known; structured = here .structured; plain = here .plain; labelling = raised .change .labelling }
 
 pub raising-to : {image before after raised : List ℕ} {x : Design} {moved : Bool} → RaisedTo (designOf image) raised before after moved → Raising image x before → Raising image x after
-raising-to to here = record { known = here .known; lattice = here .lattice; labelling = to .change .labelling }
+raising-to to here = record { known = here .known; structured = here .structured; plain = here .plain; labelling = to .change .labelling }
 
 module _ {image labels : List ℕ} {x : Design} (here : Raising image x labels) where
   pub command-here : {n : ℕ} → n < x .commands → CommandAt image x (x .«commands_at») n
@@ -67,18 +67,23 @@ module _ {image labels : List ℕ} {x : Design} (here : Raising image x labels) 
         expression = expression-at (here .known .describes) (here .known .expressions) (omega arith) refl;
       }
 
-  -- the labels read, under the table
-  pub read-mask : (e : ℕ) {m : ℕ} → MaskOf (designOf image .rows) (labelsRead (relabelled (designOf image) labels) (exprOf (designOf image) e)) m
-      → MaskOf (designOf image .rows) (labelsReadBy labels (exprOf (designOf image) e)) m
-  read-mask e mask = rw (labels-read (designOf image) labels (here .labelling .exact) (exprOf (designOf image) e)) at mask
-
   -- ---- an assignment
   module _ {n : ℕ} (a : Assigns image x n) where
     byte : nodeIn image (x .«commands_at») n .kind ≡ 1
     byte = ap (λ (y : Node). y .kind) (same-command (command-here (a .command))) ∙ a .kind
 
+    tree : cmdOf (designOf image) n ≡ assign n (commandAt (designOf image) n .item) (exprOf (designOf image) (commandAt (designOf image) n .a))
+    unfolding commandKind
+    tree = cmd-assign (designOf image) n (ap commandKind (a .kind))
+
+    scoped : Scoped (designOf image) (a .stands .state) (assign n (commandAt (designOf image) n .item) (exprOf (designOf image) (commandAt (designOf image) n .a)))
+    scoped = rw tree at (a .stands .scoped)
+
+    -- without parameters what is written is a register
     register-below : {r : ℕ} → r ≡ nodeIn image (x .«commands_at») n .item → r < length (designOf image .registers)
-    register-below f = assigned-register (command-here (a .command)) byte refl f
+    register-below f =
+        let at = command-here (a .command) in
+        assigned-register at byte refl f (rw (item-is at f) (plain-name (designOf image) (here .plain .none) (a .stands .state) (commandAt (designOf image) n .item) (scoped .0)))
 
     pub entry-inside : {r : ℕ} → r ≡ nodeIn image (x .«commands_at») n .item → r < length labels
     entry-inside f = let below = register-below f in let same = here .labelling .exact in omega arith
@@ -100,26 +105,26 @@ module _ {image labels : List ℕ} {x : Design} (here : Raising image x labels) 
     assigned-gathers f = gathering (assigned-expression (command-here (a .command)) byte refl f)
 
     -- what the assignment makes of the table
-    module _ {r e l own m : ℕ}
+    module _ {masks : List ℕ} {r e l own m : ℕ}
         (fr : r ≡ nodeIn image (x .«commands_at») n .item)
         (fe : e ≡ nodeIn image (x .«commands_at») n .a)
         (fl : l ≡ getD labels r 0)
         (fo : own ≡ rowIn image l)
-        (small : own < 65536)
-        (read : MaskOf (designOf image .rows) (labelsRead (relabelled (designOf image) labels) (exprOf (designOf image) e)) m)
+        (read : ReadsMask (designOf image) labels masks e m)
+        (rows : Rows (designOf image) masks)
       where
         raised-is : (context : List ℕ) → raisedBy (designOf image) context (cmdOf (designOf image) n) labels ≡ set labels r (joinOf (designOf image .rows) (l ∷ (context ++ labelsReadBy labels (exprOf (designOf image) e))))
-        unfolding commandKind raisedBy
+        unfolding raisedBy
         raised-is context =
             let at = command-here (a .command) in
-            rw (cmd-assign (designOf image) n (ap commandKind (a .kind)), ← (item-is at fr), ← (a-is at fe), fl)
+            rw (tree, ← (item-is at fr), ← (a-is at fe), fl)
 
         own-row : own ≡ getD (designOf image .rows) l 0
         own-row = let count = labels-count (here .known .describes) in let below = entry-below fr fl in fo ∙ row-in (here .known .describes) (omega arith)
 
-        above-mask : {context : List ℕ} {mask : ℕ} → MaskOf (designOf image .rows) context mask
-            → MaskOf (designOf image .rows) (l ∷ (context ++ labelsReadBy labels (exprOf (designOf image) e))) (bitAnd own (bitAnd mask m))
-        above-mask around = mask-both (mask-row own-row small) (mask-both around (read-mask e read))
+        above-mask : {context : List ℕ} {mask : ℕ} → RowMask (designOf image .rows) context mask
+            → RowMask (designOf image .rows) (l ∷ (context ++ labelsReadBy labels (exprOf (designOf image) e))) (bitAnd own (bitAnd mask m))
+        above-mask around = mask-both (mask-row own-row) (mask-both around (read-mask here e read rows (a .stands .exists) (rw (a-is (command-here (a .command)) fe) (scoped .1))))
 
         pub assignment-still : {mask : ℕ} {b : Bool} → b ≡ eqb (bitAnd own (bitAnd mask m) / 2 ^ l % 2) 1 → b ≡ true → RaisedAt (designOf image) mask n labels labels false
         assignment-still fb h =
@@ -128,7 +133,7 @@ module _ {image labels : List ℕ} {x : Design} (here : Raising image x labels) 
               is = λ context around.
                   let below = entry-below fr fl in
                   let flows = sym (above-mask around .bits l below) ∙ sym fb ∙ h in
-                  let stays = join-stays (designOf image .rows) (here .lattice) _ l below (flow-tail (designOf image .rows) l _ l flows) in
+                  let stays = join-stays (designOf image .rows) (here .structured .lattice) _ l below (flow-tail (designOf image .rows) l _ l flows) in
                   sym (raised-is context ∙ rw (stays, fl) (set-getD labels r 0));
             }
 
@@ -150,7 +155,7 @@ module _ {image labels : List ℕ} {x : Design} (here : Raising image x labels) 
                     still = λ e. absurd (let z : _≡_ {A = ℕ} 0 1 = cc in omega arith);
                   };
               is = λ context around.
-                  let row : own < 2 ^ length rows = rw own-row (here .lattice .inside l below) in
+                  let row : own < 2 ^ length rows = rw own-row (here .structured .lattice .inside l below) in
                   let join = least-is-join rows _ (bitAnd own (bitAnd mask m)) (above-mask around) (lt-of-le-of-lt (and-le-l own (bitAnd mask m)) row) in
                   sym (raised-is context ∙ ap (set labels r) (sym (fv ∙ join)));
             }

@@ -1,10 +1,13 @@
 -- What raising leaves, as its answer and the bytes of the second area; and the call of `Rattle.model.specs.Raising` from the point where the structure is accepted on.
 use Prim.Native.Nat.{ℕ}
+use mathlib.Core.Bool.{not}
 use mathlib.Core.List.{List}
 use lib.Dec.{eqb}
 use lib.ListN.{length}
-use Rattle.model.specs.declared.Refusal.the-variants.{Area, NoRaising}
+use Rattle.model.specs.declared.Refusal.the-variants.{Area, NoRaising, RaiseParameters}
 use Rattle.model.specs.declared.Answer.{Answer}
+use Rattle.model.specs.Image.{designOf}
+use Rattle.model.specs.Parameters.{hasParameters}
 use Rattle.model.specs.Verdict.{_before_, refusedAt, atZeroUnless, verdict}
 use Rattle.model.specs.Raising.{LeftOut, leavesOut, accepts, raisedImage}
 
@@ -15,9 +18,19 @@ leftOutAs answer out = record { answer = answer; out = out }
 unfoldable pub raiseWithin : List ℕ → List ℕ → LeftOut
 raiseWithin image out = leavesOut (refusedAt NoRaising (atZeroUnless (accepts (verdict (raisedImage image))))) out (raisedImage image)
 
+-- once no state has a parameter
+unfoldable pub raisePlain : List ℕ → List ℕ → LeftOut
+raisePlain image out =
+    leavesOut
+    (refusedAt Area (atZeroUnless (eqb (length out) (length image))) before refusedAt NoRaising (atZeroUnless (accepts (verdict (raisedImage image)))))
+    out
+    (raisedImage image)
+
 unfoldable pub raiseOn : List ℕ → List ℕ → LeftOut
 raiseOn image out =
     leavesOut
-    (refusedAt Area (atZeroUnless (eqb (length out) (length image))) before refusedAt NoRaising (atZeroUnless (accepts (verdict (raisedImage image)))))
+    (refusedAt RaiseParameters (atZeroUnless (not (hasParameters (designOf image))))
+    before refusedAt Area (atZeroUnless (eqb (length out) (length image)))
+    before refusedAt NoRaising (atZeroUnless (accepts (verdict (raisedImage image)))))
     out
     (raisedImage image)

@@ -10,20 +10,26 @@ use crate::passes::raise_labels;
 use checker_bodies::flow::faults;
 use design::Design;
 use design::labels::register_labels;
+use design::scopes::SCOPE_LENGTH;
 use model::Answer;
 use model::Refusal;
 ghost use mathlib.Core.Path.{_≡_};
 ghost use lib.ListN.{length};
 ghost use Rattle.model.specs.declared.Answer.the-variants.{Accepted};
 ghost use Rattle.model.specs.Image.{designOf};
+ghost use Rattle.model.specs.Parameters.{hasParameters};
 ghost use Rattle.model.specs.Labelling.{labelsOf};
 ghost use Rattle.model.specs.Verdict.{structure as structureOf};
 ghost use Rattle.model.specs.Raising.{raise as raiseOf};
 ghost use Rattle.design.specs.Describes.{Describes};
-ghost use Rattle.raising.specs.Passes.{Raising};
-ghost use Rattle.raising.specs.Stages.{leftOutAs, raiseWithin, raiseOn};
+ghost use Rattle.raising.specs.Passes.{NoParameters, Raising};
+ghost use Rattle.raising.specs.Stages.{leftOutAs, raiseWithin, raisePlain, raiseOn};
 
-// Raising with a table of the registers' own labels, into an area as long as the image.
+// The length of a table of scopes for the most states.
+const SCOPES: usize = SCOPE_LENGTH * Design::STATES;
+
+// Raising with a table of the registers' own labels, into an area as long as the image. No state has a
+// parameter, so the table of what is in scope has only zeros.
 fn raise_from(image: &[u8], design: Design, labels: &mut [u8], out: &mut [u8]) -> Answer
     requires { ⌜ (structureOf (now image) ≡ Accepted 0)
         × Raising (now image) design (now labels)
@@ -32,7 +38,8 @@ fn raise_from(image: &[u8], design: Design, labels: &mut [u8], out: &mut [u8]) -
     ensures { λ a. ⌜ leftOutAs a (now (out .exit)) ≡ raiseWithin (now (image .entry)) (now (out .entry)) ⌝ }
 {
     raise_labels(image, design, labels);
-    let flow = faults(image, design, labels);
+    let scopes = [0u8; SCOPES];
+    let flow = faults(image, design, labels, &scopes);
     match flow {
         Answer::Refused(_, _) => Answer::Refused(Refusal::NoRaising, 0),
         Answer::Accepted(_) => {
@@ -47,6 +54,7 @@ fn raise_from(image: &[u8], design: Design, labels: &mut [u8], out: &mut [u8]) -
 fn raise_within(image: &[u8], design: Design, labels: &mut [u8], out: &mut [u8]) -> Answer
     requires { ⌜ Describes (now image) design
         × (structureOf (now image) ≡ Accepted 0)
+        × NoParameters (designOf (now image))
         × (length (now labels) ≡ design .registers)
         × (length (now out) ≡ length (now image)) ⌝ }
     ensures { λ a. ⌜ leftOutAs a (now (out .exit)) ≡ raiseWithin (now (image .entry)) (now (out .entry)) ⌝ }
@@ -56,14 +64,42 @@ fn raise_within(image: &[u8], design: Design, labels: &mut [u8], out: &mut [u8])
 }
 
 // Raising into an area as long as the image.
-fn raise_sized(image: &[u8], out: &mut [u8]) -> Answer
-    requires { ⌜ (structureOf (now image) ≡ Accepted 0) × (length (now out) ≡ length (now image)) ⌝ }
+fn raise_sized(image: &[u8], design: Design, out: &mut [u8]) -> Answer
+    requires { ⌜ Describes (now image) design
+        × (structureOf (now image) ≡ Accepted 0)
+        × NoParameters (designOf (now image))
+        × (length (now out) ≡ length (now image)) ⌝ }
     ensures { λ a. ⌜ leftOutAs a (now (out .exit)) ≡ raiseWithin (now (image .entry)) (now (out .entry)) ⌝ }
 {
-    let design = Design::read(image);
     let count = design.registers;
     let mut table = [0u8; Design::REGISTERS];
     raise_within(image, design, &mut table[..count], out)
+}
+
+// Raising an image without parameters.
+fn raise_plain(image: &[u8], design: Design, out: &mut [u8]) -> Answer
+    requires { ⌜ Describes (now image) design × (structureOf (now image) ≡ Accepted 0) × NoParameters (designOf (now image)) ⌝ }
+    ensures { λ a. ⌜ leftOutAs a (now (out .exit)) ≡ raisePlain (now (image .entry)) (now (out .entry)) ⌝ }
+{
+    if out.len() != image.len() {
+        return Answer::Refused(Refusal::Area, 0);
+    }
+    raise_sized(image, design, out)
+}
+
+// Some state has a parameter.
+fn has_parameters(image: &[u8], design: Design) -> bool
+    requires { ⌜ Describes (now image) design ⌝ }
+    ensures { λ x. ⌜ x ≡ hasParameters (designOf (now (image .entry))) ⌝ }
+{
+    let mut s = 0;
+    while s < design.states {
+        if Design::parameters(image, design.states_at, s) != 0 {
+            return true;
+        }
+        s += 1;
+    }
+    false
 }
 
 // Raising an image whose structure is accepted.
@@ -71,10 +107,11 @@ fn raise_structured(image: &[u8], out: &mut [u8]) -> Answer
     requires { ⌜ structureOf (now image) ≡ Accepted 0 ⌝ }
     ensures { λ a. ⌜ leftOutAs a (now (out .exit)) ≡ raiseOn (now (image .entry)) (now (out .entry)) ⌝ }
 {
-    if out.len() != image.len() {
-        return Answer::Refused(Refusal::Area, 0);
+    let design = Design::read(image);
+    if has_parameters(image, design) {
+        return Answer::Refused(Refusal::RaiseParameters, 0);
     }
-    raise_sized(image, out)
+    raise_plain(image, design, out)
 }
 
 pub fn raise(image: &[u8], out: &mut [u8]) -> Answer

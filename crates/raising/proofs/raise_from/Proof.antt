@@ -1,4 +1,5 @@
-use Rattle.raising.proofs.StageRules.{within-refuses, within-accepts, labels-inside}
+use Rattle.raising.proofs.StageRules.{within-refuses, within-accepts, labels-inside, empty-scopes}
+use Rattle.checker.proofs.Accepted.{structure-parameters, structure-bodies}
 use borrow.Author.Needs.{needs}
 use borrow.Author.Needs.{needs}
 use Rattle.raising.proofs.raise_from.Statement.{statement}
@@ -7,8 +8,11 @@ use Rattle.raising.proofs.raise_from.Tie as tie
 raise-labels-requires : tie.Need-raise-labels-requires
 raise-labels-requires c κs = search needs
 
+slice-aggregate-faults : tie.Need-slice-aggregate-faults
+slice-aggregate-faults c = search needs
+
 faults-requires : tie.Need-faults-requires
-faults-requires c κs = search needs
+faults-requires c κs = (search needs, search (structure-parameters, needs), search (empty-scopes, needs), search needs, search (structure-bodies, needs))
 
 enum-told : tie.Need-enum-told
 enum-told c = search needs
@@ -42,6 +46,7 @@ raise-from-spec =
     tie.close
     (tie.spec
     raise-labels-requires
+    slice-aggregate-faults
     faults-requires
     enum-told
     enum-told-2

@@ -1,13 +1,9 @@
 use mathlib.Core.Path.{sym}
 use lib.Seq.{length-take-le}
 use Rattle.design.proofs.LabelRules.{registers-few}
-use Rattle.raising.proofs.StageRules.{structured-directory}
 use borrow.Author.Needs.{needs}
 use Rattle.raising.proofs.raise_sized.Statement.{statement}
 use Rattle.raising.proofs.raise_sized.Tie as tie
-
-read-requires : tie.Need-read-requires
-read-requires c κs = search (structured-directory, needs)
 
 array-borrow-prefix-table : tie.Need-array-borrow-prefix-table
 array-borrow-prefix-table c = search (registers-few, needs)
@@ -16,7 +12,7 @@ slice-aggregate-raise-within : tie.Need-slice-aggregate-raise-within
 slice-aggregate-raise-within c = sym (length-take-le _ _ (search (registers-few, needs)))
 
 raise-within-requires : tie.Need-raise-within-requires
-raise-within-requires c κs = (search needs, search needs, length-take-le _ _ (search (registers-few, needs)), search needs)
+raise-within-requires c κs = (search needs, search needs, search needs, length-take-le _ _ (search (registers-few, needs)), search needs)
 
 same-length : tie.Need-same-length
 same-length c = search needs
@@ -28,7 +24,6 @@ pub raise-sized-spec : {M : Type 1} → statement M
 raise-sized-spec =
     tie.close
     (tie.spec
-    read-requires
     array-borrow-prefix-table
     slice-aggregate-raise-within
     raise-within-requires

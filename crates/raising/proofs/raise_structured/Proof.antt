@@ -1,19 +1,26 @@
-use Rattle.raising.proofs.StageRules.{area-refuses, area-passes}
+use Rattle.raising.proofs.StageRules.{structured-directory, parameters-refuse, parameters-pass, no-parameters}
 use borrow.Author.Needs.{needs}
 use Rattle.raising.proofs.raise_structured.Statement.{statement}
 use Rattle.raising.proofs.raise_structured.Tie as tie
 
-returns : tie.Need-returns
-returns c = search (area-refuses, needs)
+read-requires : tie.Need-read-requires
+read-requires c κs = search (structured-directory, needs)
 
-raise-sized-requires : tie.Need-raise-sized-requires
-raise-sized-requires c κs = search needs
+has-parameters-requires : tie.Need-has-parameters-requires
+has-parameters-requires c κs = search needs
+
+returns : tie.Need-returns
+returns c = search (parameters-refuse, needs)
+
+raise-plain-requires : tie.Need-raise-plain-requires
+raise-plain-requires c κs = (search needs, search needs, search (no-parameters, needs))
 
 same-length : tie.Need-same-length
 same-length c = search needs
 
 returns-2 : tie.Need-returns-2
-returns-2 c = search (area-passes, needs)
+returns-2 c = search (parameters-pass, needs)
 
 pub raise-structured-spec : {M : Type 1} → statement M
-raise-structured-spec = tie.close (tie.spec returns raise-sized-requires same-length returns-2)
+raise-structured-spec =
+    tie.close (tie.spec read-requires has-parameters-requires returns raise-plain-requires same-length returns-2)

@@ -63,6 +63,12 @@ enum-told-19 c = search needs
 enum-told-20 : tie.Need-enum-told-20
 enum-told-20 c = search needs
 
+enum-told-21 : tie.Need-enum-told-21
+enum-told-21 c = search needs
+
+enum-told-22 : tie.Need-enum-told-22
+enum-told-22 c = search needs
+
 returns : tie.Need-returns
 returns c = search (number-of, needs)
 
@@ -123,6 +129,12 @@ returns-19 c = search (number-of, needs)
 returns-20 : tie.Need-returns-20
 returns-20 c = search (number-of, needs)
 
+returns-21 : tie.Need-returns-21
+returns-21 c = search (number-of, needs)
+
+returns-22 : tie.Need-returns-22
+returns-22 c = search (number-of, needs)
+
 pub number-spec : {M : Type 1} → statement M
 number-spec =
     tie.close
@@ -147,6 +159,8 @@ number-spec =
     enum-told-18
     enum-told-19
     enum-told-20
+    enum-told-21
+    enum-told-22
     returns
     returns-2
     returns-3
@@ -166,4 +180,6 @@ number-spec =
     returns-17
     returns-18
     returns-19
-    returns-20)
+    returns-20
+    returns-21
+    returns-22)

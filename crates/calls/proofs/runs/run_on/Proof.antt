@@ -1,16 +1,11 @@
-use Rattle.model.specs.Image.{AreBytes}
-use Rattle.calls.proofs.CallRules.{states-kept, right-lengths, run-refuses-target, run-refuses-count, run-accepts, run-running, run-makes, are-bytes, bytes-left}
+use Rattle.checker.proofs.Accepted.{accepted-parameters}
+use Rattle.calls.proofs.CallRules.{states-kept, image-known, right-lengths, targets-sound, run-refuses-target, run-refuses-binding, run-passes, run-running}
 use borrow.Author.Needs.{needs}
 use Rattle.calls.proofs.runs.run_on.Statement.{statement}
 use Rattle.calls.proofs.runs.run_on.Tie as tie
-use Rattle.calls.proofs.runs.run_on.Reads as reads
-use Rattle.calls.proofs.runs.run_on.Lts as lts
-use Rattle.calls.proofs.runs.count_kept.Reads as count-kept-reads
-use Rattle.machine.proofs.cycle.cycles.Reads as cycles-reads
-use Rattle.machine.proofs.targets.unsound.Reads as unsound-reads
 
-unsound-requires : tie.Need-unsound-requires
-unsound-requires c κs = (search needs, search (states-kept, needs), search needs, search needs)
+unsound-target-requires : tie.Need-unsound-target-requires
+unsound-target-requires c κs = (search needs, search (states-kept, needs), search needs, search needs)
 
 enum-known-found : tie.Need-enum-known-found
 enum-known-found c = search needs
@@ -19,22 +14,28 @@ same-length : tie.Need-same-length
 same-length c = search needs
 
 returns : tie.Need-returns
-returns c = search (run-refuses-target, run-refuses-count, right-lengths, needs)
+returns c = search (run-refuses-target, run-refuses-binding, right-lengths, needs)
 
 enum-told : tie.Need-enum-told
 enum-told c = search needs
 
-count-kept-requires : tie.Need-count-kept-requires
-count-kept-requires c κs = search needs
+unbound-requires : tie.Need-unbound-requires
+unbound-requires c κs = (search (image-known, needs), search (accepted-parameters, needs), search needs, search (targets-sound, needs))
+
+enum-known-loose : tie.Need-enum-known-loose
+enum-known-loose c = search needs
 
 same-length-2 : tie.Need-same-length-2
 same-length-2 c = search needs
 
 returns-2 : tie.Need-returns-2
-returns-2 c = search (run-refuses-target, run-refuses-count, right-lengths, needs)
+returns-2 c = search (run-refuses-target, run-refuses-binding, right-lengths, needs)
 
-cycles-requires : tie.Need-cycles-requires
-cycles-requires c κs = search (run-running, needs)
+enum-told-2 : tie.Need-enum-told-2
+enum-told-2 c = search needs
+
+run-sound-requires : tie.Need-run-sound-requires
+run-sound-requires c κs = search (run-running, needs)
 
 same-length-3 : tie.Need-same-length-3
 same-length-3 c = search needs
@@ -43,24 +44,23 @@ same-length-4 : tie.Need-same-length-4
 same-length-4 c = search needs
 
 returns-3 : tie.Need-returns-3
-returns-3 c =
-    let registers = c .before .before .before .before .cycles .last .1 .1 .1 .0 in
-    let bytes : AreBytes registers = are-bytes registers (c .before .before .slice-known3 .given) in
-    search (run-makes, run-accepts, right-lengths, bytes-left, needs)
+returns-3 c = search (run-passes, right-lengths, needs)
 
 pub run-on-spec : {M : Type 1} → statement M
 run-on-spec =
     tie.close
     (tie.spec
-    unsound-requires
+    unsound-target-requires
     enum-known-found
     same-length
     returns
     enum-told
-    count-kept-requires
+    unbound-requires
+    enum-known-loose
     same-length-2
     returns-2
-    cycles-requires
+    enum-told-2
+    run-sound-requires
     same-length-3
     same-length-4
     returns-3)

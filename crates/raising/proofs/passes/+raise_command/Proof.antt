@@ -1,8 +1,6 @@
 use borrow.Author.Needs.{needs}
 use Rattle.design.proofs.Laws.{command-inside}
-use Rattle.checker_bodies.proofs.FlowKinds.{mask-small}
-use Rattle.raising.proofs.PassRules.{raising-on}
-use Rattle.raising.proofs.CommandRules.{command-laws, sequence-a-here, sequence-b-here, branch-b-here, branch-c-here, sequence-a-lower, sequence-b-lower, branch-b-lower, branch-c-lower}
+use Rattle.raising.proofs.CommandRules.{command-laws, sequence-a-raising, sequence-b-raising, branch-b-raising, branch-c-raising, sequence-a-lower, sequence-b-lower, branch-b-lower, branch-c-lower}
 use Prim.Native.Nat.{ℕ, _<_}
 use borrow.Fn.Kinds.{In}
 use borrow.Fn.PlainCycle.{Measures, is, falls, and}
@@ -18,19 +16,19 @@ use Rattle.raising.proofs.passes.raise_register.Reads as raise-register
 use Rattle.raising.proofs.passes.+raise_command.{statement}
 use Rattle.raising.proofs.passes.+raise_command.Tie.{close}
 
-abbrev μ-raise-command : Measures 2 raise-command-kinds.ps ℕ
-μ-raise-command κs a = a .1 .1 .1 .1 .0
+abbrev μ-raise-command : Measures 3 raise-command-kinds.ps ℕ
+μ-raise-command κs a = a .1 .1 .1 .1 .1 .0
 
-abbrev raise-command-at : ℕ → In 2 raise-command-kinds.ps
+abbrev raise-command-at : ℕ → In 3 raise-command-kinds.ps
 raise-command-at t =
-    and 2 raise-command-kinds.ps (is 2 raise-command-kinds.ps μ-raise-command t) raise-command.Pre
+    and 3 raise-command-kinds.ps (is 3 raise-command-kinds.ps μ-raise-command t) raise-command.Pre
 
-abbrev raise-command-below : ℕ → In 2 raise-command-kinds.ps
+abbrev raise-command-below : ℕ → In 3 raise-command-kinds.ps
 raise-command-below t =
     and
-    2
+    3
     raise-command-kinds.ps
-    (falls 2 raise-command-kinds.ps _<_ μ-raise-command t)
+    (falls 3 raise-command-kinds.ps _<_ μ-raise-command t)
     raise-command.Pre
 
 -- what the callees ask and tell
@@ -50,10 +48,10 @@ raise-command-part-b-requires : (t : ℕ) → raise-command-lts.Need-part-b-requ
 raise-command-part-b-requires t c κs = search (command-inside, needs)
 
 raise-command-raise-command-requires : (t : ℕ) → raise-command-lts.Need-raise-command-requires (raise-command-calls t) (raise-command-at t) raise-command.Post
-raise-command-raise-command-requires t c κs = (search sequence-a-lower, (search needs, search sequence-a-here, search needs))
+raise-command-raise-command-requires t c κs = (search sequence-a-lower, search sequence-a-raising)
 
 raise-command-raise-command-requires-2 : (t : ℕ) → raise-command-lts.Need-raise-command-requires-2 (raise-command-calls t) (raise-command-at t) raise-command.Post
-raise-command-raise-command-requires-2 t c κs = (search sequence-b-lower, (search (raising-on, needs), search sequence-b-here, search needs))
+raise-command-raise-command-requires-2 t c κs = (search sequence-b-lower, search sequence-b-raising)
 
 raise-command-part-a-requires-2 : (t : ℕ) → raise-command-lts.Need-part-a-requires-2 (raise-command-calls t) (raise-command-at t) raise-command.Post
 raise-command-part-a-requires-2 t c κs = search (command-inside, needs)
@@ -68,10 +66,10 @@ raise-command-reads-requires : (t : ℕ) → raise-command-lts.Need-reads-requir
 raise-command-reads-requires t c κs = search (command-laws, needs)
 
 raise-command-raise-command-requires-3 : (t : ℕ) → raise-command-lts.Need-raise-command-requires-3 (raise-command-calls t) (raise-command-at t) raise-command.Post
-raise-command-raise-command-requires-3 t c κs = (search branch-b-lower, (search needs, search branch-b-here, search (mask-small, needs)))
+raise-command-raise-command-requires-3 t c κs = (search branch-b-lower, search branch-b-raising)
 
 raise-command-raise-command-requires-4 : (t : ℕ) → raise-command-lts.Need-raise-command-requires-4 (raise-command-calls t) (raise-command-at t) raise-command.Post
-raise-command-raise-command-requires-4 t c κs = (search branch-c-lower, (search (raising-on, needs), search branch-c-here, search (mask-small, needs)))
+raise-command-raise-command-requires-4 t c κs = (search branch-c-lower, search branch-c-raising)
 
 raise-command-same-length : (t : ℕ) → raise-command-lts.Need-same-length (raise-command-calls t) (raise-command-at t) raise-command.Post
 raise-command-same-length t c = search needs

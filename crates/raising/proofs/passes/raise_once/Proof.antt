@@ -7,10 +7,10 @@ use Rattle.raising.proofs.passes.raise_once.Statement.{statement}
 use Rattle.raising.proofs.passes.raise_once.Tie as tie
 
 abbrev Inv-loop : tie.InvT-loop
-Inv-loop image design labels₀ moved₀ s₀ labels moved s = OnceSo (designOf image) labels₀ s labels moved × (s ≤ design .states)
+Inv-loop image design masks labels₀ moved₀ s₀ labels moved s = OnceSo (designOf image) labels₀ s labels moved × (s ≤ design .states)
 
 abbrev μ-loop : tie.MeasureT-loop
-μ-loop image design labels₀ moved₀ s₀ labels moved s = design .states - s
+μ-loop image design masks labels₀ moved₀ s₀ labels moved s = design .states - s
 
 loop-holds : tie.Need-loop-holds Inv-loop μ-loop
 loop-holds c = search (once-none, needs)
