@@ -15,7 +15,7 @@ abbrev pub registersRoom : ℕ
 registersRoom = 264
 
 abbrev pub targetsRoom : ℕ
-targetsRoom = 72
+targetsRoom = 200
 
 -- one byte more than the largest gate table
 abbrev pub tableRoom : ℕ

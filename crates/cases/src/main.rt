@@ -4,14 +4,14 @@
 // a and b, 32 bits each, little-endian. Some kinds have bytes behind the head.
 //
 //   0  note: a bytes of text follow, at most 200. Printed as `# text`.
-//   1  image: a bytes follow, at most 25,333: one more than the longest image. Checked, and kept for
+//   1  image: a bytes follow, at most 25,653: one more than the longest image. Checked, and kept for
 //      the calls. Printed as `check: NUMBER PLACE COUNT`.
-//   2  areas: a bytes for the registers follow, at most 264, then b bytes for the targets, at most
-//      72. Lent to the calls as they stand, with these lengths.
+//   2  areas: a bytes for the registers follow, at most 264, then b bytes for the targets and the
+//      bindings, at most 200. Lent to the calls as they stand, with these lengths.
 //   3  reset. Printed as `reset: NUMBER PLACE COUNT`, then the areas.
 //   4  port write of register a, value b. Printed as `write A B: NUMBER PLACE COUNT`, then the areas.
 //   5  run of a cycles. Printed as `run A: NUMBER PLACE COUNT`, then the areas.
-//   6  the image is raised into an area of a bytes, at most 25,333, each of which is b % 256 before.
+//   6  the image is raised into an area of a bytes, at most 25,653, each of which is b % 256 before.
 //      Printed as `raise A: NUMBER PLACE COUNT`, then a line `  out` with the area's bytes.
 //   7  gate table: a bytes follow, at most 17,677: one more than the longest table. Checked, and kept
 //      for the calls on gates. Printed as `gates check: NUMBER PLACE COUNT`.
@@ -49,7 +49,7 @@ const IMAGE: usize = Design::LARGEST + 1;
 
 const REGISTERS: usize = 264;
 
-const TARGETS: usize = 72;
+const TARGETS: usize = 200;
 
 // The head of a record.
 struct Head {

@@ -12,6 +12,7 @@ use Rattle.model.specs.Image.{Registers}
 use Rattle.model.specs.Verdict.{verdict}
 use Rattle.design.specs.declared.Design.{Design}
 use Rattle.design.specs.Describes.{Describes}
+use Rattle.design.proofs.ResetRules.{states-few}
 use Rattle.listing.proofs.PlaceRules.{place-small}
 
 pub part-length : (n : ℕ) (bytes : List ℕ) → n ≤ length bytes → n ≡ length (take n bytes)
@@ -19,6 +20,9 @@ part-length n bytes h = sym (length-take-le n bytes h)
 
 pub registers-fit : {image : List ℕ} {x : Design} → Describes image x → 4 * x .registers ≤ 256
 registers-fit d = omega (arith, d .registers, d .directory .sections Registers)
+
+pub targets-fit : {image : List ℕ} {x : Design} → Describes image x → 3 * x .states ≤ 192
+targets-fit d = let few = states-few d in omega arith
 
 pub line-fits : {n : ℕ} (out : List ℕ) → n ≤ 1421 → length out ≡ 1421 → n ≤ length out
 line-fits out l e = omega arith

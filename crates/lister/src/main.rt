@@ -3,6 +3,7 @@
 // Behind a write that failed it writes one line to standard error, and ends. No contract can speak of
 // what is written; a function that writes answers whether all of it was.
 use design::Design;
+use design::scopes::SCOPE_LENGTH;
 use listing::lines::header;
 use listing::lines::next_line;
 use listing::lines::refusal_line;
@@ -12,7 +13,7 @@ use model::Refusal;
 ghost use Prim.Native.Nat.{_+_, _*_, _<_, _≤_};
 ghost use mathlib.Core.Path.{_≡_};
 ghost use lib.ListN.{length};
-ghost use Rattle.model.specs.Limits.{wordLength};
+ghost use Rattle.model.specs.Limits.{wordLength, targetLength};
 ghost use Rattle.model.specs.Image.{designOf};
 ghost use Rattle.model.specs.Rules.{Keeps};
 ghost use Rattle.model.specs.Machine.{resetAreas, afterCycles};
@@ -25,8 +26,13 @@ ghost use Rattle.lister.specs.Ran.{Ran};
 // A cycle count, the longest image and one byte more: whatever stands behind them, an image so long
 // is refused.
 const INPUT: usize = Design::LARGEST + 3;
-// The bytes of all registers.
+// The bytes of all registers, of all targets and bindings, and of a table of what is in scope of all
+// states.
 const REGISTERS: usize = 256;
+
+const TARGETS: usize = Design::TARGET_LENGTH * Design::STATES;
+
+const SCOPES: usize = SCOPE_LENGTH * Design::STATES;
 // The longest header, refusal and line of a cycle.
 const HEADER: usize = 21;
 
@@ -63,15 +69,25 @@ fn print_cycle(
     image: &[u8],
     design: Design,
     defaults: &[u8],
+    scopes: &[u8],
     registers: &mut [u8],
     targets: &mut [u8],
     done: u32,
 ) -> bool
-    requires { ⌜ (done + 1 < 4294967296) × RunningAt (now image) design (now defaults) (now registers) (now targets) done ⌝ }
-    ensures { λ _. ⌜ RunningAt (now (image .entry)) design (now (defaults .entry)) (now (registers .exit)) (now (targets .exit)) (done + 1) ⌝ }
+    requires { ⌜ (done + 1 < 4294967296) × RunningAt (now image) design (now defaults) (now scopes) (now registers) (now targets) done ⌝ }
+    ensures { λ _. ⌜ RunningAt (now (image .entry)) design (now (defaults .entry)) (now (scopes .entry)) (now (registers .exit)) (now (targets .exit)) (done + 1) ⌝ }
 {
     let mut out = [0u8; LINE];
-    let n = next_line(image, design, defaults, registers, targets, done, &mut out);
+    let n = next_line(
+        image,
+        design,
+        defaults,
+        scopes,
+        registers,
+        targets,
+        done,
+        &mut out,
+    );
     print(&out, n)
 }
 
@@ -80,16 +96,17 @@ fn print_cycles(
     image: &[u8],
     design: Design,
     defaults: &[u8],
+    scopes: &[u8],
     registers: &mut [u8],
     targets: &mut [u8],
     count: u32,
 ) -> bool
-    requires { ⌜ RunningAt (now image) design (now defaults) (now registers) (now targets) 0 ⌝ }
-    ensures { λ r. ⌜ Ran (RunningAt (now (image .entry)) design (now (defaults .entry)) (now (registers .exit)) (now (targets .exit))) count r ⌝ }
+    requires { ⌜ RunningAt (now image) design (now defaults) (now scopes) (now registers) (now targets) 0 ⌝ }
+    ensures { λ r. ⌜ Ran (RunningAt (now (image .entry)) design (now (defaults .entry)) (now (scopes .entry)) (now (registers .exit)) (now (targets .exit))) count r ⌝ }
 {
     let mut i = 0;
     while i < count {
-        if !print_cycle(image, design, defaults, registers, targets, i) {
+        if !print_cycle(image, design, defaults, scopes, registers, targets, i) {
             return false;
         }
         i += 1;
@@ -105,12 +122,20 @@ fn list_on(
     targets: &mut [u8],
     count: u32,
 ) -> bool
-    requires { ⌜ (length (now registers) ≡ wordLength * design .registers) × (length (now targets) ≡ design .states) × Describes (now image) design × Keeps (now image) ⌝ }
+    requires { ⌜ (length (now registers) ≡ wordLength * design .registers) × (length (now targets) ≡ targetLength * design .states) × Describes (now image) design × Keeps (now image) ⌝ }
     ensures { λ r. ⌜ Ran (λ cycles. areasIn (designOf (now (image .entry))) (now (registers .exit)) (now (targets .exit)) ≡ afterCycles (designOf (now (image .entry))) cycles (resetAreas (designOf (now (image .entry))))) count r ⌝ }
 {
     let mut defaults = [0u8; Design::STATES];
-    start(image, design, &mut defaults, registers, targets);
-    print_cycles(image, design, &defaults, registers, targets, count)
+    let mut scopes = [0u8; SCOPES];
+    start(
+        image,
+        design,
+        &mut defaults,
+        &mut scopes,
+        registers,
+        targets,
+    );
+    print_cycles(image, design, &defaults, &scopes, registers, targets, count)
 }
 
 // The listing of an image that keeps the rules.
@@ -119,10 +144,10 @@ fn list_accepted(image: &[u8], count: u32) -> bool
 {
     let design = Design::read(image);
     let mut registers = [0u8; REGISTERS];
-    let mut targets = [0u8; Design::STATES];
+    let mut targets = [0u8; TARGETS];
     let r = Design::WORD_LENGTH * design.registers;
-    let s = design.states;
-    print_header() && list_on(image, design, &mut registers[..r], &mut targets[..s], count)
+    let t = Design::TARGET_LENGTH * design.states;
+    print_header() && list_on(image, design, &mut registers[..r], &mut targets[..t], count)
 }
 
 // The listing of an image.

@@ -39,8 +39,8 @@ unfolding line bytesOfText
 line-put number walk values first second third = then-field (spaced values) (10 ∷ []) (then-field (spaced walk) (59 ∷ []) first second) third
 
 -- ---- the line of a cycle
-module _ {image : List ℕ} {x : Design} {table registers targets : List ℕ} {done : ℕ} (at : RunningAt image x table registers targets done) where
-  pub at-running : Running image x table registers targets
+module _ {image : List ℕ} {x : Design} {table inScope registers targets : List ℕ} {done : ℕ} (at : RunningAt image x table inScope registers targets done) where
+  pub at-running : Running image x table inScope registers targets
   at-running = at .running
 
   pub at-states : x .states ≤ 64
@@ -66,10 +66,10 @@ line-shows : (number : ℕ) (c : Cycle) (walk values : List ℕ) → walk ≡ c 
 unfolding line
 line-shows number c walk values e h = rw (e, h)
 
-module _ {image : List ℕ} {x : Design} {table registers₀ targets₀ registers targets before walk : List ℕ} {done n : ℕ}
-    (at : RunningAt image x table registers₀ targets₀ done)
+module _ {image : List ℕ} {x : Design} {table inScope registers₀ targets₀ registers targets before walk : List ℕ} {done n : ℕ}
+    (at : RunningAt image x table inScope registers₀ targets₀ done)
     (cycled : Cycled (cycle (designOf image) (areasIn (designOf image) registers₀ targets₀)) (areasIn (designOf image) registers targets) before walk n)
-    (running : Running image x table registers targets) where
+    (running : Running image x table inScope registers targets) where
   pub line-listed : {out after : List ℕ} {r : ℕ} → Put out 0 (line (done + 1) (shown (take n walk) (wordsOf (x .registers) registers))) after r → Put out 0 (cycleLine (designOf image) done) after r
   unfolding cycleLine
   line-listed put =
@@ -79,7 +79,7 @@ module _ {image : List ℕ} {x : Design} {table registers₀ targets₀ register
       let shows = line-shows (done + 1) c (take n walk) (wordsOf (x .registers) registers) (walk-is cycled) values in
       rw (shows ∙ ap (λ (areas : Areas). line (done + 1) (cycle d areas)) (at .areas)) at put
 
-  pub ran-more : RunningAt image x table registers targets (done + 1)
+  pub ran-more : RunningAt image x table inScope registers targets (done + 1)
   ran-more =
       let d = designOf image in
       record {

@@ -1,29 +1,29 @@
--- The place of a refusal is small: a label, a register, a state or a node of an image that keeps its directory, and a tree has no node above its own number.
+-- The place of a refusal is small: a label, a register, a state or a node of an image that keeps its directory, and a tree has no other nodes.
 use Prim.Native.Nat.{ℕ, zero, suc, min, _+_, _≤_, _<_}
 use mathlib.Core.Path.{_≡_, refl, sym, _∙_, ap}
 use mathlib.Core.Bool.{Bool, true, false, not, Bool·beq}
 use mathlib.Core.List.{List, [], _∷_, _++_}
 use native.Mathlib.Omega.{arith}
-use lib.Dec.{ltb}
-use lib.ListN.{length}
-use borrow.Author.Tests.{ltb-true}
+use native.Mathlib.Decide.{decLt}
+use lib.ListN.{length, List·getD-eq-default}
 use Rattle.model.specs.declared.Found.{Found}
 use Rattle.model.specs.declared.Found.the-variants.{At, Nowhere}
 use Rattle.model.specs.declared.Refusal.{Refusal}
-use Rattle.model.specs.declared.Refusal.the-variants.{Directory, LabelRow, RegisterRecord, StateRecord, NodeRecord, NodeUse, Depth, Shape, ChildLabel, PortAssigned, AssignFlow, GotoFlow, FallFlow}
+use Rattle.model.specs.declared.Refusal.the-variants.{Directory, LabelRow, RegisterRecord, StateRecord, NodeRecord, NodeUse, Depth, Shape, ChildLabel, PortAssigned, Parameter, AssignFlow, GotoFlow, FallFlow}
 use Rattle.model.specs.declared.Answer.{Answer}
 use Rattle.model.specs.declared.Answer.the-variants.{Accepted, Refused}
 use Rattle.model.specs.Limits.{expressionPlace}
-use Rattle.model.specs.Indices.{lower, lowestOf, lowestFailing, joinBelow, upTo, recursively}
-use Rattle.model.specs.Image.{Design as Table, Node, Labels, Registers, States, Commands, Expressions, designOf, directoryKept, stateAt, commandAt}
-use Rattle.model.specs.Kinds.{CommandKind, skips, assigns, sequences, falls, goes, branches, unknownCommand, commandKind}
-use Rattle.model.specs.Trees.{Expr, Cmd, skip, assign, sequence, fall, goto, branch, cmdOfKind, cmdStep, cmdOf, bodyOf, exprOf}
+use Rattle.model.specs.Indices.{lower, lowestOf, lowestFailing, joinBelow}
+use Rattle.model.specs.Image.{Design as Table, Node, noNode, Labels, Registers, States, Commands, Expressions, designOf, directoryKept, stateAt, commandAt, expressionAt}
+use Rattle.model.specs.Kinds.{CommandKind, skips, assigns, sequences, falls, goes, branches, unknownCommand, commandKind, ExpressionKind, constants, reads, operates, unknownExpression, expressionKind}
+use Rattle.model.specs.Trees.{Expr, constant, register, binary, Cmd, skip, assign, sequence, fall, goto, branch, exprOfKind, exprStep, exprOf, cmdOfKind, cmdStep, cmdOf, bodyOf}
 use Rattle.model.specs.Shape.{chargedUnless, transfers, shapeFaults, stateShapeFaults, shapeFault}
-use Rattle.model.specs.Flow.{refusedUnless, flowFaults, stateFlowFaults, firstOf, flowAnswer, labelsRead}
-use Rattle.model.specs.Lattice.{allFlowTo, registerLabel, stateLabel}
+use Rattle.model.specs.Flow.{refusedUnless, labelsRead, assignFlows, gotoFlows, fallFlows, flowFaults, stateFlowFaults, firstOf, flowAnswer}
+use Rattle.model.specs.Lattice.{stateLabel}
 use Rattle.model.specs.States.{stateKept, hasChild, siblingOrSelf}
+use Rattle.model.specs.Scopes.{nameKept, argumentsKept, readFaults, scopeFaults, stateScopeFaults, scopeFault}
 use Rattle.model.specs.Verdict.{_before_, refusedAt, atZeroUnless, commandsFirst, lowestNode, designStructure, structure, verdict}
-use Rattle.model.proofs.Laws.Indices.{failing-none, lowest-failing-below}
+use Rattle.model.proofs.Laws.Indices.{failing-none, lowest-failing-below, recursively-all}
 use Rattle.model.proofs.Laws.Images.{label-count, register-count, state-count, command-count, expression-count}
 use Rattle.model.proofs.Exact.{structure-counts-nothing, structure-exact}
 use Rattle.model.proofs.Exact.Directories.{directory-iff}
@@ -96,99 +96,123 @@ first-of-below b none = placed-accepted b 0
 first-of-below b (one-more l h) = l
 
 -- ---- the nodes of a tree
-abbrev Numbered : ℕ → Cmd → Type 0
-Numbered b (skip n) = n < b
-Numbered b (assign n r e) = n < b
-Numbered b (sequence n p q) = (n < b) × Numbered b p × Numbered b q
-Numbered b (fall n) = n < b
-Numbered b (goto n t) = n < b
-Numbered b (branch n e p q) = (n < b) × Numbered b p × Numbered b q
+-- every register that an expression reads is an expression of the design, and every command that a fault may be charged to is a command of it
+abbrev ReadNumbered : Expr → Type 0
+ReadNumbered (constant v) = Unit {0}
+ReadNumbered (register n r) = n < 2048
+ReadNumbered (binary o p q) = ReadNumbered p × ReadNumbered q
 
-kind-numbered : (b : ℕ) (kind : CommandKind) (n : ℕ) (x : Node) (e : Expr) (p q r : Cmd) → n < b → Numbered b p → Numbered b q → Numbered b r → Numbered b (cmdOfKind kind n x e p q r)
+abbrev Numbered : Cmd → Type 0
+Numbered (skip n) = Unit {0}
+Numbered (assign n r e) = (n < 1024) × ReadNumbered e
+Numbered (sequence n p q) = (n < 1024) × Numbered p × Numbered q
+Numbered (fall n) = n < 1024
+Numbered (goto n t a b) = n < 1024
+Numbered (branch n e p q) = (n < 1024) × ReadNumbered e × Numbered p × Numbered q
+
+expr-kind-numbered : (kind : ExpressionKind) (n : ℕ) (x : Node) (p q : Expr) → n < 2048 → ReadNumbered p → ReadNumbered q → ReadNumbered (exprOfKind kind n x p q)
+unfolding exprOfKind
+expr-kind-numbered constants n x p q l h k = tt
+expr-kind-numbered reads n x p q l h k = l
+expr-kind-numbered (operates o) n x p q l h k = (h, k)
+expr-kind-numbered unknownExpression n x p q l h k = tt
+
+kind-numbered : (kind : CommandKind) (n : ℕ) (x : Node) (e : Expr) (p q r : Cmd) → n < 1024 → ReadNumbered e → Numbered p → Numbered q → Numbered r → Numbered (cmdOfKind kind n x e p q r)
 unfolding cmdOfKind
-kind-numbered b skips n x e p q r l h k m = l
-kind-numbered b assigns n x e p q r l h k m = l
-kind-numbered b sequences n x e p q r l h k m = (l, h, k)
-kind-numbered b falls n x e p q r l h k m = l
-kind-numbered b goes n x e p q r l h k m = l
-kind-numbered b branches n x e p q r l h k m = (l, k, m)
-kind-numbered b unknownCommand n x e p q r l h k m = l
+kind-numbered skips n x e p q r l f h k m = tt
+kind-numbered assigns n x e p q r l f h k m = (l, f)
+kind-numbered sequences n x e p q r l f h k m = (l, h, k)
+kind-numbered falls n x e p q r l f h k m = l
+kind-numbered goes n x e p q r l f h k m = l
+kind-numbered branches n x e p q r l f h k m = (l, f, k, m)
+kind-numbered unknownCommand n x e p q r l f h k m = tt
 
-module _ (d : Table) (b : ℕ) where
-  part-numbered : (n m : ℕ) (part : Cmd) (w : Bool) → ltb m n ≡ w → n < b → (m < b → Numbered b part) → Numbered b (elim w [ true ↦ part | false ↦ skip 0 ])
-  part-numbered n m part true e l h = let below = ltb-true m n e in h (omega arith)
-  part-numbered n m part false e l h = omega arith
+module _ (d : Table) (commands : length (d .commands) ≤ 1024) (expressions : length (d .expressions) ≤ 2048) where
+  -- past the last expression there are constants, and past the last command skips
+  expr-numbered : (n : ℕ) → ReadNumbered (exprOf d n)
+  unfolding exprOf exprStep expressionKind exprOfKind
+  expr-numbered n = recursively-all (constant 0) (exprStep d) ReadNumbered tt (λ m part all. step m part all (decLt m (length (d .expressions)))) n
+    where
+      step : (m : ℕ) (part : ℕ → Expr) → ((k : ℕ) → ReadNumbered (part k)) → Dec (m < length (d .expressions)) → ReadNumbered (exprStep d m part)
+      step m part all (yes l) = expr-kind-numbered (expressionKind (expressionAt d m .kind)) m (expressionAt d m) (part (expressionAt d m .a)) (part (expressionAt d m .b)) (omega arith) (all (expressionAt d m .a)) (all (expressionAt d m .b))
+      step m part all (no l) = rw (List·getD-eq-default (d .expressions) noNode {n = m} (omega arith)) tt
 
-  up-to-numbered : (f n : ℕ) → n < b → Numbered b (upTo (skip 0) (cmdStep d) f n)
-  unfolding upTo cmdStep
-  up-to-numbered zero n l = omega arith
-  up-to-numbered (suc f) n l =
-      let x = commandAt d n in
-      kind-numbered
-      b
-      (commandKind (x .kind))
-      n
-      x
-      (exprOf d (x .a))
-      _
-      _
-      _
-      l
-      (part-numbered n (x .a) (upTo (skip 0) (cmdStep d) f (x .a)) (ltb (x .a) n) refl l (up-to-numbered f (x .a)))
-      (part-numbered n (x .b) (upTo (skip 0) (cmdStep d) f (x .b)) (ltb (x .b) n) refl l (up-to-numbered f (x .b)))
-      (part-numbered n (x .c) (upTo (skip 0) (cmdStep d) f (x .c)) (ltb (x .c) n) refl l (up-to-numbered f (x .c)))
+  cmd-numbered : (n : ℕ) → Numbered (cmdOf d n)
+  unfolding cmdOf cmdStep commandKind cmdOfKind
+  cmd-numbered n = recursively-all (skip 0) (cmdStep d) Numbered tt (λ m part all. step m part all (decLt m (length (d .commands)))) n
+    where
+      step : (m : ℕ) (part : ℕ → Cmd) → ((k : ℕ) → Numbered (part k)) → Dec (m < length (d .commands)) → Numbered (cmdStep d m part)
+      step m part all (yes l) =
+          let x = commandAt d m in
+          kind-numbered (commandKind (x .kind)) m x (exprOf d (x .a)) (part (x .a)) (part (x .b)) (part (x .c)) (omega arith) (expr-numbered (x .a)) (all (x .a)) (all (x .b)) (all (x .c))
+      step m part all (no l) = rw (List·getD-eq-default (d .commands) noNode {n = m} (omega arith)) tt
 
-  cmd-numbered : (n : ℕ) → n < b → Numbered b (cmdOf d n)
-  unfolding cmdOf recursively
-  cmd-numbered n l = up-to-numbered (suc n) n l
+  body-numbered : (s : ℕ) → Numbered (bodyOf d s)
+  unfolding bodyOf
+  body-numbered s = cmd-numbered (stateAt d s .command)
 
   -- ---- the faults of a tree
-  charged-below : (w : Bool) (n : ℕ) → n < b → Each (λ x. x < b) (chargedUnless w n)
+  charged-below : (w : Bool) (n : ℕ) → n < 3072 → Each (λ x. x < 3072) (chargedUnless w n)
   charged-below true n l = none
   charged-below false n l = one-more l none
 
-  shape-below : (s : ℕ) (c : Cmd) → Numbered b c → Each (λ x. x < b) (shapeFaults d s c)
+  command-charged : (w : Bool) (n : ℕ) → n < 1024 → Each (λ x. x < 3072) (chargedUnless w n)
+  command-charged w n l = charged-below w n (omega arith)
+
+  shape-below : (s : ℕ) (c : Cmd) → Numbered c → Each (λ x. x < 3072) (shapeFaults d s c)
   unfolding shapeFaults
   shape-below s (skip n) h = none
   shape-below s (assign n r e) h = none
-  shape-below s (sequence n p q) h = each-append (charged-below (not (transfers p)) n (h .0)) (each-append (shape-below s p (h .1)) (shape-below s q (h .2)))
-  shape-below s (fall n) h = charged-below (hasChild d s) n h
-  shape-below s (goto n t) h = charged-below (siblingOrSelf d s t) n h
-  shape-below s (branch n e p q) h = each-append (charged-below (Bool·beq (transfers p) (transfers q)) n (h .0)) (each-append (shape-below s p (h .1)) (shape-below s q (h .2)))
+  shape-below s (sequence n p q) h = each-append (command-charged (not (transfers p)) n (h .0)) (each-append (shape-below s p (h .1)) (shape-below s q (h .2)))
+  shape-below s (fall n) h = command-charged (hasChild d s) n h
+  shape-below s (goto n t a b) h = command-charged (siblingOrSelf d s t) n h
+  shape-below s (branch n e p q) h = each-append (command-charged (Bool·beq (transfers p) (transfers q)) n (h .0)) (each-append (shape-below s p (h .2)) (shape-below s q (h .3)))
 
-  unless-below : (w : Bool) (r : Refusal) (n : ℕ) → n < b → Each (PlacedBelow b) (refusedUnless w r n)
+  read-below : (s : ℕ) (e : Expr) → ReadNumbered e → Each (λ x. x < 3072) (readFaults d s e)
+  unfolding readFaults
+  read-below s (constant v) h = none
+  read-below s (register n r) h = charged-below (nameKept d s r) (expressionPlace + n) (omega arith)
+  read-below s (binary o p q) h = each-append (read-below s p (h .0)) (read-below s q (h .1))
+
+  scope-below : (s : ℕ) (c : Cmd) → Numbered c → Each (λ x. x < 3072) (scopeFaults d s c)
+  unfolding scopeFaults
+  scope-below s (skip n) h = none
+  scope-below s (assign n r e) h = each-append (command-charged (nameKept d s r) n (h .0)) (read-below s e (h .1))
+  scope-below s (sequence n p q) h = each-append (scope-below s p (h .1)) (scope-below s q (h .2))
+  scope-below s (fall n) h = none
+  scope-below s (goto n t a b) h = command-charged (argumentsKept d s t a b) n h
+  scope-below s (branch n e p q) h = each-append (read-below s e (h .1)) (each-append (scope-below s p (h .2)) (scope-below s q (h .3)))
+
+  unless-below : (w : Bool) (r : Refusal) (n : ℕ) → n < 1024 → Each (PlacedBelow 3072) (refusedUnless w r n)
   unless-below true r n l = none
-  unless-below false r n l = one-more (placed-refused b r n l) none
+  unless-below false r n l = one-more (placed-refused 3072 r n (omega arith)) none
 
-  flow-below : (s : ℕ) (context : List ℕ) (c : Cmd) → Numbered b c → Each (PlacedBelow b) (flowFaults d s context c)
+  flow-below : (s : ℕ) (context : List ℕ) (c : Cmd) → Numbered c → Each (PlacedBelow 3072) (flowFaults d s context c)
   unfolding flowFaults
   flow-below s context (skip n) h = none
-  flow-below s context (assign n r e) h = unless-below (allFlowTo (d .rows) (context ++ labelsRead d e) (registerLabel d r)) AssignFlow n h
+  flow-below s context (assign n r e) h = unless-below (assignFlows d s context r e) AssignFlow n (h .0)
   flow-below s context (sequence n p q) h = each-append (flow-below s context p (h .1)) (flow-below s context q (h .2))
-  flow-below s context (fall n) h = unless-below (allFlowTo (d .rows) context (stateLabel d s)) FallFlow n h
-  flow-below s context (goto n t) h = unless-below (allFlowTo (d .rows) context (stateLabel d t)) GotoFlow n h
-  flow-below s context (branch n e p q) h = each-append (flow-below s (context ++ labelsRead d e) p (h .1)) (flow-below s (context ++ labelsRead d e) q (h .2))
+  flow-below s context (fall n) h = unless-below (fallFlows d s context) FallFlow n h
+  flow-below s context (goto n t a b) h = unless-below (gotoFlows d s context t a b) GotoFlow n h
+  flow-below s context (branch n e p q) h = each-append (flow-below s (context ++ labelsRead d e) p (h .2)) (flow-below s (context ++ labelsRead d e) q (h .3))
 
-  module _ (commands : (s : ℕ) → s < length (d .states) → stateAt d s .command < b) where
-    shape-fault-below : FoundBelow b (shapeFault d)
-    unfolding shapeFault stateShapeFaults bodyOf
-    shape-fault-below =
-        lowest-below
-        b
-        (each-join
-        (stateShapeFaults d)
-        (length (d .states))
-        (λ s l. each-append (charged-below (transfers (bodyOf d s)) (stateAt d s .command) (commands s l)) (shape-below s (bodyOf d s) (cmd-numbered (stateAt d s .command) (commands s l)))))
+  shape-fault-below : ((s : ℕ) → s < length (d .states) → stateAt d s .command < 1024) → FoundBelow 3072 (shapeFault d)
+  unfolding shapeFault stateShapeFaults
+  shape-fault-below bodies =
+      lowest-below
+      3072
+      (each-join
+      (stateShapeFaults d)
+      (length (d .states))
+      (λ s l. each-append (command-charged (transfers (bodyOf d s)) (stateAt d s .command) (bodies s l)) (shape-below s (bodyOf d s) (body-numbered s))))
 
-    flow-answer-below : PlacedBelow b (flowAnswer d)
-    unfolding flowAnswer stateFlowFaults bodyOf
-    flow-answer-below =
-        first-of-below
-        b
-        (each-join
-        (stateFlowFaults d)
-        (length (d .states))
-        (λ s l. flow-below s (stateLabel d s ∷ []) (bodyOf d s) (cmd-numbered (stateAt d s .command) (commands s l))))
+  scope-fault-below : FoundBelow 3072 (scopeFault d)
+  unfolding scopeFault stateScopeFaults
+  scope-fault-below = lowest-below 3072 (each-join (stateScopeFaults d) (length (d .states)) (λ s l. scope-below s (bodyOf d s) (body-numbered s)))
+
+  flow-answer-below : PlacedBelow 3072 (flowAnswer d)
+  unfolding flowAnswer stateFlowFaults
+  flow-answer-below = first-of-below 3072 (each-join (stateFlowFaults d) (length (d .states)) (λ s l. flow-below s (stateLabel d s ∷ []) (bodyOf d s) (body-numbered s)))
 
 -- ---- the stages
 failing-below : (rule : ℕ → Bool) (n b : ℕ) → n ≤ b → FoundBelow b (lowestFailing rule n)
@@ -209,7 +233,7 @@ module _ (d : Table) (rows : length (d .rows) ≤ 3072) (registers : length (d .
       (failing-below command (length (d .commands)) 1024 commands)
       (failing-below expression (length (d .expressions)) 2048 expressions)
 
-  command-below : lowestFailing (stateKept d) (length (d .states)) ≡ Nowhere → (s : ℕ) → s < length (d .states) → stateAt d s .command < 3072
+  command-below : lowestFailing (stateKept d) (length (d .states)) ≡ Nowhere → (s : ℕ) → s < length (d .states) → stateAt d s .command < 1024
   command-below e s l =
       let below = state-iff d s .0 (failing-none (stateKept d) (length (d .states)) e s l) .command in
       omega arith
@@ -223,9 +247,11 @@ module _ (d : Table) (rows : length (d .rows) ≤ 3072) (registers : length (d .
       (λ e3. placed-before 3072 NodeRecord _ _ (node-below _ _)
       (λ e4. placed-before 3072 NodeUse _ _ (node-below _ _)
       (λ e5. placed-before 3072 Depth _ _ (node-below _ _)
-      (λ e6. placed-before 3072 Shape _ _ (shape-fault-below d 3072 (command-below e3))
+      (λ e6. placed-before 3072 Shape _ _ (shape-fault-below d commands expressions (command-below e3))
       (λ e7. placed-before 3072 PortAssigned _ _ (failing-below _ (length (d .commands)) 3072 (omega arith))
-      (λ e8. placed-searched 3072 ChildLabel _ (failing-below _ (length (d .states)) 3072 states)))))))))
+      (λ e8. placed-before 3072 Parameter _ _ (failing-below _ (length (d .states)) 3072 states)
+      (λ e9. placed-before 3072 Parameter _ _ (scope-fault-below d commands expressions)
+      (λ e10. placed-searched 3072 ChildLabel _ (failing-below _ (length (d .states)) 3072 states)))))))))))
 
 zero-below : (w : Bool) → FoundBelow 3072 (atZeroUnless w)
 zero-below true = found-nowhere 3072
@@ -267,7 +293,8 @@ unfolding verdict
 verdict-below image = placed-both 3072 (structure image) (flowAnswer (designOf image)) (structure-below image) (λ n e.
     let accepted = structure-exact image .0 (e ∙ ap Accepted (structure-counts-nothing image n e)) in
     let commands = command-count image in
-    flow-answer-below (designOf image) 3072 (λ s l. let below = accepted .1 .states s l .command in omega (arith, accepted .0 .sections Commands)))
+    let expressions = expression-count image in
+    flow-answer-below (designOf image) (omega (arith, accepted .0 .sections Commands)) (omega (arith, accepted .0 .sections Expressions)))
 
 pub place-small : (image : List ℕ) {a : Answer} {r : Refusal} {p : ℕ} → a ≡ verdict image → a ≡ Refused r p → p < 3072
 place-small image {r = r} {p = p} e h = verdict-below image r p (sym e ∙ h)

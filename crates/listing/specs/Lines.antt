@@ -14,9 +14,9 @@ cycleLine d done = line (done + 1) (cycle d (afterCycles d done (resetAreas d)))
 
 -- a cycle of which only the walk and the values of the registers are known
 abbrev pub shown : List ℕ → List ℕ → Cycle
-shown walk values = record { after = record { registers = values; targets = [] }; walk = walk }
+shown walk values = record { after = record { registers = values; targets = []; bindings = [] }; walk = walk; ranWith = [] }
 
 -- so many cycles from reset have run
-pub record RunningAt (image : List ℕ) (x : Design) (table registers targets : List ℕ) (done : ℕ) : Type 0 where
+pub record RunningAt (image : List ℕ) (x : Design) (table inScope registers targets : List ℕ) (done : ℕ) : Type 0 where
   pub areas : areasIn (designOf image) registers targets ≡ afterCycles (designOf image) done (resetAreas (designOf image))
-  pub running : Running image x table registers targets
+  pub running : Running image x table inScope registers targets

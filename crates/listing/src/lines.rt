@@ -62,17 +62,26 @@ pub fn next_line(
     image: &[u8],
     design: Design,
     defaults: &[u8],
+    scopes: &[u8],
     registers: &mut [u8],
     targets: &mut [u8],
     done: u32,
     out: &mut [u8],
 ) -> usize
-    requires { ⌜ (1421 ≤ length (now out)) × (done + 1 < 4294967296) × RunningAt (now image) design (now defaults) (now registers) (now targets) done ⌝ }
+    requires { ⌜ (1421 ≤ length (now out)) × (done + 1 < 4294967296) × RunningAt (now image) design (now defaults) (now scopes) (now registers) (now targets) done ⌝ }
     ensures { λ r. ⌜ Put (now (out .entry)) 0 (cycleLine (designOf (now (image .entry))) done) (now (out .exit)) r ⌝ }
-    ensures { λ r. ⌜ RunningAt (now (image .entry)) design (now (defaults .entry)) (now (registers .exit)) (now (targets .exit)) (done + 1) ⌝ }
+    ensures { λ r. ⌜ RunningAt (now (image .entry)) design (now (defaults .entry)) (now (scopes .entry)) (now (registers .exit)) (now (targets .exit)) (done + 1) ⌝ }
     ensures { λ r. ⌜ r ≤ 1421 ⌝ }
 {
     let mut walk = [0u8; Design::STATES];
-    let states = cycle(image, design, defaults, registers, targets, &mut walk);
+    let states = cycle(
+        image,
+        design,
+        defaults,
+        scopes,
+        registers,
+        targets,
+        &mut walk,
+    );
     line(out, done + 1, &walk, states, registers, design.registers)
 }

@@ -1,6 +1,5 @@
 use lib.Seq.{length-take-le}
-use Rattle.design.proofs.ResetRules.{states-few}
-use Rattle.lister.proofs.Buffers.{part-length, registers-fit}
+use Rattle.lister.proofs.Buffers.{part-length, registers-fit, targets-fit}
 use borrow.Author.Needs.{needs}
 use Rattle.lister.proofs.list_accepted.Statement.{statement}
 use Rattle.lister.proofs.list_accepted.Tie as tie
@@ -10,6 +9,9 @@ read-requires c κs = search needs
 
 mul-r : tie.Need-mul-r
 mul-r c = search needs
+
+mul-t : tie.Need-mul-t
+mul-t c = search needs
 
 print-header-requires : tie.Need-print-header-requires
 print-header-requires c κs = search needs
@@ -21,13 +23,13 @@ slice-aggregate-list-on : tie.Need-slice-aggregate-list-on
 slice-aggregate-list-on c = part-length _ _ (search (registers-fit, needs))
 
 array-borrow-prefix-targets : tie.Need-array-borrow-prefix-targets
-array-borrow-prefix-targets c = search (states-few, needs)
+array-borrow-prefix-targets c = search (targets-fit, needs)
 
 slice-aggregate-list-on-2 : tie.Need-slice-aggregate-list-on-2
-slice-aggregate-list-on-2 c = part-length _ _ (search (states-few, needs))
+slice-aggregate-list-on-2 c = part-length _ _ (search (targets-fit, needs))
 
 list-on-requires : tie.Need-list-on-requires
-list-on-requires c κs = (length-take-le _ _ (search (registers-fit, needs)), length-take-le _ _ (search (states-few, needs)), search needs, search needs)
+list-on-requires c κs = (length-take-le _ _ (search (registers-fit, needs)), length-take-le _ _ (search (targets-fit, needs)), search needs, search needs)
 
 returns : tie.Need-returns
 returns c = search needs
@@ -41,6 +43,7 @@ list-accepted-spec =
     (tie.spec
     read-requires
     mul-r
+    mul-t
     print-header-requires
     array-borrow-prefix-registers
     slice-aggregate-list-on

@@ -1,4 +1,5 @@
 use Rattle.design.proofs.ResetRules.{states-few}
+use Rattle.lister.proofs.Buffers.{targets-fit}
 use Rattle.lister.proofs.ListRules.{area-same, targets-same}
 use borrow.Author.Needs.{needs}
 use Rattle.lister.proofs.list_on.Statement.{statement}
@@ -7,11 +8,17 @@ use Rattle.lister.proofs.list_on.Tie as tie
 slice-aggregate-start : tie.Need-slice-aggregate-start
 slice-aggregate-start c = search needs
 
+slice-aggregate-start-2 : tie.Need-slice-aggregate-start-2
+slice-aggregate-start-2 c = search needs
+
 start-requires : tie.Need-start-requires
-start-requires c κs = (search needs, search needs, search (states-few, needs), search needs, search needs)
+start-requires c κs = (search needs, search needs, search (states-few, needs), search (targets-fit, needs), search needs, search needs)
 
 slice-aggregate-print-cycles : tie.Need-slice-aggregate-print-cycles
 slice-aggregate-print-cycles c = search needs
+
+slice-aggregate-print-cycles-2 : tie.Need-slice-aggregate-print-cycles-2
+slice-aggregate-print-cycles-2 c = search needs
 
 print-cycles-requires : tie.Need-print-cycles-requires
 print-cycles-requires c κs = search needs
@@ -30,8 +37,10 @@ list-on-spec =
     tie.close
     (tie.spec
     slice-aggregate-start
+    slice-aggregate-start-2
     start-requires
     slice-aggregate-print-cycles
+    slice-aggregate-print-cycles-2
     print-cycles-requires
     same-length
     same-length-2

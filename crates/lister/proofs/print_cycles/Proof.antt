@@ -5,10 +5,10 @@ use Rattle.lister.proofs.print_cycles.Statement.{statement}
 use Rattle.lister.proofs.print_cycles.Tie as tie
 
 abbrev Inv-loop : tie.InvT-loop
-Inv-loop image design defaults registers₀ targets₀ count i₀ registers targets i = ListSo image design defaults count registers₀ targets₀ i registers targets
+Inv-loop image design defaults scopes registers₀ targets₀ count i₀ registers targets i = ListSo image design defaults scopes count registers₀ targets₀ i registers targets
 
 abbrev μ-loop : tie.MeasureT-loop
-μ-loop image design defaults registers₀ targets₀ count i₀ registers targets i = count - i
+μ-loop image design defaults scopes registers₀ targets₀ count i₀ registers targets i = count - i
 
 loop-holds : tie.Need-loop-holds Inv-loop μ-loop
 loop-holds c = search (list-begins, needs)
