@@ -12,10 +12,10 @@
  *
  * Every call answers a caisson_answer. `number` is 0 on acceptance, else the refusal's number, one of
  * the caisson_refusal values below: of those that apply, the one judged first. Every call begins with
- * the image checks, in this order: 1 to 8, then 16, then 9, then 10 to 12 in one pass in reading order:
- * state by state from number 0 on, and in each the commands as they are written, an if's first branch
- * before its second. caisson_raise alone leaves out 10 to 12, the flow, which it is there to put right.
- * What a call judges after them stands at the call. `place` says where:
+ * the image checks, in this order: 1 to 8, then 16, then 19, then 9, then 10 to 12 in one pass in reading
+ * order: state by state from number 0 on, and in each the commands as they are written, an if's first
+ * branch before its second. caisson_raise alone leaves out 10 to 12, the flow, which it is there to put
+ * right. What a call judges after them stands at the call. `place` says where:
  *
  *   a label, register or state   its number, from 0
  *   a command                    its node number, from 0
@@ -23,20 +23,39 @@
  *   nothing of these             0
  *
  * It is the lowest that breaks the rule; of 10 to 12 it is the first in reading order that breaks one
- * of them, whatever its number. Whether that of 14 is a register or a state, its words below say.
+ * of them, whatever its number. Whether that of 14 is a register or a state, its words below say. That of
+ * 19 is a state where the record of one breaks the rule, else a node.
  * `count` is the cycles that were run or the length that was asked for, and 0 on every refusal. A
  * refusal changes no byte of the areas, nor of the one that caisson_raise writes.
  *
  * The state of a design is two areas that the host owns and lends to each call: registers,
- * CAISSON_WORD bytes each, least significant byte first, and targets, one byte for each state. Their
- * lengths are those that caisson_registers_length and caisson_targets_length answer, neither more nor
- * less. An area of length 0 may be NULL. The host may read the registers between calls.
+ * CAISSON_WORD bytes each, least significant byte first; and targets, one byte for each state, with
+ * CAISSON_PARAMETERS bytes for each state behind them, in the order of the states: the registers that are
+ * bound to its own parameters, the first one first. Their lengths are those that caisson_registers_length
+ * and caisson_targets_length answer, neither more nor less. An area of length 0 may be NULL. The host may
+ * read both between calls.
+ *
+ * A state may have parameters, at most CAISSON_PARAMETERS in scope along a line from the root: those of the
+ * states above it, then its own, numbered from 0. Each has a lower and an upper label and stands for an
+ * inner register whose label lies between them. In a body it is read and assigned as that register is, and
+ * a value assigned to it is cut to that register's width. The label of a state may be a parameter's: then
+ * it is the label of the register bound. A goto names a register, or a parameter that is in scope where it
+ * stands, for each parameter of the state that it goes to; all of them are read before any is bound. Ports
+ * are never bound, and the root and default children have no parameters. A body is accepted if it keeps
+ * every rule for each choice of labels within the bounds in scope. Bindings are 0 at a reset, and nothing
+ * but the arguments of a goto sets them: a goto leaves those of all other states as they are, and the second
+ * byte of a state that has one parameter.
+ *
+ * What a party sees of a cycle are the values of the registers at or below its level after it, and the
+ * states that ran and lie at or below the level, each with the numbers, not the contents, of the registers
+ * bound to its own parameters as it ran. A state whose label is a parameter's is seen by the label that its
+ * binding gave it then.
  *
  * The parties are kept apart from a reset on, while nothing but caisson_reset, caisson_write_port and
  * caisson_run changes the areas. So a host never restores them, be it from a saved copy, a file or
- * another box. A run refuses targets that are not sound and no others: targets that are sound, but that
- * no run from reset comes to, can show a low party a high register. After a power failure, and whenever
- * anything else may have written an area, the host resets. No call goes back to an earlier cycle.
+ * another box. A run refuses targets and bindings that are not sound and no others: some that are sound,
+ * but that no run from reset comes to, can show a low party a high register. After a power failure, and
+ * whenever anything else may have written an area, the host resets. No call goes back to an earlier cycle.
  *
  * Each register has a width of 1 to CAISSON_WIDTH bits and holds values below 2 to the power of it. In
  * the area it takes CAISSON_WORD bytes all the same, with zeros above its width. An assignment stores
@@ -62,8 +81,8 @@ extern "C" {
 
 /* The version of the library and the number of the image's format. CHANGELOG.md says when each moves;
    docs/FORMAT.md has the format byte by byte. */
-#define CAISSON_VERSION "2.5.0"
-#define CAISSON_FORMAT 2
+#define CAISSON_VERSION "3.0.0"
+#define CAISSON_FORMAT 3
 
 /* Limits of a design table. */
 #define CAISSON_LABELS 16u        /* most labels; at least 1 */
@@ -73,14 +92,23 @@ extern "C" {
 #define CAISSON_EXPRESSIONS 2048u /* most expressions */
 #define CAISSON_DEPTH 64u         /* how deep commands and expressions nest */
 #define CAISSON_WIDTH 32u         /* most bits of a register; at least 1 */
+#define CAISSON_PARAMETERS 2u     /* most parameters of a state, and in scope along a line from the root */
 
 /* Lengths in bytes: of the directory, of each record, of the largest image. */
 #define CAISSON_DIRECTORY_LENGTH 20u
 #define CAISSON_LABEL_LENGTH 2u
 #define CAISSON_REGISTER_LENGTH 7u
-#define CAISSON_STATE_LENGTH 4u
+#define CAISSON_STATE_LENGTH 9u
 #define CAISSON_NODE_LENGTH 8u /* a command or an expression */
-#define CAISSON_LARGEST_IMAGE 25332u
+#define CAISSON_LARGEST_IMAGE 25652u
+
+/* Bytes of the target area for each state: its target, and a binding for each parameter. */
+#define CAISSON_TARGET_LENGTH 3u
+
+/* The byte that names parameter 0 in the place of a register, and of a state's label; the next one names
+   parameter 1. */
+#define CAISSON_PARAMETER_REGISTER 64u
+#define CAISSON_PARAMETER_LABEL 16u
 
 #define CAISSON_EXPRESSION_PLACE 1024u /* an expression's place is this plus its number */
 #define CAISSON_WORD 4u                /* bytes of a register in its area */
@@ -102,7 +130,7 @@ extern "C" {
 #define CAISSON_TRUSTED 0u    /* the marks of a wire */
 #define CAISSON_UNTRUSTED 1u
 
-/* What is wrong, and where `place` points. 1 to 12 and 16 are about the image: they are the image
+/* What is wrong, and where `place` points. 1 to 12, 16 and 19 are about the image: they are the image
    checks. 25 and 26 are about gate tables. caisson_refusals.def has the same words for a program to
    show. */
 enum caisson_refusal {
@@ -122,13 +150,16 @@ enum caisson_refusal {
        register of width w holds values below 2 to the power of w. Place: the register. */
     CAISSON_REGISTER_RECORD = 3,
     /* A state has a parent, a label or a command number that it cannot have. State 0 is the root,
-       with parent 0 and label 0; any other parent has a lower number than its child. The label is
-       one that the design has, and the command number that of a command. Place: the state. */
+       with parent 0 and label 0; any other parent has a lower number than its child. The label byte
+       is a label that the design has, or 16 or 17, a parameter's, which 19 judges, in the root too.
+       The command number is that of a command. Count and bounds of parameters are judged by 19.
+       Place: the state. */
     CAISSON_STATE_RECORD = 4,
     /* A node has an unknown kind, a byte set that its kind does not use, or the number of a part,
        register or state that it cannot have. The numbers are of parts, registers and states that
-       the design has, and a part of the same family has a lower number than its owner. Place: the
-       node. */
+       the design has, and a part of the same family has a lower number than its owner. A register
+       byte may also be 64 or 65, a parameter; whether it is in scope is judged by 19, and so are
+       fields a and b of a goto, its arguments. Field c of a goto is 0. Place: the node. */
     CAISSON_NODE_RECORD = 5,
     /* A node is not used exactly once, by a state or as one part of another node. Place: the
        node. */
@@ -144,38 +175,49 @@ enum caisson_refusal {
     CAISSON_SHAPE = 8,
     /* The label of the default child of a state that holds a fall is not at or above that state's
        label. A state holds a fall where one stands anywhere in its body. The default child is the
-       lowest-numbered child. All other children may have any label. Place: the child. */
+       lowest-numbered child. All other children may have any label. Where a label is a parameter's,
+       it is so for each choice of a label within the bounds. Place: the child. */
     CAISSON_CHILD_LABEL = 9,
     /* The context of an assignment, or a register that it reads, does not flow to the label of the
        register written. The context is the state's label and the labels of all registers read in
-       the conditions of the ifs around. Place: the node. */
+       the conditions of the ifs around. A parameter has the label of the register bound to it, and
+       the flow holds for each choice of labels within the bounds of the parameters in scope. Place:
+       the node. */
     CAISSON_ASSIGN_FLOW = 10,
     /* The context of a goto does not flow to the label of the state that it names. The context is
-       the state's label and the labels of all registers read in the conditions of the ifs around.
-       Place: the node. */
+       the state's label and the labels of all registers read in the conditions of the ifs around. A
+       parameter has the label of the register bound to it, and the flow holds for each choice of
+       labels within the bounds of the parameters in scope. Where the label of the state named is
+       its own parameter's, it is the label of the argument. Place: the node. */
     CAISSON_GOTO_FLOW = 11,
     /* The context of a fall does not flow to the label of its own state. The context is the state's
-       label and the labels of all registers read in the conditions of the ifs around. Place: the
-       node. */
+       label and the labels of all registers read in the conditions of the ifs around. A parameter
+       has the label of the register bound to it, and the flow holds for each choice of labels
+       within the bounds of the parameters in scope. Place: the node. */
     CAISSON_FALL_FLOW = 12,
     /* A port write names a register that does not exist or that is inner. It is judged after 14.
        Place: the register number given. */
     CAISSON_NO_PORT = 13,
     /* An area has the wrong length, a register holds a value that is too large for its width, or a
-       run finds a target that is not sound. They are judged in this order: lengths by every call
-       that takes an area, values by a port write and a run, targets by a run. So where the lengths
-       are right, the place is a register if some register holds a value too large, and a state if
-       none does. The target of a state with children is one of its children, that of any other
-       state is its own number. The area for a raised image is exactly as long as the image. A gate
+       run finds a target or a binding that is not sound. They are judged in this order: lengths by
+       every call that takes an area, values by a port write and a run, targets and then bindings by
+       a run. So where the lengths are right, the place is a register if some register holds a value
+       too large, and a state if none does. The target of a state with children is one of its
+       children, that of any other state is its own number. A binding byte is 0 or the number of a
+       register. Of the states along the current targets, from the root to a state without children,
+       each parameter is bound to a register that the design has, that is no port and whose label
+       lies within the bounds. The area for a raised image is exactly as long as the image. A gate
        table is lent one byte for each input and two for each flip-flop; only their lengths are
        judged by 14. Place: 0 for a length; the lowest register for a value; the lowest state for a
-       target. */
+       target or a binding. */
     CAISSON_AREA = 14,
     /* A run asks for more than 1,000,000 cycles. Place: 0. */
     CAISSON_CYCLE_COUNT = 15,
-    /* An assignment names a port. Ports belong to the host: only a reset and a port write change
-       them. Any expression may read them. It is judged after 8 and before 9. Place: the
-       assignment. */
+    /* An assignment names a port, or a goto has a port as an argument. Ports belong to the host:
+       only a reset and a port write change them. Any expression may read them. The arguments of a
+       goto are its fields a and b, as many of them as the count of the state named says, and both
+       where it is above 2. It is judged after 8 and before 19 and 9. Place: the assignment or the
+       goto. */
     CAISSON_PORT_ASSIGNED = 16,
     /* A port write has a value that is too large for the width of its port. A port of width w takes
        values below 2 to the power of w. It is judged after 14 and 13. Place: the register number
@@ -183,8 +225,22 @@ enum caisson_refusal {
     CAISSON_PORT_VALUE = 17,
     /* No raising of the image is accepted. A raising is the same image with labels of inner
        registers raised, never lowered; the labels of ports and states are fixed. It is judged after
-       the image checks up to 9, 16 included, and after 14. Place: 0. */
+       the image checks up to 9, 16 and 19 included, and after 20 and 14. Place: 0. */
     CAISSON_NO_RAISING = 18,
+    /* A parameter count, bound, scope or argument is wrong. A state has at most two parameters, and
+       at most two are in scope along a line from the root: of a state its own and those of all
+       states above it, its own last, numbered 0 and 1. The root and default children have none.
+       Each has a lower and an upper label, and the lower flows to the upper; the bytes of an unused
+       pair are 0. The label bytes 16 and 17 and the register bytes 64 and 65 name the parameters 0
+       and 1, which are in scope of the state. A goto has as many arguments as the state that it
+       names has parameters, and an unused field is 0. An argument is a register whose label lies
+       within the bounds that it is given to, or 64 or 65, a parameter in scope that lies within
+       them for its every choice. It is judged after 16 and before 9, the records of states before
+       the nodes. Place: the lowest state, else the lowest node. */
+    CAISSON_PARAMETER = 19,
+    /* An image to be raised has a state with parameters. Raising is for designs without parameters.
+       It is judged after the image checks up to 9, 16 and 19 included, and before 14. Place: 0. */
+    CAISSON_RAISE_PARAMETERS = 20,
     /* The directory of a gate table, a count of records or the length of a section is wrong. The
        directory is three pairs of 16-bit offset and length, sorted: the first offset is 12, each
        later one the sum of the pair before it, and the last section ends at the table's end. The
@@ -214,7 +270,7 @@ typedef struct {
 #endif
 
 /*
- * Accepts an image exactly when it keeps the rules 1 to 12 and 16, or refuses it. Whatever the bytes
+ * Accepts an image exactly when it keeps the rules 1 to 12, 16 and 19, or refuses it. Whatever the bytes
  * and the length, the answer is defined. Each pass looks at each record a fixed number of times,
  * within the limits above. Refusals: the image checks.
  */
@@ -232,8 +288,9 @@ caisson_answer caisson_registers_length(const uint8_t *image, /* the image's byt
                                         size_t image_len);    /* how many there are */
 
 /*
- * Answers the length in bytes of the target area as `count`: one for each state of the image, so at
- * least 1 and never more than CAISSON_STATES. Refusals: the image checks, as from caisson_check.
+ * Answers the length in bytes of the target area as `count`: CAISSON_TARGET_LENGTH for each state of the
+ * image, whether or not it has parameters, so at least CAISSON_TARGET_LENGTH and never more than
+ * CAISSON_STATES * CAISSON_TARGET_LENGTH. Refusals: the image checks, as from caisson_check.
  */
 CAISSON_LOOK_AT_ANSWER
 caisson_answer caisson_targets_length(const uint8_t *image, /* the image's bytes */
@@ -241,8 +298,8 @@ caisson_answer caisson_targets_length(const uint8_t *image, /* the image's bytes
 
 /*
  * Writes each register's reset value and each state's default target: its lowest-numbered child, or
- * its own number where it has none. What the areas held before does not matter. Afterwards every
- * register is within its width. Refusals: the image checks, then 14 for a length.
+ * its own number where it has none; and 0 for every binding. What the areas held before does not matter.
+ * Afterwards every register is within its width. Refusals: the image checks, then 14 for a length.
  */
 CAISSON_LOOK_AT_ANSWER
 caisson_answer caisson_reset(const uint8_t *image, size_t image_len,
@@ -269,7 +326,7 @@ caisson_answer caisson_write_port(const uint8_t *image, size_t image_len,
  * starts from. A run, of however many cycles, leaves every port as it was and every register within
  * its width. A run of 0 changes nothing, and judges the same. The image is judged once for all cycles
  * of a run. Refusals: the image checks, then 14 for a length, 14 for a value too large, 14 for an
- * unsound target, then 15.
+ * unsound target, 14 for an unsound binding, then 15.
  */
 CAISSON_LOOK_AT_ANSWER
 caisson_answer caisson_run(const uint8_t *image, size_t image_len,
@@ -288,13 +345,14 @@ caisson_answer caisson_run(const uint8_t *image, size_t image_len,
  * raising the result again changes nothing more. 18 is answered exactly if no accepted raising exists:
  * then the design itself, or a label of a port or a state, has to change.
  *
- * The image may break 10 to 12, the flow; everything else it must keep. `out` is exactly as long as the
+ * The image may break 10 to 12, the flow; everything else it must keep, and no state of it has parameters:
+ * 20 refuses any other, whether or not its labels would have to rise. `out` is exactly as long as the
  * image and does not overlap it. What it held before does not matter: on acceptance every byte of it is
  * written, on a refusal none. The call goes over the bodies at most CAISSON_REGISTERS * CAISSON_LABELS =
  * 1,024 times, again only where some label has risen, which on most designs is a few times. It takes
  * about as much stack as caisson_check, measured: 7,160 bytes on the lease design and 28,968 on the
- * deepest one. Refusals: the image checks 1 to 8, 16 and 9, then 14 for the length of `out`, then
- * 18, both with place 0.
+ * deepest one. Refusals: the image checks 1 to 8, 16, 19 and 9, then 20, then 14 for the length of `out`,
+ * then 18, all three with place 0.
  */
 CAISSON_LOOK_AT_ANSWER
 caisson_answer caisson_raise(const uint8_t *image, size_t image_len, /* the image to raise */
