@@ -1,6 +1,6 @@
 //! caisson: designs as source text, for the table format of document 01; and gate tables, of document 02.
 
-use caisson_tools::old::{self, Form};
+use caisson_tools::old;
 use caisson_tools::raise::{raise_table, raise_text};
 use caisson_tools::{assemble, assemble_placed, explain, gates, library, print, read};
 use std::io::Write;
@@ -71,8 +71,8 @@ fn print_file(table: &str) -> Result<ExitCode, String> {
         show(&gates::print(&records))?;
         return Ok(ExitCode::SUCCESS);
     }
-    if old::form(&image) == Form::Old {
-        return Err(format!("{table}: {}", old::ADVICE));
+    if let Some(advice) = old::advice(&image) {
+        return Err(format!("{table}: {advice}"));
     }
     let records = read(&image).map_err(|why| no_records(table, &why))?;
     show(&print(&records))?;

@@ -3,6 +3,8 @@
 mod children;
 mod flow;
 mod lattice;
+mod level;
+mod parameters;
 pub(crate) mod place;
 mod ports;
 mod registers;
@@ -13,23 +15,25 @@ mod uses;
 
 use crate::library::Answer;
 use crate::positions::Positions;
-use crate::table::old::{self, Form};
+use crate::table::old;
+use crate::table::read::read;
 
 /// The verdict on a table.
 pub fn explain(image: &[u8], answer: Answer) -> String {
     let words = verdict(image, answer);
-    match old::form(image) {
-        Form::Old => format!("{words}\nIt {}.\n", old::ADVICE),
-        _ => words,
+    match old::advice(image) {
+        Some(advice) => format!("{words}\nIt {advice}.\n"),
+        None => words,
     }
 }
 
 /// The verdict on the table of a text, with the line of the text that has what stands at the place.
 pub fn explain_text(text: &str, image: &[u8], positions: &Positions, answer: Answer) -> String {
     let words = verdict(image, answer);
-    match rules::place(answer.number, answer.place) {
-        Some(place) => format!("{words}\n{}", source::line(text, positions.at(place))),
-        None => words,
+    let place = read(image).map(|table| rules::place(&table, answer.number, answer.place));
+    match place {
+        Ok(Some(place)) => format!("{words}\n{}", source::line(text, positions.at(place))),
+        _ => words,
     }
 }
 

@@ -1,6 +1,6 @@
 //! What stands at the place of a refusal, in source form.
 
-use super::{children, flow, lattice, ports, registers, rules, shape, uses};
+use super::{children, flow, lattice, parameters, ports, registers, rules, shape, uses};
 use crate::print::body::{self, Reader};
 use crate::print::{layout, records};
 use crate::table::place::Place;
@@ -13,11 +13,16 @@ pub fn describe(image: &[u8], number: u32, place: usize) -> String {
         Ok(table) => table,
         Err(why) => return directory(image, &why),
     };
-    match rules::place(number, place) {
+    match rules::place(&table, number, place) {
+        None if number == 20 => parameters::holders(&table),
         None => directory(image, "a count is out of its limits"),
         Some(Place::Label(place)) => label(&table, place),
         Some(Place::Register(place)) => register(&table, place),
         Some(Place::State(place)) if number == 9 => child(&table, place),
+        Some(Place::State(place)) if number == 19 => {
+            let why = parameters::of_state(&table, place);
+            format!("{}\nBecause:\n{why}", state(&table, place))
+        }
         Some(Place::State(place)) => state(&table, place),
         Some(Place::Command(place)) => {
             let text = command(&table, place);
@@ -26,6 +31,10 @@ pub fn describe(image: &[u8], number: u32, place: usize) -> String {
                 8 => format!("{text}\nBecause:\n{}", shape::reasons(&table, place)),
                 10..=12 => format!("{text}\nBecause:\n{}", flow::reasons(&table, place)),
                 16 => format!("{text}\nBecause:\n{}", ports::reasons(&table, place)),
+                19 => format!(
+                    "{text}\nBecause:\n{}",
+                    parameters::of_command(&table, place)
+                ),
                 _ => text,
             }
         }
@@ -33,6 +42,10 @@ pub fn describe(image: &[u8], number: u32, place: usize) -> String {
             let text = expression(&table, place);
             match number {
                 6 => format!("{text}\n{}", uses::of_expression(&table, place as u16)),
+                19 => format!(
+                    "{text}\nBecause:\n{}",
+                    parameters::of_expression(&table, place)
+                ),
                 _ => text,
             }
         }
@@ -87,27 +100,48 @@ fn child(table: &Table, child: usize) -> String {
 }
 
 pub fn command(table: &Table, number: usize) -> String {
-    let text = layout::flat(&Reader::new(table).command(number as u16));
+    let home = home_of_command(table, number);
+    let text = layout::flat(&reader(table, home).command(number as u16));
     let bytes = body::bytes(table.commands[number]);
-    let home = home(table, |reader| reader.has_command(number as u16));
+    let home = in_body(table, home);
     format!("Command {number} (bytes {bytes}):\n    {text}\n\n{home}")
 }
 
 fn expression(table: &Table, number: usize) -> String {
-    let text = Reader::new(table).expression(number as u16).text;
+    let home = home_of_expression(table, number);
+    let text = reader(table, home).expression(number as u16).text;
     let bytes = body::bytes(table.expressions[number]);
-    let home = home(table, |reader| reader.has_expression(number as u16));
+    let home = in_body(table, home);
     format!("Expression {number} (bytes {bytes}):\n    {text}\n\n{home}")
 }
 
 /// The first state whose body has shown the node.
-fn home(table: &Table, shown: impl Fn(&Reader) -> bool) -> String {
-    let found = (0..table.states.len()).find(|&state| {
+pub fn home_of_command(table: &Table, number: usize) -> Option<usize> {
+    home(table, |reader| reader.has_command(number as u16))
+}
+
+pub fn home_of_expression(table: &Table, number: usize) -> Option<usize> {
+    home(table, |reader| reader.has_expression(number as u16))
+}
+
+fn home(table: &Table, shown: impl Fn(&Reader) -> bool) -> Option<usize> {
+    (0..table.states.len()).find(|&state| {
         let mut reader = Reader::new(table);
         reader.command(table.states[state].command);
         shown(&reader)
-    });
-    match found {
+    })
+}
+
+fn reader(table: &Table, home: Option<usize>) -> Reader<'_> {
+    let mut reader = Reader::new(table);
+    if let Some(state) = home {
+        reader.enter(state);
+    }
+    reader
+}
+
+fn in_body(table: &Table, home: Option<usize>) -> String {
+    match home {
         Some(state) => format!(
             "In the body of state {state}:\n{}\n",
             whole_state(table, state)

@@ -1,7 +1,9 @@
 //! The rules in words, and what their places are: those of `include/caisson_refusals.def`, where each is
 //! worded once.
 
+use super::parameters;
 use crate::table::place::Place;
+use crate::table::Table;
 
 const WORDS: &str = include_str!("../../../include/caisson_refusals.def");
 
@@ -14,13 +16,14 @@ pub fn rule(number: u32) -> String {
 }
 
 /// What stands at the place of a refusal of an image. None where the place is the number of nothing, or of
-/// a wire, which no image has.
-pub fn place(number: u32, place: usize) -> Option<Place> {
+/// a wire, which no image has. A parameter is refused in the record of a state, else at a node.
+pub fn place(table: &Table, number: u32, place: usize) -> Option<Place> {
     match row(number)?.split(',').nth(3)?.trim() {
         "LABEL" => Some(Place::Label(place)),
         "REGISTER" => Some(Place::Register(place)),
         "STATE" => Some(Place::State(place)),
-        "NODE" => Some(Place::node(place)),
+        "PARAMETER" if parameters::of_states(table) => Some(Place::State(place)),
+        "NODE" | "PARAMETER" => Some(Place::node(place)),
         _ => None,
     }
 }
@@ -70,6 +73,7 @@ mod tests {
 
     #[test]
     fn every_refusal_of_an_image_but_1_has_a_place() {
+        let place = |number, at| place(&Table::default(), number, at);
         for number in 2..=12 {
             let expected = match number {
                 2 => Place::Label(5),
@@ -81,7 +85,8 @@ mod tests {
         }
         assert_eq!(place(16, 1_023), Some(Place::Command(1_023)));
         assert_eq!(place(5, 1_024), Some(Place::Expression(0)));
-        for nothing in [0, 1, 18, 25, 26, 99] {
+        assert_eq!(place(19, 1_023), Some(Place::Command(1_023)));
+        for nothing in [0, 1, 18, 20, 25, 26, 99] {
             assert_eq!(place(nothing, 0), None, "{nothing}");
         }
     }

@@ -39,7 +39,7 @@ fn rule(table: &Table, state: usize, number: u16) -> Option<String> {
             Some("one branch transfers, and the other does not".to_string())
         }
         Command::Fall if !has_child(table, state) => Some(format!("state {name} has no child")),
-        Command::Goto { state: to } => goto(table, state, usize::from(to)),
+        Command::Goto { state: to, .. } => goto(table, state, usize::from(to)),
         _ => None,
     }
 }

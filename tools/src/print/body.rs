@@ -1,8 +1,9 @@
 //! Nodes as text. Each node is shown once, where it is first met: a table may use one node many
 //! times, or as a part of itself.
 
-use super::records::{register_name, state_name};
+use super::records::{operand_name, state_name};
 use crate::operator::TIGHTEST;
+use crate::table::limits::PARAMETERS;
 use crate::table::node::{Command, Expression};
 use crate::table::{Node, Table};
 
@@ -23,6 +24,8 @@ pub struct Reader<'a> {
     table: &'a Table,
     commands: Vec<bool>,
     expressions: Vec<bool>,
+    /// How many parameters are in scope.
+    in_scope: usize,
 }
 
 impl<'a> Reader<'a> {
@@ -31,7 +34,13 @@ impl<'a> Reader<'a> {
             table,
             commands: vec![false; table.commands.len()],
             expressions: vec![false; table.expressions.len()],
+            in_scope: PARAMETERS,
         }
+    }
+
+    /// What is read next is of the body of this state.
+    pub fn enter(&mut self, state: usize) {
+        self.in_scope = self.table.scope(state).len();
     }
 
     /// Whether the node was shown.
@@ -56,11 +65,12 @@ impl<'a> Reader<'a> {
             None => Body::Leaf(raw("command", number, node)),
             Some(Command::Skip) => Body::Leaf("skip".to_string()),
             Some(Command::Fall) => Body::Leaf("fall".to_string()),
-            Some(Command::Goto { state }) => {
-                Body::Leaf(format!("goto {}", state_name(self.table, state)))
+            Some(Command::Goto { state, arguments }) => {
+                let arguments = self.arguments(state, arguments);
+                Body::Leaf(format!("goto {}{arguments}", state_name(self.table, state)))
             }
             Some(Command::Assign { register, value }) => {
-                let register = register_name(self.table, register);
+                let register = operand_name(self.table, register.into(), self.in_scope);
                 let value = self.expression(value).text;
                 Body::Leaf(format!("{register} := {value}"))
             }
@@ -79,6 +89,23 @@ impl<'a> Reader<'a> {
                 let otherwise = self.command(otherwise);
                 Body::If(condition, Box::new(then), Box::new(otherwise))
             }
+        }
+    }
+
+    /// In parentheses, or nothing. A field that the state has no parameter for has no form in the text.
+    fn arguments(&self, state: u8, arguments: [u16; PARAMETERS]) -> String {
+        let state = self.table.states.get(usize::from(state));
+        let used = state.map_or(0, |state| usize::from(state.count));
+        let shown: Vec<String> = (arguments.into_iter().enumerate())
+            .filter(|&(field, argument)| field < used || argument != 0)
+            .map(|(field, argument)| match field < used {
+                true => operand_name(self.table, argument, self.in_scope),
+                false => format!("[argument {argument}]"),
+            })
+            .collect();
+        match shown.is_empty() {
+            true => String::new(),
+            false => format!("({})", shown.join(", ")),
         }
     }
 
@@ -103,7 +130,7 @@ impl<'a> Reader<'a> {
             }
             Some(Expression::Constant(value)) => Written::tight(value.to_string()),
             Some(Expression::Register(register)) => {
-                Written::tight(register_name(self.table, register))
+                Written::tight(operand_name(self.table, register.into(), self.in_scope))
             }
             Some(Expression::Operation(operator, left, right)) => {
                 let signed = operator.signed_parts();

@@ -1,9 +1,10 @@
-//! Labels, registers and states as declarations. The names are a letter and the number.
+//! Labels, registers and states as declarations. The names are a letter and the number; a parameter has the
+//! number that it has in scope.
 
 use super::body::Reader;
 use super::layout;
-use crate::table::limits::WIDTH;
-use crate::table::{largest, Table, INNER, PORT};
+use crate::table::limits::{PARAMETERS, WIDTH};
+use crate::table::{largest, parameters, Bounds, Table, INNER, PORT};
 
 pub fn label_name(table: &Table, label: usize) -> String {
     name("l", "label", label, table.rows.len())
@@ -16,6 +17,32 @@ pub fn register_name(table: &Table, register: u8) -> String {
 
 pub fn state_name(table: &Table, state: u8) -> String {
     name("s", "state", usize::from(state), table.states.len())
+}
+
+pub fn parameter_name(number: usize, in_scope: usize) -> String {
+    name("p", "parameter", number, in_scope)
+}
+
+/// What a byte names in the place of a register, where so many parameters are in scope.
+pub fn operand_name(table: &Table, byte: u16, in_scope: usize) -> String {
+    match parameters::of_register(byte) {
+        Some(number) => parameter_name(number, in_scope),
+        None => name("r", "register", usize::from(byte), table.registers.len()),
+    }
+}
+
+pub fn bounds(table: &Table, bounds: Bounds) -> String {
+    let [lower, upper] = [bounds.lower, bounds.upper].map(|one| label_name(table, one.into()));
+    format!("{lower}..{upper}")
+}
+
+/// A state's label, which may be a parameter's.
+pub fn state_label(table: &Table, state: usize) -> String {
+    let label = table.states[state].label;
+    match parameters::of_label(label) {
+        Some(number) => parameter_name(number, table.scope(state).len()),
+        None => label_name(table, usize::from(label)),
+    }
 }
 
 fn name(letter: &str, what: &str, number: usize, count: usize) -> String {
@@ -60,6 +87,7 @@ pub fn register(table: &Table, register: usize) -> String {
 }
 
 pub fn state(table: &Table, state: usize, reader: &mut Reader) -> String {
+    reader.enter(state);
     let body = reader.command(table.states[state].command);
     layout::block(&state_head(table, state), &body)
 }
@@ -67,10 +95,31 @@ pub fn state(table: &Table, state: usize, reader: &mut Reader) -> String {
 /// All of a state but its body. The root's parent is the root, and goes without saying.
 pub fn state_head(table: &Table, state: usize) -> String {
     let record = table.states[state];
-    let label = label_name(table, usize::from(record.label));
+    let label = state_label(table, state);
+    let parameters = own_parameters(table, state);
     if state == 0 && record.parent == 0 {
-        return format!("state s{state} : {label}");
+        return format!("state s{state}{parameters} : {label}");
     }
     let parent = state_name(table, record.parent);
-    format!("state s{state} in {parent} : {label}")
+    format!("state s{state}{parameters} in {parent} : {label}")
+}
+
+/// In parentheses, or nothing. A count above two and bounds that are not used have no form in the text.
+fn own_parameters(table: &Table, state: usize) -> String {
+    let record = table.states[state];
+    let inherited = table.inherited(state).len();
+    let own = record.parameters().iter().enumerate();
+    let mut shown: Vec<String> = own
+        .map(|(number, own)| format!("p{} : {}", inherited + number, bounds(table, *own)))
+        .collect();
+    if usize::from(record.count) > PARAMETERS {
+        shown.push(format!("[count {}]", record.count));
+    }
+    let unused = record.bounds.iter().skip(usize::from(record.count));
+    let unused = unused.filter(|pair| **pair != Bounds::default());
+    shown.extend(unused.map(|pair| format!("[unused {}..{}]", pair.lower, pair.upper)));
+    match shown.is_empty() {
+        true => String::new(),
+        false => format!("({})", shown.join(", ")),
+    }
 }

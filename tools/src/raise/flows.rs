@@ -28,7 +28,7 @@ impl Flow {
     }
 }
 
-/// Expects a table that keeps the rules up to 9.
+/// Expects a table that keeps the rules up to 9 and has no parameters: all others are refused by 20.
 pub fn flows(table: &Table) -> Vec<Flow> {
     let mut flows = Vec::new();
     for (state, record) in table.states.iter().enumerate() {
@@ -40,7 +40,7 @@ pub fn flows(table: &Table) -> Vec<Flow> {
 fn add(table: &Table, command: u16, state: u8, conditions: &[u8], flows: &mut Vec<Flow>) {
     let (reads, to) = match Command::of(table.commands[usize::from(command)]) {
         Some(Command::Assign { register, value }) => (read(table, value), To::Register(register)),
-        Some(Command::Goto { state }) => (Vec::new(), To::State(state)),
+        Some(Command::Goto { state, .. }) => (Vec::new(), To::State(state)),
         Some(Command::Fall) => (Vec::new(), To::State(state)),
         Some(Command::Sequence { first, second }) => {
             add(table, first, state, conditions, flows);

@@ -12,6 +12,13 @@ pub const EXPRESSIONS: usize = defined(b"CAISSON_EXPRESSIONS");
 /// The most bits of a register; the least is 1.
 pub const WIDTH: u8 = defined(b"CAISSON_WIDTH") as u8;
 
+/// The most parameters of a state, and of all that are in scope of one.
+pub const PARAMETERS: usize = defined(b"CAISSON_PARAMETERS");
+
+/// The byte that names the first parameter in the place of a register, and of a state's label.
+pub const PARAMETER_REGISTER: u8 = defined(b"CAISSON_PARAMETER_REGISTER") as u8;
+pub const PARAMETER_LABEL: u8 = defined(b"CAISSON_PARAMETER_LABEL") as u8;
+
 /// An expression's place is this plus its number.
 pub const EXPRESSION_PLACE: usize = defined(b"CAISSON_EXPRESSION_PLACE");
 

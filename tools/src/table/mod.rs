@@ -3,6 +3,7 @@
 pub mod limits;
 pub mod node;
 pub mod old;
+pub mod parameters;
 pub mod place;
 pub mod read;
 mod write;
@@ -31,6 +32,15 @@ pub struct State {
     pub parent: u8,
     pub label: u8,
     pub command: u16,
+    pub count: u8,
+    pub bounds: [Bounds; limits::PARAMETERS],
+}
+
+/// The labels between which a parameter's lies.
+#[derive(Clone, Copy, Debug, Default, PartialEq, Eq)]
+pub struct Bounds {
+    pub lower: u8,
+    pub upper: u8,
 }
 
 pub const INNER: u8 = 0;

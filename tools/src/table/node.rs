@@ -24,8 +24,10 @@ pub enum Command {
         second: u16,
     },
     Fall,
+    /// As many of the arguments are used as the state has parameters.
     Goto {
         state: u8,
+        arguments: [u16; 2],
     },
     If {
         condition: u16,
@@ -49,7 +51,10 @@ impl Command {
             Command::Assign { register, value } => (1, register, value, 0, 0),
             Command::Sequence { first, second } => (2, 0, first, second, 0),
             Command::Fall => (3, 0, 0, 0, 0),
-            Command::Goto { state } => (4, state, 0, 0, 0),
+            Command::Goto {
+                state,
+                arguments: [first, second],
+            } => (4, state, first, second, 0),
             Command::If {
                 condition,
                 then,
@@ -78,7 +83,10 @@ impl Command {
                 second: node.b,
             },
             3 => Command::Fall,
-            4 => Command::Goto { state: node.which },
+            4 => Command::Goto {
+                state: node.which,
+                arguments: [node.a, node.b],
+            },
             5 => Command::If {
                 condition: node.a,
                 then: node.b,

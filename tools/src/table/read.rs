@@ -1,7 +1,7 @@
 //! A table cut into its records. Only the directory is judged: without it nothing can be cut.
 
 use super::limits::RECORDS;
-use super::{Node, Register, State, Table};
+use super::{Bounds, Node, Register, State, Table};
 
 /// The pairs of offset and length of a directory of so many, as far as the image has them.
 pub fn pairs<const N: usize>(image: &[u8]) -> Vec<(usize, usize)> {
@@ -59,8 +59,9 @@ pub fn sections<'a, const N: usize>(
 
 pub const SECTIONS: [&str; 5] = ["labels", "registers", "states", "commands", "expressions"];
 
-/// Which of the sections the registers are.
+/// Which of the sections the registers and the states are.
 pub const REGISTERS: usize = 1;
+pub const STATES: usize = 2;
 
 /// Each section is a whole number of records.
 pub fn cut(sections: [&[u8]; 5]) -> Table {
@@ -88,6 +89,11 @@ fn state(bytes: &[u8]) -> State {
         parent: bytes[0],
         label: bytes[1],
         command: half(bytes, 2),
+        count: bytes[4],
+        bounds: std::array::from_fn(|parameter| Bounds {
+            lower: bytes[5 + 2 * parameter],
+            upper: bytes[6 + 2 * parameter],
+        }),
     }
 }
 

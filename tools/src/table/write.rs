@@ -17,6 +17,10 @@ impl Table {
         for state in &self.states {
             image.extend([state.parent, state.label]);
             image.extend(state.command.to_le_bytes());
+            image.push(state.count);
+            for bounds in state.bounds {
+                image.extend([bounds.lower, bounds.upper]);
+            }
         }
         for node in self.commands.iter().chain(&self.expressions) {
             image.extend(node.bytes());

@@ -2,8 +2,8 @@
 
 use super::fault::Fault;
 use super::parser::Parser;
-use super::tree::{Command, Placed};
-use crate::table::limits::COMMANDS;
+use super::tree::{Command, Name, Placed};
+use crate::table::limits::{COMMANDS, PARAMETERS};
 
 impl Parser {
     /// Commands up to and with the closing brace. `a; b; c` is `a; { b; c }`.
@@ -33,13 +33,29 @@ impl Parser {
         } else if self.take_word("fall") {
             Command::Fall
         } else if self.take_word("goto") {
-            Command::Goto(self.name("the name of a state")?)
+            Command::Goto(self.name("the name of a state")?, self.arguments()?)
         } else if self.take_word("if") {
             self.nested(Parser::choice)?
         } else {
             self.assign()?
         };
         Ok(Placed { at, node })
+    }
+
+    /// In parentheses, or none.
+    fn arguments(&mut self) -> Result<Vec<Name>, Fault> {
+        let mut arguments = Vec::new();
+        if !self.take_symbol("(") {
+            return Ok(arguments);
+        }
+        loop {
+            self.bound(self.at(), arguments.len() + 1, PARAMETERS, "arguments")?;
+            arguments.push(self.name("the name of a register or a parameter")?);
+            if !self.take_symbol(",") {
+                self.symbol(")", "`,` or `)`")?;
+                return Ok(arguments);
+            }
+        }
     }
 
     fn choice(&mut self) -> Result<Command, Fault> {

@@ -3,8 +3,8 @@
 use super::fault::Fault;
 use super::lexer::Token;
 use super::parser::Parser;
-use super::tree::{Design, Label, Name, Register, State};
-use crate::table::limits::{LABELS, REGISTERS, STATES, WIDTH};
+use super::tree::{Design, Label, Name, Parameter, Register, State};
+use crate::table::limits::{LABELS, PARAMETERS, REGISTERS, STATES, WIDTH};
 
 impl Parser {
     pub fn design(&mut self) -> Result<Design, Fault> {
@@ -94,6 +94,7 @@ impl Parser {
 
     fn state(&mut self, root: bool) -> Result<State, Fault> {
         let name = self.name("the state's name")?;
+        let parameters = self.parameters()?;
         let parent = if self.take_word("in") {
             Some(self.name("the name of the parent")?)
         } else if root {
@@ -106,10 +107,41 @@ impl Parser {
         let body = self.sequence()?;
         Ok(State {
             name,
+            parameters,
             parent,
             label,
             body,
         })
+    }
+
+    /// In parentheses, or none. A record has room for no more than two.
+    fn parameters(&mut self) -> Result<Vec<Parameter>, Fault> {
+        let mut parameters = Vec::new();
+        if !self.take_symbol("(") {
+            return Ok(parameters);
+        }
+        loop {
+            let most = PARAMETERS;
+            self.bound(
+                self.at(),
+                parameters.len() + 1,
+                most,
+                "parameters of a state",
+            )?;
+            parameters.push(self.parameter()?);
+            if !self.take_symbol(",") {
+                self.symbol(")", "`,` or `)`")?;
+                return Ok(parameters);
+            }
+        }
+    }
+
+    fn parameter(&mut self) -> Result<Parameter, Fault> {
+        let name = self.name("the parameter's name")?;
+        let lower = self.labelled()?;
+        self.symbol("..", "`..` and the upper label")?;
+        let upper = self.name("the name of a label")?;
+        Ok(Parameter { name, lower, upper })
     }
 
     fn labelled(&mut self) -> Result<Name, Fault> {

@@ -12,9 +12,9 @@ pub enum Token {
 }
 
 /// The longer ones first, so that `:=` is not taken for `:`.
-const SYMBOLS: [&str; 20] = [
-    ">>$", "->", ":=", "==", "<$", "/$", ":", "=", ",", ";", "{", "}", "(", ")", "+", "-", "&",
-    "|", "^", "<",
+const SYMBOLS: [&str; 21] = [
+    ">>$", "->", ":=", "==", "<$", "/$", "..", ":", "=", ",", ";", "{", "}", "(", ")", "+", "-",
+    "&", "|", "^", "<",
 ];
 
 /// Operators of other languages, and the one that there is.

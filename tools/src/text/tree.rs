@@ -44,10 +44,21 @@ pub struct Register {
 #[derive(Debug)]
 pub struct State {
     pub name: Name,
+    /// Its own ones.
+    pub parameters: Vec<Parameter>,
     /// None for the root only.
     pub parent: Option<Name>,
+    /// A label, or a parameter in scope.
     pub label: Name,
     pub body: Placed<Command>,
+}
+
+/// A parameter, and the labels between which its label lies.
+#[derive(Debug)]
+pub struct Parameter {
+    pub name: Name,
+    pub lower: Name,
+    pub upper: Name,
 }
 
 #[derive(Debug)]
@@ -56,7 +67,8 @@ pub enum Command {
     Assign(Name, Placed<Expression>),
     Sequence(Box<Placed<Command>>, Box<Placed<Command>>),
     Fall,
-    Goto(Name),
+    /// The state, and the registers or parameters that are given to its parameters.
+    Goto(Name, Vec<Name>),
     If(
         Placed<Expression>,
         Box<Placed<Command>>,

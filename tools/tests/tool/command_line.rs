@@ -91,7 +91,7 @@ fn print_gives_names() {
 fn print_says_why_it_cannot() {
     let message = failure(&caisson(&["print", "cut_short.table"]));
     let expected = "cut_short.table: cannot be cut into records: \
-                    the sections end at 210, the image at 209\n";
+                    the sections end at 235, the image at 234\n";
     assert_eq!(message, expected);
 }
 
@@ -110,7 +110,7 @@ fn explain_accepts() {
 #[test]
 fn explain_shows_the_place() {
     for (table, number, shown) in [
-        ("cut_short", 1, "    20,4 24,14 38,20 58,104 162,48\n"),
+        ("cut_short", 1, "    20,4 24,14 38,45 83,104 187,48\n"),
         ("no_lattice", 2, "Label 1, row 2:\n    label l1\n"),
         (
             "no_lattice",
@@ -195,6 +195,47 @@ fn explain_shows_the_place() {
             "Command 1 (bytes 1 0 0 0 0 0 0 0):\n    r0 := 0\n\nIn the body of state 1:\n",
         ),
         ("port_assigned", 16, "Because:\n    r0 is a port\n"),
+        (
+            "port_argument",
+            16,
+            "    goto s2(r2)\n\nIn the body of state 1:\n",
+        ),
+        (
+            "port_argument",
+            16,
+            "Because:\n    r2 is a port, and is given to s2\n",
+        ),
+        (
+            "default_parameter",
+            19,
+            "State 1:\n    state s1(p0 : l0..l1) in s0 : p0 { p0 := p0 + 1; goto s1(r0) }\n",
+        ),
+        (
+            "default_parameter",
+            19,
+            "Because:\n    s1 is the default child of s0, and a default child has no parameters\n",
+        ),
+        (
+            "parameter_count",
+            19,
+            "Because:\n    count 3: a state has at most 2 parameters\n",
+        ),
+        (
+            "outside_bounds",
+            19,
+            "Command 2 (bytes 4 2 1 0 0 0 0 0):\n    goto s2(r1)\n\nIn the body of state 1:\n",
+        ),
+        (
+            "outside_bounds",
+            19,
+            "Because:\n    r1 : l1 does not lie within p0 : l0..l0 of s2\n",
+        ),
+        (
+            "one_choice",
+            10,
+            "Because:\n    s3 : p0 does not flow to r1 : l0 where p0 is l1\n    \
+             p0 : l0..l1 does not flow to r1 : l0 where p0 is l1\n",
+        ),
     ] {
         let output = caisson(&["explain", &format!("{table}.table")]);
         assert_eq!(output.status.code(), Some(1), "{table}");
@@ -240,39 +281,56 @@ fn explain_says_where_a_text_is_wrong() {
     assert!(out(&output).starts_with("refused by 1 at place 0\n"));
 }
 
-/// The lease table as version 1.2.0 had it: 208 bytes.
-fn old_lease() -> String {
-    let path = path("tools/tests/data/lease_format_1.table");
+/// The lease table as version 1.2.0 had it, 208 bytes, and as version 2.5.0 had it, 210 bytes.
+fn old_lease(format: u8) -> String {
+    let path = path(&format!("tools/tests/data/lease_format_{format}.table"));
     path.to_string_lossy().into_owned()
 }
 
-const OLD: &str = "is a table of format 1, whose register records have 6 bytes; \
-                   `caisson upgrade OLD NEW` makes one of format 2 from it";
-
 #[test]
 fn old_tables_are_known() {
-    let old = old_lease();
-    let message = failure(&caisson(&["print", &old]));
-    assert_eq!(message, format!("{old}: {OLD}\n"));
-    let output = caisson(&["explain", &old]);
-    assert_eq!(output.status.code(), Some(1));
-    let text = out(&output);
-    assert!(text.starts_with("refused by 1 at place 0\n"), "{text}");
-    let shown =
-        "(the registers have 12 bytes, with 7 for each):\n    20,4 24,12 36,20 56,104 160,48\n";
-    assert!(text.ends_with(&format!("{shown}\nIt {OLD}.\n")), "{text}");
+    for (format, records, shown) in [
+        (
+            1,
+            "register records have 6 bytes and whose state records 4",
+            "(the registers have 12 bytes, with 7 for each):\n    20,4 24,12 36,20 56,104 160,48\n",
+        ),
+        (
+            2,
+            "state records have 4 bytes",
+            "(the states have 20 bytes, with 9 for each):\n    20,4 24,14 38,20 58,104 162,48\n",
+        ),
+    ] {
+        let advice = format!(
+            "is a table of format {format}, whose {records}; \
+             `caisson upgrade OLD NEW` makes one of format 3 from it"
+        );
+        let old = old_lease(format);
+        let message = failure(&caisson(&["print", &old]));
+        assert_eq!(message, format!("{old}: {advice}\n"));
+        let output = caisson(&["explain", &old]);
+        assert_eq!(output.status.code(), Some(1));
+        let text = out(&output);
+        assert!(text.starts_with("refused by 1 at place 0\n"), "{text}");
+        assert!(
+            text.ends_with(&format!("{shown}\nIt {advice}.\n")),
+            "{text}"
+        );
+    }
 }
 
 #[test]
 fn upgrade_writes_another_table() {
     let new = format!("{}/upgraded.table", env!("CARGO_TARGET_TMPDIR"));
-    let output = caisson(&["upgrade", &old_lease(), &new]);
-    assert_eq!(output.status.code(), Some(0));
-    assert!(output.stdout.is_empty());
-    assert_eq!(
-        fs::read(&new).unwrap(),
-        crate::common::bytes("designs/lease.table")
-    );
+    for format in [1, 2] {
+        let output = caisson(&["upgrade", &old_lease(format), &new]);
+        assert_eq!(output.status.code(), Some(0));
+        assert!(output.stdout.is_empty());
+        assert_eq!(
+            fs::read(&new).unwrap(),
+            crate::common::bytes("designs/lease.table")
+        );
+    }
 }
 
 /// Nothing is written, and the old table stays.
@@ -283,10 +341,10 @@ fn upgrade_says_why_it_cannot() {
     fs::create_dir_all(&folder).unwrap();
     let new = format!("{folder}/new.table");
     for (old, why) in [
-        ("lease.table", "is a table of format 2 already"),
+        ("lease.table", "is a table of format 3 already"),
         (
             "cut_short.table",
-            "is no table of format 1: the registers have 14 bytes, with 6 for each",
+            "is no table of format 1 or 2: the states have 45 bytes, with 4 for each",
         ),
     ] {
         let message = failure(&caisson(&["upgrade", old, &new]));
@@ -294,13 +352,13 @@ fn upgrade_says_why_it_cannot() {
         assert!(fs::metadata(&new).is_err());
     }
     let (old, link) = (format!("{folder}/old.table"), format!("{folder}/link"));
-    fs::copy(old_lease(), &old).unwrap();
+    fs::copy(old_lease(2), &old).unwrap();
     std::os::unix::fs::symlink("old.table", &link).unwrap();
     for table in [&old, &link] {
         let message = failure(&caisson(&["upgrade", &old, table]));
         let expected = format!("{table}: is the old table itself, and would be lost\n");
         assert_eq!(message, expected);
-        assert_eq!(fs::read(&old).unwrap(), fs::read(old_lease()).unwrap());
+        assert_eq!(fs::read(&old).unwrap(), fs::read(old_lease(2)).unwrap());
     }
 }
 

@@ -14,12 +14,13 @@ fn without_text() -> Vec<(&'static str, Vec<u8>, (u32, usize))> {
         image
     };
     vec![
-        ("cut_short", lease[..209].to_vec(), (1, 0)),
+        ("cut_short", lease[..234].to_vec(), (1, 0)),
         ("register_kind", changed(25, 2), (3, 0)),
         ("register_width", changed(37, 33), (3, 1)),
-        ("command_kind", changed(58, 6), (5, 0)),
-        ("expression_kind", changed(186, 12), (5, 1_027)),
-        ("shared_command", changed(44, 0), (6, 0)),
+        ("command_kind", changed(83, 6), (5, 0)),
+        ("expression_kind", changed(211, 12), (5, 1_027)),
+        ("shared_command", changed(49, 0), (6, 0)),
+        ("parameter_count", changed(78, 3), (19, 4)),
         (
             "reading_order",
             from_the_end(&bytes("designs/high_timer.table")).0,
@@ -92,7 +93,7 @@ fn designs_are_complete() {
         .collect();
     met.sort();
     met.dedup();
-    assert_eq!(met, (0..=12).chain([16, 25, 26]).collect::<Vec<u32>>());
+    assert_eq!(met, (0..=12).chain([16, 19, 25, 26]).collect::<Vec<u32>>());
 }
 
 /// The README lists every table with its verdict.

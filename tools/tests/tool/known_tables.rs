@@ -21,8 +21,8 @@ fn lease_of_the_c_test() -> Vec<u8> {
 #[test]
 fn lease_is_the_table_of_document_01() {
     let image = assemble(&text("designs/lease.caisson")).unwrap();
-    assert_eq!(image.len(), 210);
-    let pairs = [20, 4, 24, 14, 38, 20, 58, 104, 162, 48];
+    assert_eq!(image.len(), 235);
+    let pairs = [20, 4, 24, 14, 38, 45, 83, 104, 187, 48];
     let pairs: Vec<u8> = pairs.into_iter().flat_map(u16::to_le_bytes).collect();
     assert_eq!(image[..20], pairs);
     assert_eq!(image, lease_of_the_c_test());

@@ -9,6 +9,8 @@ mod gates_explained;
 mod gates_files;
 mod known_tables;
 mod odd_tables;
+mod parameters;
+mod parameters_explained;
 mod raise;
 mod raise_chains;
 mod raise_files;

@@ -66,7 +66,7 @@ fn numbers_out_of_range_stand_in_brackets() {
         table.registers[1].width = 33;
         table.states[1].parent = 8;
         table.states[3].command = 99;
-        table.commands[4].which = 64;
+        table.commands[4].which = 63;
         table.commands[6].which = 5;
         table.expressions[4].kind = 12;
     });
@@ -74,7 +74,7 @@ fn numbers_out_of_range_stand_in_brackets() {
     assert_line(&text, "register r0 : [label 9] [width 0] = 3");
     assert_line(&text, "[kind 7] r1 : l1 [width 33] = 0");
     assert_line(&text, "state s1 in [state 8] : l0 { r0 := 3; goto s2 }");
-    assert!(text.contains("[register 64] := r0 - 1;"), "{text}");
+    assert!(text.contains("[register 63] := r0 - 1;"), "{text}");
     assert!(
         text.contains("if [expression 4: bytes 12 0 0 0 0 0 0 0] then fall else goto [state 5]")
     );

@@ -104,7 +104,12 @@ fn a_refused_design_is_written_nowhere() {
     let folder = folder("raised_refused");
     let old = format!("{folder}/old.table");
     fs::write(&old, "old").unwrap();
-    for (design, number) in [("no_raising.caisson", 18), ("cut_short.table", 1)] {
+    for (design, number) in [
+        ("no_raising.caisson", 18),
+        ("guessed_shared.caisson", 20),
+        ("two_groups_shared.table", 20),
+        ("cut_short.table", 1),
+    ] {
         let new = format!("{folder}/{design}.table");
         let output = raise(design, &new);
         let words = String::from_utf8(output.stdout).unwrap();

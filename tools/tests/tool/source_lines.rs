@@ -132,17 +132,20 @@ fn designs_are_explained_alike() {
     }
 }
 
-/// Six records of 7 bytes are seven of 6 bytes. A text is of no format.
+/// Four states of 9 bytes are nine of 4 bytes. A text is of no format.
 #[test]
 fn no_text_is_taken_for_an_old_table() {
-    let flag = |number: usize, reset: u32| format!("port r{number} : low width 1 = {reset}\n");
-    let flags: String = (0..6)
-        .map(|number| flag(number, if number == 2 { 2 } else { 0 }))
-        .collect();
-    let source = format!("label low -> high\nlabel high\n{flags}state root : low {{ fall }}\n");
+    // The numbers of the commands are so that they are parents, labels and commands in the old records.
+    let long = "skip; ".repeat(127);
+    let source = format!(
+        "label low -> high\nlabel high\nstate root : low {{ fall }}\n\
+         state a in root : low {{ goto a }}\nstate b in c : low {{ goto b }}\n\
+         state c in root : low {{ {long}goto c }}\n"
+    );
     let (image, _) = assemble_placed(&source).unwrap();
-    assert_eq!(old::form(&image), old::Form::Old);
-    assert!(explain::explain(&image, library::check(&image))
-        .ends_with(&format!("It {}.\n", old::ADVICE)));
-    assert!(!explained(&source).contains(old::ADVICE));
+    assert_eq!(old::form(&image), old::Form::Old(2));
+    let advice = old::advice(&image).unwrap();
+    let shown = explain::explain(&image, library::check(&image));
+    assert!(shown.ends_with(&format!("It {advice}.\n")), "{shown}");
+    assert!(!explained(&source).contains(&advice));
 }

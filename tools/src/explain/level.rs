@@ -1,0 +1,116 @@
+//! What flows: a register, a parameter or a state with its label, which may be a parameter's and so is any
+//! label within its bounds.
+
+use crate::print::records::{bounds, label_name, operand_name, parameter_name, state_name};
+use crate::table::{parameters, Bounds, Table};
+
+#[derive(Clone, Copy)]
+pub enum Level {
+    Label(u8),
+    /// By its number in scope.
+    Parameter(usize),
+}
+
+/// A register, parameter or state with its label.
+pub struct Labelled {
+    name: String,
+    pub level: Level,
+    /// Behind the name.
+    label: String,
+}
+
+impl Labelled {
+    pub fn show(&self) -> String {
+        format!("{} : {}", self.name, self.label)
+    }
+}
+
+/// What a byte names in the place of a register.
+pub fn of_operand(table: &Table, byte: u16, scope: &[Bounds]) -> Labelled {
+    let (level, label) = match parameters::of_register(byte) {
+        Some(number) => (Level::Parameter(number), bounds(table, scope[number])),
+        None => {
+            let label = table.registers[usize::from(byte)].label;
+            (Level::Label(label), label_name(table, label.into()))
+        }
+    };
+    Labelled {
+        name: operand_name(table, byte, scope.len()),
+        level,
+        label,
+    }
+}
+
+pub fn of_state(table: &Table, state: u8, scope: &[Bounds]) -> Labelled {
+    let label = table.states[usize::from(state)].label;
+    let (level, label) = match parameters::of_label(label) {
+        Some(number) => (
+            Level::Parameter(number),
+            parameter_name(number, scope.len()),
+        ),
+        None => (Level::Label(label), label_name(table, label.into())),
+    };
+    Labelled {
+        name: state_name(table, state),
+        level,
+        label,
+    }
+}
+
+/// The state that a goto names. Where its label is its own parameter's, it is that of the argument.
+pub fn of_goto(table: &Table, state: u8, arguments: [u16; 2], scope: &[Bounds]) -> Labelled {
+    let number = usize::from(state);
+    let inherited = table.inherited(number).len();
+    let own = parameters::of_label(table.states[number].label)
+        .and_then(|parameter| parameter.checked_sub(inherited));
+    let Some(own) = own else {
+        return of_state(table, state, scope);
+    };
+    let argument = of_operand(table, arguments[own], scope);
+    Labelled {
+        name: state_name(table, state),
+        level: argument.level,
+        label: format!(
+            "{} (of its argument {})",
+            match argument.level {
+                Level::Parameter(_) => argument.name.clone(),
+                Level::Label(_) => argument.label.clone(),
+            },
+            argument.name
+        ),
+    }
+}
+
+/// None where the one flows to the other for every choice of labels within the bounds in scope. Else a
+/// choice for which it does not, in words.
+pub fn fault(table: &Table, scope: &[Bounds], from: Level, to: Level) -> Option<String> {
+    let highest = |level: Level| match level {
+        Level::Label(label) => (label, None),
+        Level::Parameter(number) => (scope[number].upper, Some((number, scope[number].upper))),
+    };
+    let lowest = |level: Level| match level {
+        Level::Label(label) => (label, None),
+        Level::Parameter(number) => (scope[number].lower, Some((number, scope[number].lower))),
+    };
+    if let (Level::Parameter(one), Level::Parameter(other)) = (from, to) {
+        if one == other {
+            return None;
+        }
+    }
+    let ((from, one), (to, other)) = (highest(from), lowest(to));
+    if table.flows(from, to) {
+        return None;
+    }
+    let chosen: Vec<String> = (one.into_iter().chain(other))
+        .map(|(number, label)| choice(table, scope, number, label))
+        .collect();
+    match chosen.is_empty() {
+        true => Some(String::new()),
+        false => Some(format!(" where {}", chosen.join(" and "))),
+    }
+}
+
+pub fn choice(table: &Table, scope: &[Bounds], number: usize, label: u8) -> String {
+    let name = parameter_name(number, scope.len());
+    format!("{name} is {}", label_name(table, label.into()))
+}
