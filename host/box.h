@@ -18,7 +18,9 @@ struct box {
     size_t registers_length; /* as the library tells it for the image; so is the next */
     size_t targets_length;
     uint8_t registers[CAISSON_REGISTERS * CAISSON_WORD];
-    uint8_t targets[CAISSON_STATES];
+    uint8_t targets[CAISSON_STATES * CAISSON_TARGET_LENGTH];
+    /* Of a design with parameters, the targets and bindings that the last cycle began with. */
+    uint8_t targets_before[CAISSON_STATES * CAISSON_TARGET_LENGTH];
 };
 
 /* Takes an image and the lengths of its areas, and resets these. A refused image is refused here. */
@@ -33,6 +35,13 @@ caisson_answer box_write_port(struct box *box, uint32_t reg, uint32_t value);
 
 CAISSON_LOOK_AT_ANSWER
 caisson_answer box_run(struct box *box, uint32_t cycles);
+
+/*
+ * Of a design with parameters: the states along the targets that the last cycle began with, from the root on,
+ * as long as they lie at or below a level by the labels that the bindings gave them then. Answers how many.
+ * The states that ran in that cycle are the first of them; the library does not tell how many.
+ */
+size_t box_path(const struct box *box, size_t level, uint8_t states[CAISSON_STATES]);
 
 /* How many registers there are; at most CAISSON_REGISTERS. */
 size_t box_registers(const struct box *box);

@@ -7,7 +7,8 @@
 #include "status.h"
 
 /*
- * Writes a sample: one line for each party, with the registers at or below its level and no other.
+ * Writes a sample: one line for each party, with the registers at or below its level and no other, and of a
+ * design with parameters the states that it may have seen run, with the registers bound to them.
  * STATUS_INPUT, with a message, where it cannot be written.
  */
 CAISSON_LOOK_AT_ANSWER

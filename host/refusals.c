@@ -10,6 +10,7 @@ enum place {
     PLACE_STATE,
     PLACE_NODE, /* a command, or from CAISSON_EXPRESSION_PLACE on an expression */
     PLACE_AREA, /* 0 for a length, else a register or a state */
+    PLACE_PARAMETER, /* a state, else a node */
     PLACE_WIRE  /* of a gate table, which this host does not run */
 };
 
@@ -34,6 +35,14 @@ static enum place area_place(const struct box *box)
     return box_within_widths(box) ? PLACE_STATE : PLACE_REGISTER;
 }
 
+static void node_say(size_t number)
+{
+    if (number < CAISSON_EXPRESSION_PLACE)
+        say(" at command %zu", number);
+    else
+        say(" at expression %zu", number - CAISSON_EXPRESSION_PLACE);
+}
+
 static void place_say(enum place place, size_t number)
 {
     switch (place) {
@@ -49,16 +58,20 @@ static void place_say(enum place place, size_t number)
         say(" at state %zu", number);
         break;
     case PLACE_NODE:
-        if (number < CAISSON_EXPRESSION_PLACE)
-            say(" at command %zu", number);
-        else
-            say(" at expression %zu", number - CAISSON_EXPRESSION_PLACE);
+        node_say(number);
         break;
     case PLACE_AREA:
         if (number == 0)
             say(" at a length, register 0 or state 0");
         else
             say(" at register %zu or state %zu", number, number);
+        break;
+    case PLACE_PARAMETER:
+        /* The image tells which; `caisson explain` reads it. */
+        if (number < CAISSON_STATES)
+            say(" at state %zu or command %zu", number, number);
+        else
+            node_say(number);
         break;
     case PLACE_WIRE:
         say(" at wire %zu", number);

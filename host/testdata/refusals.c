@@ -1,6 +1,6 @@
 /* Every refusal in words, at each kind of place, and two that no library of today gives: one between them
-   and one behind. Then 14 of a box
-   in a design that is named, whose register 0 has less than 32 bits: at a state, and at a register. */
+   and one behind. Then 14 of a box in a design that is named, whose register 0 has less than 32 bits: at a
+   state, for its target and for its binding, and at a register. */
 #include "design.h"
 #include "refusals.h"
 
@@ -15,16 +15,21 @@ static void each_number(void)
 
     for (uint32_t i = 0; i < count; i++)
         refusal_say((caisson_answer){numbers[i], 5, 0}, NULL);
-    refusal_say((caisson_answer){CAISSON_NO_RAISING + 1, 5, 0}, NULL);
+    refusal_say((caisson_answer){CAISSON_RAISE_PARAMETERS + 1, 5, 0}, NULL);
     refusal_say((caisson_answer){numbers[count - 1] + 1, 5, 0}, NULL);
     refusal_say((caisson_answer){CAISSON_NODE_RECORD, CAISSON_EXPRESSION_PLACE - 1, 0}, NULL);
     refusal_say((caisson_answer){CAISSON_NODE_RECORD, CAISSON_EXPRESSION_PLACE, 0}, NULL);
+    refusal_say((caisson_answer){CAISSON_PARAMETER, CAISSON_STATES - 1, 0}, NULL);
+    refusal_say((caisson_answer){CAISSON_PARAMETER, CAISSON_STATES, 0}, NULL);
+    refusal_say((caisson_answer){CAISSON_PARAMETER, CAISSON_EXPRESSION_PLACE, 0}, NULL);
     refusal_say((caisson_answer){CAISSON_AREA, 0, 0}, NULL);
 }
 
 /* What a host must not do: it changes the areas by itself. */
 static void areas(struct box *box)
 {
+    box->targets[box->targets_length - 1] = CAISSON_REGISTERS; /* the second byte of the last state */
+    refusal_say(box_run(box, 0), box);
     box->targets[0] = 0; /* the root is not its own child */
     refusal_say(box_run(box, 0), box);
     box->registers[CAISSON_WORD - 1] = 0x80; /* the highest bit of register 0 */
