@@ -5,13 +5,15 @@
    label 1. State 1 has label 0: r1 := r0; r0 := r2; goto 1. State 2, its sibling, has label 1. So r1 takes
    the label of r0, which takes that of r2. */
 static const uint8_t low[] = {
-    20, 0, 6, 0, 26, 0, 21, 0, 47, 0, 12, 0, 59, 0, 56, 0, 115, 0, 16, 0,
+    20, 0, 6, 0, 26, 0, 21, 0, 47, 0, 27, 0, 74, 0, 56, 0, 130, 0, 16, 0,
     /* labels */
     7, 0, 6, 0, 4, 0,
     /* registers: label, kind, reset, width */
     0, 0, 0, 0, 0, 0, 32, 0, 0, 0, 0, 0, 0, 32, 1, 1, 0, 0, 0, 0, 32,
-    /* states: parent, label, command */
-    0, 0, 0, 0, 0, 0, 5, 0, 0, 1, 6, 0,
+    /* states: parent, label, command, count and bounds of parameters */
+    0, 0, 0, 0, 0, 0, 0, 0, 0,
+    0, 0, 5, 0, 0, 0, 0, 0, 0,
+    0, 1, 6, 0, 0, 0, 0, 0, 0,
     /* commands */
     3, 0, 0, 0, 0, 0, 0, 0, /* 0: fall */
     1, 1, 0, 0, 0, 0, 0, 0, /* 1: r1 := e0 */
@@ -25,8 +27,9 @@ static const uint8_t low[] = {
     1, 2, 0, 0, 0, 0, 0, 0, /* 1: r2 */
 };
 
-/* Where the labels of the three registers stand, and that of state 1. */
-enum { R0 = 26, R1 = 33, R2 = 40, STATE_1 = 52 };
+/* Where the labels of the three registers stand, and those of states 1 and 2; the count of state 2, whose
+   bounds are behind it; and command 3. */
+enum { R0 = 26, R1 = 33, R2 = 40, STATE_1 = 57, STATE_2 = 66, COUNT_2 = 69, COMMAND_3 = 98 };
 
 /* A byte that the area has before a call. */
 enum { BEFORE = 0xA5 };
@@ -82,7 +85,7 @@ static void states_and_ports(void)
     expect_bytes("labels below a state", out, expected, sizeof image);
 }
 
-/* The image checks up to 9 and 16, then 14, then 18. No byte changes. */
+/* The image checks up to 9, 16 and 19, then 20, then 14, then 18. No byte changes. */
 static void refusals(void)
 {
     uint8_t image[sizeof low];
@@ -109,8 +112,8 @@ static void no_raising(void)
 
     memcpy(image, low, sizeof low);
     image[STATE_1] = 1;
-    image[STATE_1 + 4] = 0;
-    image[59 + 8 * 3 + 1] = 2; /* command 3: goto 2 */
+    image[STATE_2] = 0;
+    image[COMMAND_3 + 1] = 2; /* goto 2 */
     fill();
     expect("no raising, check", caisson_check(image, sizeof image), CAISSON_ASSIGN_FLOW, 1, 0);
     expect("no raising", caisson_raise(image, sizeof image, out, sizeof image), CAISSON_NO_RAISING, 0, 0);
@@ -122,13 +125,14 @@ static void no_raising(void)
 static void raised_condition(void)
 {
     static const uint8_t image[] = {
-        20, 0, 4, 0, 24, 0, 14, 0, 38, 0, 8, 0, 46, 0, 48, 0, 94, 0, 16, 0,
+        20, 0, 4, 0, 24, 0, 14, 0, 38, 0, 18, 0, 56, 0, 48, 0, 104, 0, 16, 0,
         /* labels */
         3, 0, 2, 0,
         /* registers: label, kind, reset, width */
         0, 0, 0, 0, 0, 0, 32, 1, 1, 0, 0, 0, 0, 32,
-        /* states: parent, label, command */
-        0, 0, 0, 0, 0, 0, 5, 0,
+        /* states: parent, label, command, count and bounds of parameters */
+        0, 0, 0, 0, 0, 0, 0, 0, 0,
+        0, 0, 5, 0, 0, 0, 0, 0, 0,
         /* commands */
         3, 0, 0, 0, 0, 0, 0, 0, /* 0: fall */
         1, 0, 0, 0, 0, 0, 0, 0, /* 1: r0 := e0 */
@@ -147,6 +151,30 @@ static void raised_condition(void)
     expect_unchanged("the area after a raised condition");
 }
 
+/* State 2 gets a parameter of bounds 0 and 1, and goes to itself with r0. 20 comes before 14 and 18, and after
+   the image checks; the labels do not matter. */
+static void parameters(void)
+{
+    uint8_t image[sizeof low];
+
+    memcpy(image, low, sizeof low);
+    image[COUNT_2] = 1;
+    image[COUNT_2 + 2] = 1; /* the upper bound */
+    fill();
+    expect("parameters, check", caisson_check(image, sizeof image), CAISSON_ASSIGN_FLOW, 2, 0);
+    expect("parameters", caisson_raise(image, sizeof image, out, sizeof image), CAISSON_RAISE_PARAMETERS, 0, 0);
+    expect("parameters, no area", caisson_raise(image, sizeof image, NULL, 0), CAISSON_RAISE_PARAMETERS, 0, 0);
+    image[R0] = image[R1] = 1;
+    expect("parameters, accepted", caisson_check(image, sizeof image), CAISSON_ACCEPTED, 0, 0);
+    expect("parameters of an accepted image", caisson_raise(image, sizeof image, out, sizeof image),
+           CAISSON_RAISE_PARAMETERS, 0, 0);
+    image[COUNT_2 + 4] = 1; /* the upper bound of no parameter */
+    expect("an unused bound", caisson_raise(image, sizeof image, out, sizeof image), CAISSON_PARAMETER, 2, 0);
+    image[R0 + 1] = 1; /* r0 is a port, and command 2 assigns to it */
+    expect("an assigned port", caisson_raise(image, sizeof image, out, sizeof image), CAISSON_PORT_ASSIGNED, 2, 0);
+    expect_unchanged("the area after 20");
+}
+
 int main(void)
 {
     raised();
@@ -154,5 +182,6 @@ int main(void)
     refusals();
     no_raising();
     raised_condition();
+    parameters();
     return report("raising from C");
 }

@@ -4,13 +4,16 @@
 /* A spare child: state 1, of label 1, falls while the port r1 is set; its default child, state 2, has label 1
    too. State 3, its other child, has label 0 and would set r0. */
 static const uint8_t spare[] = {
-    20, 0, 4, 0, 24, 0, 14, 0, 38, 0, 16, 0, 54, 0, 64, 0, 118, 0, 16, 0,
+    20, 0, 4, 0, 24, 0, 14, 0, 38, 0, 36, 0, 74, 0, 64, 0, 138, 0, 16, 0,
     /* labels */
     3, 0, 2, 0,
     /* registers: label, kind, reset, width */
     0, 0, 0, 0, 0, 0, 1, 1, 1, 0, 0, 0, 0, 1,
-    /* states: parent, label, command */
-    0, 0, 0, 0, 0, 1, 3, 0, 1, 1, 4, 0, 1, 0, 7, 0,
+    /* states: parent, label, command, count and bounds of parameters */
+    0, 0, 0, 0, 0, 0, 0, 0, 0,
+    0, 1, 3, 0, 0, 0, 0, 0, 0,
+    1, 1, 4, 0, 0, 0, 0, 0, 0,
+    1, 0, 7, 0, 0, 0, 0, 0, 0,
     /* commands */
     3, 0, 0, 0, 0, 0, 0, 0, /* 0: fall */
     3, 0, 0, 0, 0, 0, 0, 0, /* 1: fall */
@@ -32,10 +35,10 @@ static void spare_children(void)
 
     expect("a spare child", caisson_check(spare, sizeof spare), CAISSON_ACCEPTED, 0, 0);
     memcpy(damaged, spare, sizeof spare);
-    damaged[47] = 0; /* the label of state 2, the default child */
+    damaged[57] = 0; /* the label of state 2, the default child */
     expect("a low default child", caisson_check(damaged, sizeof damaged), CAISSON_CHILD_LABEL, 2, 0);
-    damaged[62] = 4; /* command 1, the only fall of state 1: goto 1 */
-    damaged[63] = 1;
+    damaged[82] = 4; /* command 1, the only fall of state 1: goto 1 */
+    damaged[83] = 1;
     expect("low children of a state without a fall", caisson_check(damaged, sizeof damaged), CAISSON_ACCEPTED, 0, 0);
 }
 
@@ -43,17 +46,17 @@ static void spare_children(void)
    from reset comes to may be sound: a run takes them, and r0 shows r1. */
 static void restored_targets(void)
 {
-    uint8_t registers[8], targets[4];
+    uint8_t registers[8], targets[12];
 
     for (uint8_t reading = 0; reading < 2; reading++) {
-        expect("reset", caisson_reset(spare, sizeof spare, registers, 8, targets, 4), CAISSON_ACCEPTED, 0, 0);
+        expect("reset", caisson_reset(spare, sizeof spare, registers, 8, targets, 12), CAISSON_ACCEPTED, 0, 0);
         expect("a reading", caisson_write_port(spare, sizeof spare, registers, 8, 1, reading), CAISSON_ACCEPTED, 0, 0);
-        expect("a run from reset", caisson_run(spare, sizeof spare, registers, 8, targets, 4, 1000), CAISSON_ACCEPTED,
+        expect("a run from reset", caisson_run(spare, sizeof spare, registers, 8, targets, 12, 1000), CAISSON_ACCEPTED,
                0, 1000);
         expect_bytes("registers from reset", registers, (const uint8_t[]){0, 0, 0, 0, reading, 0, 0, 0}, 8);
         expect_bytes("targets from reset", targets, (const uint8_t[]){1, 2, 2, 3}, 4);
         targets[1] = 3; /* the spare child, as only a host could write it */
-        expect("a run from elsewhere", caisson_run(spare, sizeof spare, registers, 8, targets, 4, 1), CAISSON_ACCEPTED,
+        expect("a run from elsewhere", caisson_run(spare, sizeof spare, registers, 8, targets, 12, 1), CAISSON_ACCEPTED,
                0, 1);
         expect_bytes("registers from elsewhere", registers, (const uint8_t[]){reading, 0, 0, 0, reading, 0, 0, 0}, 8);
     }

@@ -45,7 +45,26 @@ static bool accepted(const char *what, caisson_answer answer, const struct box *
     return false;
 }
 
-/* The values at or below the level, one after the other; answers how many bytes they take. */
+/* The bytes of a record at most: a value for each register; for each state its number and what is bound to it. */
+#define LOW_RECORD (CAISSON_REGISTERS * CAISSON_WORD + CAISSON_STATES * (1u + CAISSON_PARAMETERS))
+
+/* Of a design with parameters the states that the level may have seen run in the last cycle, with their
+   bindings. */
+static size_t low_states(const struct pair *pair, const struct box *box, uint8_t *record)
+{
+    uint8_t states[CAISSON_STATES];
+    size_t count = box_path(box, pair->level, states);
+    size_t length = 0;
+
+    for (size_t i = 0; i < count; i++) {
+        record[length++] = states[i];
+        for (size_t own = 0; own < table_parameters(pair->image, states[i]); own++)
+            record[length++] = (uint8_t)table_bound(pair->image, box->targets_before, states[i], own);
+    }
+    return length;
+}
+
+/* The values at or below the level, one after the other, and the states; answers how many bytes they take. */
 static size_t low_record(const struct pair *pair, const struct box *box, uint8_t *record)
 {
     size_t length = 0;
@@ -56,12 +75,12 @@ static size_t low_record(const struct pair *pair, const struct box *box, uint8_t
             length += CAISSON_WORD;
         }
     }
-    return length;
+    return table_has_parameters(pair->image) ? length + low_states(pair, box, record + length) : length;
 }
 
 static bool low_equal(const struct pair *pair)
 {
-    uint8_t records[2][CAISSON_REGISTERS * CAISSON_WORD];
+    uint8_t records[2][LOW_RECORD];
     size_t length = low_record(pair, &pair->boxes[0], records[0]);
 
     return low_record(pair, &pair->boxes[1], records[1]) == length && memcmp(records[0], records[1], length) == 0;

@@ -1,6 +1,7 @@
 /*
  * pair.h: two boxes with one design. Ports at or below a level are written alike in both, the others
- * each as chance has it; the registers at or below the level must stay the same.
+ * each as chance has it; the registers at or below the level must stay the same, and of a design with
+ * parameters the states that the level sees, with the registers bound to them.
  */
 #ifndef PAIR_H
 #define PAIR_H

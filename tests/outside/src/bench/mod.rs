@@ -7,4 +7,5 @@ mod subjects;
 pub mod check;
 pub mod gates;
 pub mod raise;
+pub mod reset;
 pub mod run;

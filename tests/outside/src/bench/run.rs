@@ -1,11 +1,11 @@
 //! Run: cycles in a second in the longest runs, and the time of a run of one cycle.
 
 use super::measure::{in_turns, Call};
-use super::subjects::accepted;
+use super::subjects::{self, accepted};
 use crate::answer::Answer;
-use crate::designs::{lease, smallest, two_groups};
+use crate::designs::{lease, one_group, smallest, two_groups};
 use crate::generate::random::Random;
-use crate::generate::{design, Size};
+use crate::generate::{design, full_of_parameters, Size};
 use crate::table::Table;
 use crate::{library, reference};
 
@@ -14,15 +14,21 @@ const LONGEST: u32 = 1_000_000;
 /// The seed of a largest design with long cycles and walks, found by trying some hundreds.
 const LARGEST_SEED: u64 = 40;
 
+/// The seed of one full of parameters, found in the same way.
+const PARAMETERS_SEED: u64 = 117;
+
 pub fn print() {
     let largest = design(&mut Random::new(LARGEST_SEED), Size::LARGEST);
+    let parameters = full_of_parameters(&mut Random::new(PARAMETERS_SEED), Size::LARGEST);
     println!("runs of 1,000,000 cycles: medians");
     println!("design        library cycles/s  reference cycles/s  library/reference time");
     for (name, table, rounds) in [
         ("lease", lease(), 5),
         ("two groups", two_groups(), 5),
+        ("one group", one_group(), 5),
         // Seconds each.
         ("largest", largest.clone(), 1),
+        ("parameters", parameters.clone(), 1),
     ] {
         let (library, reference) = time(&[table], LONGEST, rounds);
         println!(
@@ -39,6 +45,8 @@ pub fn print() {
         ("largest", vec![largest]),
         // A box that does other work between two cycles meets its design anew each time.
         ("16 largest", sixteen_largest()),
+        ("parameters", vec![parameters]),
+        ("16 of these", subjects::full_of_parameters()),
     ] {
         let (library, reference) = time(&tables, 1, 31);
         println!(
@@ -51,7 +59,7 @@ pub fn print() {
 }
 
 /// Designs of the largest size, to be taken in turns.
-fn sixteen_largest() -> Vec<Table> {
+pub fn sixteen_largest() -> Vec<Table> {
     (1..=16)
         .map(|seed| design(&mut Random::new(seed), Size::LARGEST))
         .collect()
@@ -79,8 +87,8 @@ struct Site {
 impl Site {
     fn reset(table: &Table) -> Self {
         let image = accepted(table);
-        let mut registers = vec![0; 4 * table.registers.len()];
-        let mut targets = vec![0; table.states.len()];
+        let (registers, targets) = table.areas();
+        let (mut registers, mut targets) = (vec![0; registers], vec![0; targets]);
         reference::reset(&image, &mut registers, &mut targets);
         Self {
             image,

@@ -3,6 +3,7 @@
 use super::chains::random_chain;
 use crate::compare::passes::Passes;
 use crate::designs::{lease, longest_chain};
+use crate::generate;
 use crate::generate::faults::leaking;
 use crate::generate::random::Random;
 use crate::generate::{design, lowered, Size};
@@ -39,8 +40,15 @@ fn refused_for_flow(image: &[u8]) -> bool {
     (10..=12).contains(&reference::check(image).number)
 }
 
-/// The lease design, then designs of about a quarter, a half and all of the largest image, and the last
-/// with faults of flow.
+/// Designs of the largest size with two parameters in every state that may take some.
+pub fn full_of_parameters() -> Vec<Table> {
+    (1..=IMAGES)
+        .map(|seed| generate::full_of_parameters(&mut Random::new(seed), Size::LARGEST))
+        .collect()
+}
+
+/// The lease design, then designs of about a quarter, a half and all of the largest image, the last with
+/// faults of flow, and as large ones full of parameters.
 pub fn by_size() -> Vec<Subject> {
     let of_size = |name, part| Subject {
         name,
@@ -70,6 +78,10 @@ pub fn by_size() -> Vec<Subject> {
                 .filter(|image| refused_for_flow(image))
                 .take(IMAGES as usize)
                 .collect(),
+        },
+        Subject {
+            name: "parameters",
+            images: full_of_parameters().iter().map(accepted).collect(),
         },
     ]
 }

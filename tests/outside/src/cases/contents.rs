@@ -55,7 +55,7 @@ fn the_lowest_register_counts() {
 #[test]
 fn contents_before_targets() {
     let mut areas = holding([0, 0, 0, 2, 0]);
-    areas.targets = vec![0, 0, 0, 0];
+    areas.set_targets(&[0, 0, 0, 0]);
     assert_eq!(refused_run(&areas, 0), (14, 3));
     assert_eq!(refused_run(&areas, 1), (14, 3));
     // Port write does not look at the targets.

@@ -1,13 +1,15 @@
 //! The generator keeps its word: accepted designs of every size, and every fault met.
 
 use super::Areas;
+use crate::answer::Answer;
 use crate::compare::children::note_children;
 use crate::compare::kinds::note_kind;
 use crate::compare::operands::note_operands;
+use crate::compare::parameters::note_parameters;
 use crate::compare::reading::note_reading;
 use crate::compare::tally::Tally;
 use crate::generate::random::Random;
-use crate::generate::{design, faults, Size};
+use crate::generate::{any_design, design, faults, parameterised, Size};
 use crate::reference;
 use crate::reference::image::{Image, PORT};
 use crate::reference::limits::LARGEST_IMAGE;
@@ -22,9 +24,24 @@ fn designs_are_accepted() {
         let size = Size::random(&mut random);
         let table = design(&mut random, size);
         assert_eq!(reference::check(&table.image()).number, 0);
+        assert!(!table.has_parameters());
         read_ports += usize::from(reads_port(&table));
     }
     assert!(read_ports >= 150, "{read_ports} of 300 read a port");
+}
+
+/// By bounds alone the generator keeps what the reference asks for each choice.
+#[test]
+fn designs_with_parameters_are_accepted() {
+    let mut random = Random::new(28);
+    let mut with = 0;
+    for _ in 0..300 {
+        let size = Size::random(&mut random);
+        let table = parameterised(&mut random, size);
+        assert_eq!(reference::check(&table.image()), Answer::accepted(0));
+        with += usize::from(table.has_parameters());
+    }
+    assert!(with >= 200, "{with} of 300 have parameters");
 }
 
 fn reads_port(table: &Table) -> bool {
@@ -38,7 +55,7 @@ fn the_largest_design_is_the_largest_image() {
     let mut random = Random::new(12);
     let image = design(&mut random, Size::LARGEST).image();
     assert_eq!(image.len(), LARGEST_IMAGE);
-    assert_eq!(LARGEST_IMAGE, 25_332);
+    assert_eq!(LARGEST_IMAGE, 25_652);
     assert_eq!(reference::check(&image).number, 0);
 }
 
@@ -50,7 +67,7 @@ fn faults_are_met() {
     let mut met = vec![0; *most as usize + 1];
     for _ in 0..200 {
         let size = Size::random(&mut random);
-        let table = design(&mut random, size);
+        let table = any_design(&mut random, size);
         let answer = reference::check(&faults::spoil_directory(&table, &mut random));
         met[1] += usize::from(answer.number == 1);
         for &number in faults::NUMBERS {
@@ -115,6 +132,34 @@ fn children_are_met() {
         for faults in [&[][..], &[9], &[9, 9, 9]] {
             let image = faults::spoiled(&table, faults, &mut random).image();
             note_children(&mut tally, &image, reference::check(&image));
+        }
+    }
+    assert_eq!(tally.missing_reasons(), NONE);
+}
+
+/// Every rule of refusal 19, what stands beside it in 4, 5 and 16, and flow that some choices keep.
+#[test]
+fn parameters_are_met() {
+    let mut random = Random::new(29);
+    let mut tally = Tally::default();
+    for _ in 0..900 {
+        let size = Size::random(&mut random);
+        let table = any_design(&mut random, size);
+        for faults in [
+            &[][..],
+            &[4],
+            &[5],
+            &[16],
+            &[19],
+            &[19, 19, 19],
+            &[16, 19],
+            &[9],
+            &[10],
+            &[11],
+            &[12],
+        ] {
+            let image = faults::spoiled(&table, faults, &mut random).image();
+            note_parameters(&mut tally, &image, reference::check(&image)).unwrap();
         }
     }
     assert_eq!(tally.missing_reasons(), NONE);

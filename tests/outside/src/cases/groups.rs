@@ -15,7 +15,7 @@ fn two_groups_take_turns() {
         assert_eq!(areas.run(1).count, 1);
         lines.push((walk, areas.values()));
         if cycle == 4 {
-            assert_eq!(areas.targets, [1, 1, 5, 6, 4, 5, 6, 7]);
+            assert_eq!(areas.only_targets(), [1, 1, 5, 6, 4, 5, 6, 7]);
         }
     }
     let expected: [(&[u8], [u32; 4]); 6] = [

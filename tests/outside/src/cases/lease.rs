@@ -7,12 +7,12 @@ use crate::reference::listing;
 #[test]
 fn image_has_the_documented_pairs() {
     let image = lease().image();
-    assert_eq!(image.len(), 210);
+    assert_eq!(image.len(), 235);
     let fields: Vec<u16> = image[..20]
         .chunks(2)
         .map(|field| u16::from_le_bytes([field[0], field[1]]))
         .collect();
-    assert_eq!(fields, [20, 4, 24, 14, 38, 20, 58, 104, 162, 48]);
+    assert_eq!(fields, [20, 4, 24, 14, 38, 45, 83, 104, 187, 48]);
 }
 
 #[test]
@@ -62,7 +62,7 @@ fn p2_port_seven_walks_to_four() {
 #[test]
 fn p3_goto_clears_deeper_choices() {
     let mut areas = Areas::reset(&lease());
-    areas.targets = vec![1, 1, 4, 3, 4];
+    areas.set_targets(&[1, 1, 4, 3, 4]);
     assert_eq!(areas.run(1).count, 1);
-    assert_eq!(areas.targets, [2, 1, 3, 3, 4]);
+    assert_eq!(areas.only_targets(), [2, 1, 3, 3, 4]);
 }

@@ -25,7 +25,8 @@ fn ports() {
 
 #[test]
 fn lengths_told() {
-    for (table, registers, targets) in [(lease(), 8, 5), (smallest(), 0, 2), (two_groups(), 16, 8)]
+    for (table, registers, targets) in
+        [(lease(), 8, 15), (smallest(), 0, 6), (two_groups(), 16, 24)]
     {
         let image = table.image();
         assert_eq!(
@@ -43,7 +44,17 @@ fn lengths_told() {
 
 #[test]
 fn area_lengths() {
-    for (registers, targets) in [(7, 5), (9, 5), (4, 5), (0, 5), (8, 4), (8, 6), (8, 0)] {
+    for (registers, targets) in [
+        (7, 15),
+        (9, 15),
+        (4, 15),
+        (0, 15),
+        (8, 14),
+        (8, 16),
+        (8, 5),
+        (8, 10),
+        (8, 0),
+    ] {
         let mut areas = Areas::reset(&lease());
         areas.registers.resize(registers, 0xAA);
         areas.targets.resize(targets, 0xAA);
@@ -125,5 +136,5 @@ fn reset_judges_lengths_only() {
     let answer = reference::reset(&areas.image, &mut areas.registers, &mut areas.targets);
     assert_eq!(answer, Answer::accepted(0));
     assert_eq!(areas.registers, [3, 0, 0, 0, 0, 0, 0, 0]);
-    assert_eq!(areas.targets, [1, 1, 3, 3, 4]);
+    assert_eq!(areas.only_targets(), [1, 1, 3, 3, 4]);
 }

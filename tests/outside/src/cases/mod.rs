@@ -1,5 +1,6 @@
 //! The cases that documents and decisions give, run on the reference itself.
 
+mod bindings;
 mod contents;
 mod examples;
 mod gates;
@@ -7,6 +8,7 @@ mod generator;
 mod groups;
 mod lease;
 mod lengths;
+mod parameters;
 mod ports;
 mod raising;
 mod reading;
@@ -17,6 +19,7 @@ mod widths;
 
 use crate::answer::Answer;
 use crate::reference;
+use crate::reference::limits::TARGET_BYTES;
 use crate::table::Table;
 
 /// A design with its two areas.
@@ -29,10 +32,11 @@ struct Areas {
 impl Areas {
     /// Areas of the right lengths, reset.
     fn reset(table: &Table) -> Areas {
+        let (registers, targets) = table.areas();
         let mut areas = Areas {
             image: table.image(),
-            registers: vec![0xAA; 4 * table.registers.len()],
-            targets: vec![0xAA; table.states.len()],
+            registers: vec![0xAA; registers],
+            targets: vec![0xAA; targets],
         };
         let answer = reference::reset(&areas.image, &mut areas.registers, &mut areas.targets);
         assert_eq!(answer, Answer::accepted(0));
@@ -49,6 +53,15 @@ impl Areas {
 
     fn walk(&self) -> Vec<u8> {
         reference::walk(&self.image, &self.registers, &self.targets).unwrap()
+    }
+
+    /// The targets without the bindings behind them.
+    fn only_targets(&self) -> &[u8] {
+        &self.targets[..self.targets.len() / TARGET_BYTES]
+    }
+
+    fn set_targets(&mut self, targets: &[u8]) {
+        self.targets[..targets.len()].copy_from_slice(targets);
     }
 
     fn set_values(&mut self, values: &[u32]) {

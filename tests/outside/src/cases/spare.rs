@@ -9,7 +9,7 @@ use crate::table::Table;
 /// r0 after one cycle with this r1 and these targets.
 fn r0_after(targets: [u8; 4], r1: u32) -> u32 {
     let mut areas = Areas::reset(&spare_child());
-    areas.targets = targets.to_vec();
+    areas.set_targets(&targets);
     assert_eq!(areas.write_port(1, r1).number, 0);
     assert_eq!(areas.run(1).count, 1);
     areas.values()[0]
@@ -18,8 +18,8 @@ fn r0_after(targets: [u8; 4], r1: u32) -> u32 {
 /// The lent targets are sound, but no run from reset leaves them.
 #[test]
 fn why_from_reset() {
-    let from_reset = Areas::reset(&spare_child()).targets;
-    assert_eq!(from_reset, [1, 2, 2, 3]);
+    let from_reset = Areas::reset(&spare_child());
+    assert_eq!(from_reset.only_targets(), [1, 2, 2, 3]);
     assert_eq!([0, 1].map(|r1| r0_after([1, 2, 2, 3], r1)), [0, 0]);
     assert_eq!([0, 1].map(|r1| r0_after([1, 3, 2, 3], r1)), [0, 1]);
 }
@@ -36,7 +36,7 @@ const SIZE: Size = Size {
 #[test]
 fn a_fall_comes_to_the_default_child() {
     let areas = Areas::reset(&group(Table::fall, &[1, 0, 2]));
-    assert_eq!(areas.targets, [1, 2, 2, 3, 4]);
+    assert_eq!(areas.only_targets(), [1, 2, 2, 3, 4]);
     assert_eq!(areas.walk(), [0, 1, 2]);
 }
 
@@ -52,7 +52,8 @@ fn from_reset_no_walk_comes_down() {
             assert!(!comes_down(&table, &areas.walk()));
             assert_eq!(areas.run(1).count, 1);
         }
-        for (state, target) in areas.targets.iter_mut().enumerate() {
+        let states = table.states.len();
+        for (state, target) in areas.targets[..states].iter_mut().enumerate() {
             let mut children = table.children(state).into_iter();
             let low = children.find(|&child| comes_down(&table, &[state as u8, child]));
             *target = low.unwrap_or(*target);

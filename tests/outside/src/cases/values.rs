@@ -40,9 +40,9 @@ fn an_assignment_shows_at_the_next_read() {
 #[test]
 fn a_goto_clears_grandchildren() {
     let mut areas = Areas::reset(&three_levels());
-    areas.targets = vec![2, 4, 8, 6, 4, 5, 6, 7, 8];
+    areas.set_targets(&[2, 4, 8, 6, 4, 5, 6, 7, 8]);
     assert_eq!(areas.run(1).count, 1);
-    assert_eq!(areas.targets, [1, 3, 8, 5, 4, 5, 6, 7, 8]);
+    assert_eq!(areas.only_targets(), [1, 3, 8, 5, 4, 5, 6, 7, 8]);
 }
 
 #[test]

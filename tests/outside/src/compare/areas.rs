@@ -45,9 +45,10 @@ pub struct Areas {
 
 impl Areas {
     pub fn new(table: &Table, random: &mut Random) -> Areas {
+        let (registers, targets) = table.areas();
         Areas {
-            registers: Area::new(4 * table.registers.len(), random),
-            targets: Area::new(table.states.len(), random),
+            registers: Area::new(registers, random),
+            targets: Area::new(targets, random),
         }
     }
 

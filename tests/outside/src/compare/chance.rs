@@ -2,36 +2,94 @@
 //! between two calls.
 
 use super::areas::Areas;
-use super::engine::Call;
+use super::calls::Call;
 use crate::generate::random::Random;
+use crate::reference::limits::MOST_PARAMETERS;
 use crate::table::{Register, Table};
 
 /// What the host writes into the areas between two calls.
 pub fn disturb(areas: &mut Areas, table: &Table, random: &mut Random) {
-    match random.below(16) {
+    let states = table.states.len();
+    match random.below(20) {
         // Sound targets everywhere: choices that the design may never have made.
-        0..=2 => {
+        0..=3 => {
             let targets = any_sound_targets(table, random);
-            areas.targets.whole().copy_from_slice(&targets);
+            areas.targets.whole()[..states].copy_from_slice(&targets);
+            if random.percent(80) {
+                any_sound_bindings(areas, table, random);
+            }
         }
-        3 => any_target(areas, table, random),
-        4 | 5 if !table.registers.is_empty() => {
+        4 => any_target(areas, table, random),
+        5 | 6 if !table.registers.is_empty() => {
             let register = random.below(table.registers.len());
             let width = table.registers[register].width;
             areas.set_value(register, random.fitting(width));
         }
-        6 | 7 => {
+        7 | 8 => {
             for (register, record) in table.registers.iter().enumerate() {
                 areas.set_value(register, random.fitting(record.width));
             }
         }
-        8 => {
+        9 => {
             too_large_values(areas, table, random);
             if random.percent(30) {
                 any_target(areas, table, random);
             }
         }
+        10 => any_sound_bindings(areas, table, random),
+        11 => any_binding(areas, table, random),
+        12 => {
+            any_binding(areas, table, random);
+            if random.percent(40) {
+                any_target(areas, table, random);
+            }
+        }
         _ => {}
+    }
+}
+
+/// For each parameter a register that fits it, if there is one; elsewhere any, or 0.
+fn any_sound_bindings(areas: &mut Areas, table: &Table, random: &mut Random) {
+    let bindings = &mut areas.targets.whole()[table.states.len()..];
+    for (state, bound) in table
+        .states
+        .iter()
+        .zip(bindings.chunks_mut(MOST_PARAMETERS))
+    {
+        for (number, byte) in bound.iter_mut().enumerate() {
+            let fitting = match state.pairs().get(number) {
+                Some(&bounds) => table.fitting(&[], bounds),
+                None => Vec::new(),
+            };
+            *byte = if !fitting.is_empty() {
+                *random.pick(&fitting)
+            } else if table.registers.is_empty() || random.percent(50) {
+                0
+            } else {
+                random.below(table.registers.len()) as u8
+            };
+        }
+    }
+}
+
+/// One binding or some, perhaps unsound, rather of states along the targets.
+fn any_binding(areas: &mut Areas, table: &Table, random: &mut Random) {
+    let states = table.states.len();
+    let registers = table.registers.len();
+    for _ in 0..*random.pick(&[1, 1, 1, 2, 4]) {
+        let mut state = random.index(states);
+        if random.percent(60) {
+            // Down the targets for some steps, as far as they are states.
+            state = 0;
+            for _ in 0..random.between(1, 6) {
+                let target = usize::from(areas.targets.whole()[state]);
+                state = if target < states { target } else { state };
+            }
+        }
+        let known = random.below(registers.max(1)) as u8;
+        let byte = *random.pick(&[known, known, known, registers as u8, 0, 64, 255]);
+        let place = states + MOST_PARAMETERS * state + random.below(MOST_PARAMETERS);
+        areas.targets.whole()[place] = byte;
     }
 }
 
@@ -110,7 +168,10 @@ pub fn any_lengths(areas: &Areas, random: &mut Random) -> (usize, usize) {
     if random.percent(15) {
         let length = random.pick(&[0, 1]).to_owned();
         let right = lengths[length];
-        lengths[length] = match random.below(5) {
+        lengths[length] = match random.below(7) {
+            // Targets without bindings, or with one for each state.
+            5 => right / 3,
+            6 => right / 3 * 2,
             0 => right + 1,
             1 => right.saturating_sub(1),
             2 => right + 4,

@@ -4,12 +4,13 @@
 use super::children::note_children;
 use super::difference::Difference;
 use super::kinds::note_kind;
+use super::parameters::note_parameters;
 use super::reading::note_reading;
 use super::reasons::note_register;
 use super::tally::Tally;
 use crate::answer::Answer;
 use crate::generate::random::Random;
-use crate::generate::{design, faults, Size};
+use crate::generate::{any_design, faults, Size};
 use crate::{designs, library, reference};
 
 /// The lengths are asked for on the images of one seed in so many: each of the calls takes as long
@@ -58,7 +59,7 @@ impl Tallies {
         let mut missing = Vec::new();
         for (call, tally) in CALLS.iter().zip(&self.0) {
             // These take no area, no register, no value and no cycle count, and raise nothing.
-            for what in tally.missing(&[13, 14, 15, 17, 18]) {
+            for what in tally.missing(&[13, 14, 15, 17, 18, 20]) {
                 missing.push(format!("{}: {what}", call.name));
             }
         }
@@ -76,7 +77,8 @@ impl Judges<'_> {
     /// Judges one image by both; it stands in an allocation of exactly its length.
     fn compare(&mut self, image: Vec<u8>) -> Result<(), Difference> {
         let lent: Box<[u8]> = image.clone().into_boxed_slice();
-        for (call, tally) in self.calls.iter().zip(&mut self.tallies.0) {
+        for (number, call) in self.calls.iter().enumerate() {
+            let tally = &mut self.tallies.0[number];
             let expected = (call.reference)(&image);
             let given = (call.library)(&lent);
             if given != expected {
@@ -91,6 +93,11 @@ impl Judges<'_> {
             note_kind(tally, &image, expected);
             note_children(tally, &image, expected);
             note_reading(tally, &image, expected);
+            // By check alone: it takes long, and the other calls judge the same.
+            if number == 0 {
+                note_parameters(tally, &image, expected)
+                    .map_err(|why| Difference::new(&image, &why, given, expected))?;
+            }
         }
         Ok(())
     }
@@ -116,7 +123,8 @@ pub fn fixed_images(tallies: &mut Tallies) -> Result<(), Difference> {
         }
         for place in 0..image.len() {
             for byte in [
-                0, 1, 2, 3, 4, 5, 6, 8, 9, 10, 11, 12, 13, 16, 31, 32, 33, 64, 128, 255,
+                0, 1, 2, 3, 4, 5, 6, 8, 9, 10, 11, 12, 13, 15, 16, 17, 18, 31, 32, 33, 63, 64, 65,
+                66, 128, 255,
             ] {
                 let mut changed = image.clone();
                 changed[place] = byte;
@@ -137,7 +145,7 @@ pub fn images_of_seed(seed: u64, tallies: &mut Tallies) -> Result<(), Difference
     };
     let mut random = Random::new(seed);
     let size = Size::random(&mut random);
-    let table = design(&mut random, size);
+    let table = any_design(&mut random, size);
     let image = table.image();
     let made = reference::check(&image);
     if made.number != 0 {
@@ -155,9 +163,13 @@ pub fn images_of_seed(seed: u64, tallies: &mut Tallies) -> Result<(), Difference
         }
         judges.compare(spoiled(&[number; 3], &mut random))?;
     }
-    // 16 is judged where its number would not have it.
+    // 16 and 19 are judged where their numbers would not have them.
     for other in [8, 9, 10, 11, 12] {
         judges.compare(spoiled(&[16, other], &mut random))?;
+        judges.compare(spoiled(&[19, other], &mut random))?;
+    }
+    for numbers in [&[16, 19][..], &[4, 19], &[5, 19], &[19, 9, 10]] {
+        judges.compare(spoiled(numbers, &mut random))?;
     }
     for _ in 0..6 {
         judges.compare(faults::leaking(&table, &mut random).image())?;

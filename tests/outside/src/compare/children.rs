@@ -32,7 +32,12 @@ pub fn note_children(tally: &mut Tally, bytes: &[u8], answer: Answer) {
     if !matches!(answer.number, 0 | 9) {
         return;
     }
-    let low = low_children(&Image::open(bytes).expect("an image with good sections"));
+    let image = Image::open(bytes).expect("an image with good sections");
+    if image.states().any(|state| state.count > 0) {
+        // Of these `parameters` has the reasons.
+        return;
+    }
+    let low = low_children(&image);
     if answer.number == 0 {
         note_accepted(tally, &low);
     } else {
@@ -120,12 +125,17 @@ impl Low {
     }
 }
 
-/// In the order of their numbers. Expects an image that passes the checks before 9.
+/// In the order of their numbers; none in a design with parameters. Expects an image that passes the
+/// checks before 9.
 pub fn low_children(image: &Image) -> Vec<Low> {
     let rows: Vec<u16> = image.rows().collect();
     let states: Vec<State> = image.states().collect();
     let commands: Vec<Node> = image.commands().collect();
     let flows = |from: u8, to: u8| rows[usize::from(from)] >> to & 1 == 1;
+    if states.iter().any(|state| state.count > 0) {
+        // What is low then depends on the choice of labels.
+        return Vec::new();
+    }
     let mut low = Vec::new();
     for (child, state) in states.iter().enumerate().skip(1) {
         let parent = &states[usize::from(state.parent)];

@@ -1,28 +1,28 @@
-//! Calls as data, and the two engines that can make them.
+//! The two engines that can make calls.
 
+use super::calls::Call;
 use crate::answer::Answer;
-use crate::{library, reference};
-
-#[derive(Clone, Copy, Debug, PartialEq, Eq)]
-pub enum Call {
-    Reset,
-    WritePort { register: u32, value: u32 },
-    Run { cycles: u32 },
-}
+#[cfg(feature = "library")]
+use crate::library;
+use crate::reference;
 
 pub struct Engine {
+    pub check: fn(&[u8]) -> Answer,
     reset: fn(&[u8], &mut [u8], &mut [u8]) -> Answer,
     write_port: fn(&[u8], &mut [u8], u32, u32) -> Answer,
     run: fn(&[u8], &mut [u8], &mut [u8], u32) -> Answer,
 }
 
+#[cfg(feature = "library")]
 pub const LIBRARY: Engine = Engine {
+    check: library::check,
     reset: library::reset,
     write_port: library::write_port,
     run: library::run,
 };
 
 pub const REFERENCE: Engine = Engine {
+    check: reference::check,
     reset: reference::reset,
     write_port: reference::write_port,
     run: reference::run,

@@ -1,17 +1,19 @@
-//! Demand 3 tried on the library: matching lists have equal views.
+//! Demand 3 tried on an engine: matching lists have equal views.
 
 use super::areas::Areas;
+use super::calls::Call;
 use super::children::low_children;
 use super::difference::Difference;
-use super::engine::Call;
+use super::engine::Engine;
 use super::matching::{altered, common_list, dressed, is_too_large};
 use super::view::Stage;
 use crate::generate::random::Random;
-use crate::generate::{design, faults, Size};
+use crate::generate::{any_design as generated, faults, Size};
 use crate::reference::image::Image;
+use crate::reference::limits::{MOST_CYCLES, TARGET_BYTES};
 use crate::reference::machine::Machine;
 use crate::table::Table;
-use crate::{designs, library, reference};
+use crate::{designs, reference};
 
 const PAIRS: usize = 4;
 
@@ -20,7 +22,7 @@ const PAIRS: usize = 4;
 pub struct Findings {
     pub pairs: u64,
     pub cycles: u64,
-    /// Designs with a fault in their flow, which the library turned down.
+    /// Designs with a fault of 9 to 12, 16 or 19, which were turned down.
     pub refused: u64,
     /// Matching lists after which some register not at or below the level differs.
     pub hidden_differences: u64,
@@ -36,18 +38,84 @@ pub struct Findings {
     /// differed there from targets that no run from reset leaves.
     pub spare: u64,
     pub spare_entered: u64,
+    /// Matching lists on designs with parameters; how many of them show a register that was bound, have a
+    /// state that is in sight by one binding and not by another, and end with other bindings out of sight.
+    pub parameters: u64,
+    pub bound_seen: u64,
+    pub in_and_out_of_sight: u64,
+    pub hidden_bindings: u64,
 }
 
-pub fn pairs_of_seed(seed: u64, findings: &mut Findings) -> Result<(), Difference> {
+impl Findings {
+    pub fn print(&self) {
+        println!(
+            "{} pairs of matching lists, {} cycles: all views equal",
+            self.pairs, self.cycles
+        );
+        println!(
+            "  {} designs with a fault of 9 to 12, 16 or 19 were refused",
+            self.refused
+        );
+        println!(
+            "  after {} of the pairs registers out of sight differ",
+            self.hidden_differences
+        );
+        println!(
+            "  {} writes of values too large were struck out",
+            self.too_large
+        );
+        println!(
+            "{} of {} lists made not to match were seen to differ",
+            self.altered_seen, self.altered
+        );
+        println!(
+            "{} of {} pairs were seen to differ from the top",
+            self.from_top_seen, self.from_top
+        );
+        println!(
+            "  {} of the pairs see a spare child and not its parent; {} differ where it is entered at once",
+            self.spare, self.spare_entered
+        );
+        println!(
+            "{} of the pairs have parameters: {} show a bound register, {} a state in sight and out of it, \
+             {} end with other bindings out of sight",
+            self.parameters, self.bound_seen, self.in_and_out_of_sight, self.hidden_bindings
+        );
+    }
+
+    /// The test would have found a difference.
+    pub fn able(&self) -> bool {
+        let able = [
+            self.hidden_differences,
+            self.too_large,
+            self.altered_seen,
+            self.from_top_seen,
+            self.spare,
+            self.spare_entered,
+            self.parameters,
+            self.bound_seen,
+            self.in_and_out_of_sight,
+            self.hidden_bindings,
+        ];
+        !able.contains(&0)
+    }
+}
+
+pub fn pairs_of_seed(
+    engine: &Engine,
+    seed: u64,
+    findings: &mut Findings,
+) -> Result<(), Difference> {
     let mut random = Random::new(seed);
     let table = any_design(&mut random);
     let image = table.image();
-    if library::check(&image).number != 0 {
+    if (engine.check)(&image).number != 0 {
         findings.refused += 1;
         return Ok(());
     }
-    let sections = Image::open(&image).expect("flow faults leave the sections alone");
+    let sections = Image::open(&image).expect("these faults leave the sections alone");
     let stage = Stage {
+        engine,
         table: &table,
         image: &image,
         machine: &Machine::new(&sections),
@@ -84,6 +152,14 @@ fn try_pair(stage: &Stage, random: &mut Random, findings: &mut Findings) -> Resu
         ));
     }
     findings.hidden_differences += u64::from(areas[0].values() != areas[1].values());
+    if table.has_parameters() {
+        findings.parameters += 1;
+        findings.bound_seen += u64::from(one.shows_binding());
+        let [one, other] = &mut areas;
+        findings.hidden_bindings += u64::from(bindings(one) != bindings(other));
+        let turns = turns(stage, level, &lists[0], &starts[0]);
+        findings.in_and_out_of_sight += u64::from(turns);
+    }
 
     // The same test where views may differ: it has to find that.
     let changed = altered(&lists[1], table, level, random);
@@ -96,6 +172,33 @@ fn try_pair(stage: &Stage, random: &mut Random, findings: &mut Findings) -> Resu
     findings.from_top += 1;
     findings.from_top_seen += u64::from(one != other);
     enter_spare(stage, level, &lists, starts, findings)
+}
+
+fn bindings(areas: &mut Areas) -> Vec<u8> {
+    let area = areas.targets.whole();
+    area[area.len() / TARGET_BYTES..].to_vec()
+}
+
+/// Some state ran in sight, and out of it in another cycle.
+fn turns(stage: &Stage, level: u8, list: &[Call], start: &Areas) -> bool {
+    let mut areas = start.clone();
+    let mut met = vec![[false; 2]; stage.table.states.len()];
+    for &call in list {
+        let Call::Run { cycles } = call else {
+            stage.make(call, &mut areas);
+            continue;
+        };
+        // A refused run has none.
+        let cycles = if cycles > MOST_CYCLES { 0 } else { cycles };
+        for _ in 0..cycles {
+            for ran in stage.walk(&mut areas) {
+                let sees = stage.table.flows(ran.label, level);
+                met[usize::from(ran.state)][usize::from(sees)] = true;
+            }
+            stage.make(Call::Run { cycles: 1 }, &mut areas);
+        }
+    }
+    met.contains(&[true; 2])
 }
 
 /// The matching lists again, where views may differ: from sound targets that no run from reset leaves,
@@ -128,8 +231,8 @@ fn enter_spare(
     Ok(())
 }
 
-/// Small and lively, and often with a fault in its flow: whatever the library accepts must
-/// keep parties apart.
+/// Small and lively, and often with a fault in its flow, its ports or its parameters: whatever the library
+/// accepts must keep parties apart.
 fn any_design(random: &mut Random) -> Table {
     loop {
         let table = small_design(random);
@@ -141,12 +244,16 @@ fn any_design(random: &mut Random) -> Table {
 }
 
 fn small_design(random: &mut Random) -> Table {
-    let mut table = match random.below(20) {
+    let mut table = match random.below(26) {
         0 => designs::lease(),
         1 => designs::two_groups(),
         2 => designs::valve(),
         3 => designs::level(),
         4 => designs::spare_child(),
+        5 | 6 => designs::one_group(),
+        7 => designs::exchange(),
+        8 => designs::line(),
+        9 => designs::hidden_choice(),
         _ => {
             let size = Size {
                 labels: *random.pick(&[2, 2, 3, 4, 5, 15]),
@@ -155,11 +262,11 @@ fn small_design(random: &mut Random) -> Table {
                 commands: random.between(9, 60),
                 expressions: random.between(10, 60),
             };
-            design(random, size)
+            generated(random, size)
         }
     };
     if random.percent(70) {
-        let number = random.between(9, 12) as u32;
+        let number = *random.pick(&[9, 10, 11, 12, 9, 10, 11, 12, 16, 19]);
         for _ in 0..10 {
             faults::spoil(&mut table, number, random);
             if reference::check(&table.image()).number != 0 {

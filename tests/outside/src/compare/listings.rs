@@ -5,7 +5,7 @@ use super::difference::Difference;
 use crate::designs;
 use crate::examples;
 use crate::generate::random::Random;
-use crate::generate::{design, faults, Size};
+use crate::generate::{any_design, faults, Size};
 use crate::reference;
 use std::io::{self, Write};
 use std::process::{Command, Stdio};
@@ -39,7 +39,7 @@ fn compare(program: &str, input: &[u8]) -> Result<(), Difference> {
 
 fn any_input(random: &mut Random) -> Vec<u8> {
     let size = Size::random(random);
-    let table = match random.below(11) {
+    let table = match random.below(15) {
         0 => designs::lease(),
         1 => designs::two_groups(),
         2 => designs::smallest(),
@@ -47,7 +47,11 @@ fn any_input(random: &mut Random) -> Vec<u8> {
         4 => designs::powers_of_ten(),
         5 => designs::level(),
         6 => designs::spare_child(),
-        _ => design(random, size),
+        7 => designs::one_group(),
+        8 => designs::exchange(),
+        9 => designs::line(),
+        10 => designs::hidden_choice(),
+        _ => any_design(random, size),
     };
     let count = match random.below(8) {
         0 => 0,

@@ -2,14 +2,15 @@
 //! all bytes of both areas and their guards are compared.
 
 use super::areas::Areas;
+use super::calls::Call;
 use super::chance::{any_call, any_lengths, disturb};
 use super::difference::Difference;
-use super::engine::{Call, LIBRARY, REFERENCE};
+use super::engine::{LIBRARY, REFERENCE};
 use super::reasons::{note_call, Lent};
 use super::tally::Tally;
 use crate::designs;
 use crate::generate::random::{Random, EDGES};
-use crate::generate::{design, faults, Size};
+use crate::generate::{any_design, faults, Size};
 use crate::reference::image::{Image, LAST_OPERATION, PORT};
 use crate::reference::refusal;
 use crate::table::Table;
@@ -35,9 +36,9 @@ impl Tallies {
     pub fn missing(&self) -> Vec<String> {
         let mut missing = Vec::new();
         for (name, tally, never) in [
-            ("reset", &self.reset, &[13, 15, 17, 18][..]),
-            ("port write", &self.write_port, &[15, 18]),
-            ("run", &self.run, &[13, 17, 18]),
+            ("reset", &self.reset, &[13, 15, 17, 18, 20][..]),
+            ("port write", &self.write_port, &[15, 18, 20]),
+            ("run", &self.run, &[13, 17, 18, 20]),
         ] {
             for what in tally.missing(never) {
                 missing.push(format!("{name}: {what}"));
@@ -137,7 +138,7 @@ impl<'a> Pair<'a> {
 pub fn lists_of_seed(seed: u64, tallies: &mut Tallies) -> Result<(), Difference> {
     let mut random = Random::new(seed);
     let size = Size::random(&mut random);
-    let table = design(&mut random, size);
+    let table = any_design(&mut random, size);
     let mut image = table.image();
     if random.percent(20) {
         image = match *random.pick(refusal::IMAGE) {
@@ -148,7 +149,8 @@ pub fn lists_of_seed(seed: u64, tallies: &mut Tallies) -> Result<(), Difference>
     let mut pair = Pair::new(&image, &table, &mut random, tallies);
     // Before the first reset registers and targets are any bytes.
     if random.percent(80) {
-        pair.make(Call::Reset, 4 * size.registers, size.states)?;
+        let (registers, targets) = table.areas();
+        pair.make(Call::Reset, registers, targets)?;
     }
     for _ in 0..CALLS {
         pair.change(&mut random, |areas, random| disturb(areas, &table, random));
@@ -166,7 +168,8 @@ pub fn operations(tallies: &mut Tallies) -> Result<(), Difference> {
         let table = designs::one_operation(kind);
         let image = table.image();
         let mut pair = Pair::new(&image, &table, &mut Random::new(0), tallies);
-        let mut make = |call| pair.make(call, 4 * table.registers.len(), table.states.len());
+        let (registers, targets) = table.areas();
+        let mut make = |call| pair.make(call, registers, targets);
         make(Call::Reset)?;
         for (left, right) in edges().flat_map(|left| edges().map(move |right| (left, right))) {
             for (register, value) in [(1, left), (2, right)] {
@@ -183,7 +186,7 @@ pub fn longest_runs(tallies: &mut Tallies) -> Result<(), Difference> {
     for table in designs::worked() {
         let image = table.image();
         let mut pair = Pair::new(&image, &table, &mut Random::new(0), tallies);
-        let (registers, targets) = (4 * table.registers.len(), table.states.len());
+        let (registers, targets) = table.areas();
         pair.make(Call::Reset, registers, targets)?;
         for cycles in [0, 1, 999_999, 1_000_000, 1_000_001, u32::MAX] {
             pair.make(Call::Run { cycles }, registers, targets)?;

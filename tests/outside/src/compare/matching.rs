@@ -1,7 +1,7 @@
 //! Lists of calls that match at a level: the same remains when refused calls and port writes
 //! to registers not at or below the level are struck out.
 
-use super::engine::Call;
+use super::calls::Call;
 use crate::generate::random::Random;
 use crate::reference::image::{INNER, PORT};
 use crate::reference::limits::WIDEST;

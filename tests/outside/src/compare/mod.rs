@@ -1,25 +1,31 @@
 //! The comparison of the proved library, and of the lister, with the reference.
 
+pub mod areas;
 pub mod arguments;
+pub mod bindings;
+pub mod calls;
+pub mod chance;
 pub mod children;
 pub mod difference;
+pub mod engine;
 pub mod gate_reasons;
+pub mod groups;
+pub mod independence;
 pub mod kinds;
 pub mod listings;
+mod matching;
 pub mod operands;
+pub mod parameter_rules;
+pub mod parameters;
 pub mod passes;
 pub mod raised;
 pub mod reading;
+pub mod reasons;
 pub mod tally;
+mod view;
 
 #[cfg(feature = "library")]
-mod areas;
-#[cfg(feature = "library")]
-mod chance;
-#[cfg(feature = "library")]
 pub mod check;
-#[cfg(feature = "library")]
-mod engine;
 #[cfg(feature = "library")]
 mod gate_cycles;
 #[cfg(feature = "library")]
@@ -27,14 +33,6 @@ pub mod gate_independence;
 #[cfg(feature = "library")]
 pub mod gates;
 #[cfg(feature = "library")]
-pub mod independence;
-#[cfg(feature = "library")]
 pub mod lists;
 #[cfg(feature = "library")]
-mod matching;
-#[cfg(feature = "library")]
 pub mod raising;
-#[cfg(feature = "library")]
-mod reasons;
-#[cfg(feature = "library")]
-mod view;

@@ -6,7 +6,7 @@ use super::difference::Difference;
 use super::raised::{note_raised, Raised};
 use super::tally::Tally;
 use crate::generate::random::Random;
-use crate::generate::{chained, design, faults, lowered, Size};
+use crate::generate::{chained, design, faults, lowered, parameterised, Size};
 use crate::reference::image::{Image, INNER};
 use crate::{designs, library, reference};
 
@@ -47,6 +47,9 @@ impl Tallies {
             keeps_its_word(image, out).map_err(|why| difference(format!("{what}: {why}")))?;
         }
         self.0.add(expected, image.len());
+        if expected.number == 20 {
+            note_parameters(&mut self.0, image, length);
+        }
         let raised = Raised { image, out };
         note_raised(&mut self.0, &raised, expected)
             .map_err(|why| difference(format!("{what}: {why}, by both")))
@@ -67,6 +70,14 @@ impl Tallies {
         }
         self.compare(image, right, Area::new(right, random))
     }
+}
+
+/// 20 comes before 14, and whether or not the flow rules are kept.
+fn note_parameters(tally: &mut Tally, image: &[u8], length: usize) {
+    let accepted = reference::check(image).number == 0;
+    tally.note("20 where 14 would follow", length != image.len());
+    tally.note("20, an image that check accepts", accepted);
+    tally.note("20, an image that the flow rules refuse", !accepted);
 }
 
 /// By the library alone: accepted, raised and not lowered, all else as it was, and nothing more to raise.
@@ -134,6 +145,14 @@ pub fn raisings_of_seed(seed: u64, tallies: &mut Tallies) -> Result<(), Differen
         tallies.raise(&leaking.image(), &mut random)?;
         let number = *random.pick(faults::NUMBERS);
         let spoiled = faults::spoiled(&low, &[number], &mut random);
+        tallies.raise(&spoiled.image(), &mut random)?;
+    }
+    // 20, and behind it in areas of another length, and beside faults of the image.
+    let size = Size::random(&mut random);
+    let with_parameters = parameterised(&mut random, size);
+    tallies.raise(&with_parameters.image(), &mut random)?;
+    for number in [9, 10, 11, 12, 16, 19] {
+        let spoiled = faults::spoiled(&with_parameters, &[number], &mut random);
         tallies.raise(&spoiled.image(), &mut random)?;
     }
     let broken = faults::spoil_directory(&table, &mut random);

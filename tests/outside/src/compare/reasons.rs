@@ -1,13 +1,14 @@
 //! Why a call answered as it did, where the number alone does not tell: several faults at once, of
 //! which one counts, and values on either side of a width. Each reason has to be met.
 
+use super::bindings::{note_bindings, Before};
+use super::calls::Call;
 use super::children::note_walk;
-use super::engine::Call;
 use super::operands::note_operands;
 use super::tally::Tally;
 use crate::answer::Answer;
 use crate::reference::image::{Image, Register, PORT};
-use crate::reference::limits::{MOST_CYCLES, WIDEST};
+use crate::reference::limits::{MOST_CYCLES, TARGET_BYTES, WIDEST};
 use crate::reference::machine::Machine;
 
 /// Refusal 3, by the field that breaks it.
@@ -71,12 +72,20 @@ fn note_run(tally: &mut Tally, image: &Image, lent: &Lent, cycles: u32, answer: 
         "14 by contents, too many cycles",
         by_contents && cycles > MOST_CYCLES,
     );
+    if contents.fitting && contents.too_large.is_none() {
+        let before = Before {
+            image: *image,
+            registers: lent.registers,
+            targets: lent.targets,
+        };
+        note_bindings(tally, &before, cycles, answer);
+    }
     let unsound = || Machine::new(image).unsound_target(lent.targets).is_some();
     tally.note(
         "14 by contents, an unsound target",
         by_contents && unsound(),
     );
-    let by_target = answer.number == 14 && contents.fitting && !by_contents;
+    let by_target = answer.number == 14 && contents.fitting && !by_contents && unsound();
     tally.note("14 by an unsound target", by_target);
     if answer.number == 0 && cycles > 0 {
         note_operands(tally, image, lent.registers, lent.targets);
@@ -120,7 +129,7 @@ impl Contents {
         let (values, _) = lent.registers.as_chunks::<4>();
         let mut pairs = image.registers().zip(values);
         let fitting = lent.registers.len() == 4 * image.registers().len()
-            && (!takes_targets || lent.targets.len() == image.states().len());
+            && (!takes_targets || lent.targets.len() == TARGET_BYTES * image.states().len());
         Contents {
             too_large: pairs
                 .position(|(register, bytes)| u32::from_le_bytes(*bytes) > register.most()),

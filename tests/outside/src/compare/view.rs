@@ -1,32 +1,46 @@
-//! What a party sees of a list of calls that the library makes.
+//! What a party sees of a list of calls that an engine makes.
 
 use super::areas::Areas;
+use super::calls::Call;
 use super::difference::Difference;
-use super::engine::{Call, LIBRARY};
+use super::engine::Engine;
 use crate::answer::Answer;
-use crate::reference::machine::Machine;
+use crate::reference::limits::MOST_PARAMETERS;
+use crate::reference::machine::{Machine, Ran};
 use crate::table::Table;
 
-/// One design, lent to the library for whole lists.
+/// One design, lent to an engine for whole lists.
 pub struct Stage<'a> {
+    pub engine: &'a Engine,
     pub table: &'a Table,
     pub image: &'a [u8],
     /// Tells the walks, which no call answers.
     pub machine: &'a Machine,
 }
 
-/// For each cycle the low registers after it and the low part of its walk; and the low
-/// registers at the end.
+/// A state that is seen: its number, and the numbers of the registers bound to its own parameters.
+pub type Sight = (u8, [Option<u8>; MOST_PARAMETERS]);
+
+/// For each cycle the low registers after it and the low part of its walk, by the labels that the states
+/// had as they ran, with the registers that were bound to them; and the low registers at the end.
 #[derive(PartialEq, Eq)]
 pub struct Seen {
-    pub cycles: Vec<(Vec<u32>, Vec<u8>)>,
+    pub cycles: Vec<(Vec<u32>, Vec<Sight>)>,
     pub last: Vec<u32>,
+}
+
+impl Seen {
+    /// Some state is seen with a register that was bound to it.
+    pub fn shows_binding(&self) -> bool {
+        let mut walks = self.cycles.iter().flat_map(|(_, walk)| walk);
+        walks.any(|(_, bound)| bound[0].is_some())
+    }
 }
 
 impl Stage<'_> {
     pub fn make(&self, call: Call, areas: &mut Areas) -> Answer {
         let Areas { registers, targets } = areas;
-        LIBRARY.make(call, self.image, registers.whole(), targets.whole())
+        (self.engine).make(call, self.image, registers.whole(), targets.whole())
     }
 
     /// Makes every call of the list on the areas, and gives what is seen at the level.
@@ -51,21 +65,25 @@ impl Stage<'_> {
         })
     }
 
-    /// One cycle by the library; its walk is what the step rules give from the areas before.
-    fn cycle(&self, level: u8, areas: &mut Areas) -> (Vec<u32>, Vec<u8>) {
-        let mut walk = Vec::new();
+    /// The walk of the next cycle, which is what the step rules give from the areas before it.
+    pub fn walk(&self, areas: &mut Areas) -> Vec<Ran> {
+        let mut walk: Vec<Ran> = Vec::new();
         let mut targets = areas.targets.whole().to_vec();
         self.machine
             .cycle(&mut areas.values(), &mut targets, &mut walk);
-        walk.retain(|&state| {
-            let label = self.table.states[usize::from(state)].label;
-            self.table.flows(label, level)
-        });
+        walk
+    }
+
+    /// One cycle by the engine.
+    fn cycle(&self, level: u8, areas: &mut Areas) -> (Vec<u32>, Vec<Sight>) {
+        let mut walk = self.walk(areas);
+        walk.retain(|ran| self.table.flows(ran.label, level));
+        let walk = walk.iter().map(|ran| (ran.state, ran.bound)).collect();
         self.make(Call::Run { cycles: 1 }, areas);
         (self.low_values(level, areas), walk)
     }
 
-    fn low_values(&self, level: u8, areas: &mut Areas) -> Vec<u32> {
+    pub fn low_values(&self, level: u8, areas: &mut Areas) -> Vec<u32> {
         let registers = self.table.registers.iter();
         registers
             .zip(areas.values())

@@ -1,11 +1,12 @@
 //! The worked designs: document 01's lease design, the one with two groups, a valve for request E2, a
-//! level below zero for E3 and a spare child for E4; and small ones, each for one sentence.
+//! level below zero for E3, a spare child for E4 and parameters for E8; and small ones, each for one sentence.
 
 mod chain;
 pub mod gates;
 mod largest;
 mod leaks;
 mod level;
+pub mod parameters;
 mod small;
 mod spare;
 mod valve;
@@ -14,6 +15,7 @@ pub use chain::longest_chain;
 pub use largest::largest;
 pub use leaks::{fall_before_assignment, two_bodies};
 pub use level::level;
+pub use parameters::{exchange, hidden_choice, line, one_group};
 pub use small::{
     assigns_twice, copied, low_child, nested, nested_commands, nested_sums, one_operation,
     powers_of_ten, seen_by_the_child, tests_one_more, three_levels, three_states,
@@ -24,7 +26,7 @@ pub use valve::valve;
 
 use crate::table::Table;
 
-/// Document 01's lease design, with the widths of request E2: 210 bytes.
+/// Document 01's lease design, with the widths of request E2 and the state records of E8: 235 bytes.
 pub fn lease() -> Table {
     let mut table = Table::new(&[3, 2]);
     let timer = table.inner(0, 3, 32);
@@ -104,18 +106,22 @@ pub fn two_groups() -> Table {
 }
 
 /// The designs that every comparison takes besides the random ones.
-pub fn worked() -> [Table; 6] {
+pub fn worked() -> [Table; 10] {
     [
         lease(),
         two_groups(),
         valve(),
         level(),
         spare_child(),
+        one_group(),
+        exchange(),
+        line(),
+        hidden_choice(),
         smallest(),
     ]
 }
 
-/// The smallest design that can be accepted: 46 bytes.
+/// The smallest design that can be accepted: 56 bytes.
 pub fn smallest() -> Table {
     let mut table = Table::new(&[1]);
     let body = table.fall();

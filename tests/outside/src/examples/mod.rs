@@ -2,16 +2,20 @@
 //! gives them, operations with their values, and raisings. They are asserted of the reference, and stored
 //! for the proved program.
 
+mod arguments;
 mod children;
+mod choices;
 mod flow;
 mod lattices;
 mod nodes;
 mod operations;
+mod parameters;
 mod ports;
 pub mod raising;
 mod reading;
 mod records;
 mod shape;
+mod taking;
 pub mod values;
 mod widths;
 
@@ -35,6 +39,9 @@ pub fn all() -> Vec<Example> {
     examples.extend(children::examples());
     examples.extend(flow::examples());
     examples.extend(reading::examples());
+    examples.extend(parameters::examples());
+    examples.extend(arguments::examples());
+    examples.extend(choices::examples());
     examples
 }
 

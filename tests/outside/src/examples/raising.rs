@@ -2,7 +2,8 @@
 
 use super::{changed, copy_and_go, go_by_r1};
 use crate::designs::{
-    lease, longest_chain, low_child, three_states, timer_counted_by_a_high_state, timer_is_a_port,
+    exchange, lease, longest_chain, low_child, one_group, three_states,
+    timer_counted_by_a_high_state, timer_is_a_port,
 };
 use crate::table::Table;
 
@@ -262,5 +263,25 @@ fn refused_before() -> Vec<Raising> {
     vec![
         refused("9 is asked before raising", low_child(), 9, 3),
         refused("16 is asked before raising", timer_is_a_port(), 16, 1),
+        refused(
+            "19 is asked before raising",
+            changed(one_group(), |table| table.states[1].count = 1),
+            19,
+            1,
+        ),
+        refused("20: one body for two groups", one_group(), 20, 0),
+        refused("20: two parameters exchanged", exchange(), 20, 0),
+        refused(
+            "20, where a raising would be needed",
+            changed(one_group(), |table| table.registers[4].label = 0),
+            20,
+            0,
+        ),
+        refused(
+            "20: a parameter that nothing names",
+            changed(lease(), |table| table.states[4].count = 1),
+            20,
+            0,
+        ),
     ]
 }

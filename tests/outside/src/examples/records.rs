@@ -10,7 +10,7 @@ pub fn examples() -> Vec<Example> {
         accepted("the smallest design", &smallest()),
         accepted("two groups, figure 2(b)", &two_groups()),
         bytes("1: the empty image", Vec::new(), 1, 0),
-        bytes("1: one byte too short", image[..209].to_vec(), 1, 0),
+        bytes("1: one byte too short", image[..234].to_vec(), 1, 0),
         bytes("1: one byte too long", [&image[..], &[0]].concat(), 1, 0),
         refused(
             "1: no label",

@@ -106,12 +106,12 @@ fn port(width: u8, reset: u32) -> Table {
     })
 }
 
-/// The lease design in the 208 bytes that it had before request E2.
+/// The lease design with the register records that it had before request E2.
 fn without_widths() -> Vec<u8> {
     let mut image = lease().image();
     image.remove(37);
     image.remove(30);
-    for (place, byte) in [(6, 12), (8, 36), (12, 56), (16, 160)] {
+    for (place, byte) in [(6, 12), (8, 36), (12, 81), (16, 185)] {
         image[place] = byte;
     }
     image

@@ -1,8 +1,8 @@
 //! Writes bodies and expressions that keep shape and flow by construction.
 
 use super::random::Random;
-use crate::reference::image::{INNER, LAST_OPERATION};
-use crate::reference::limits;
+use crate::reference::image::{Bounds, INNER, LAST_OPERATION};
+use crate::reference::limits::{self, PARAMETER_REGISTER};
 use crate::table::{Node, Table};
 
 const DEEPEST: u32 = limits::DEEPEST as u32;
@@ -20,14 +20,27 @@ pub struct Author<'a> {
     scope: Scope,
 }
 
-/// What the state being written offers.
+/// What the state being written offers. Labels are label bytes, registers are register bytes: both may
+/// stand for a parameter.
 #[derive(Default)]
 struct Scope {
     label: u8,
+    parameters: Vec<Bounds>,
     may_fall: bool,
-    gotos: Vec<u8>,
+    gotos: Vec<Destination>,
     cut: Cut,
 }
+
+/// A state that a goto may name, what it passes, and the label that the goto then flows to.
+#[derive(Clone)]
+struct Destination {
+    state: u8,
+    arguments: Vec<u8>,
+    label: u8,
+}
+
+/// So many lists of arguments are tried for a state with parameters.
+const TRIES: usize = 3;
 
 /// How sizes are cut in two: combs grow deep, halves stay shallow.
 #[derive(Clone, Copy, Default)]
@@ -54,14 +67,12 @@ impl<'a> Author<'a> {
     /// The body of a state, of so many commands (an odd number).
     pub fn write_state(&mut self, state: usize, size: usize) {
         let own = self.table.states[state];
+        self.scope.parameters = self.table.scope(state);
         self.scope = Scope {
             label: own.label,
+            parameters: self.table.scope(state),
             may_fall: self.may_fall(state),
-            gotos: if state == 0 {
-                Vec::new()
-            } else {
-                self.table.children(usize::from(own.parent))
-            },
+            gotos: self.gotos(state),
             cut: self.choose_cut(),
         };
         self.table.states[state].command = self.transfer(size, DEEPEST, &[own.label]);
@@ -72,7 +83,68 @@ impl<'a> Author<'a> {
         let label = |state: usize| self.table.states[state].label;
         let children = self.table.children(state);
         let default = children.first().copied().map(usize::from);
-        default.is_some_and(|child| self.table.flows(label(state), label(child)))
+        default.is_some_and(|child| self.flows(&[label(state)], label(child)))
+    }
+
+    /// The siblings of a state and itself, each with arguments that it takes.
+    fn gotos(&mut self, state: usize) -> Vec<Destination> {
+        let mut gotos = Vec::new();
+        if state == 0 {
+            return gotos;
+        }
+        let parent = usize::from(self.table.states[state].parent);
+        for sibling in self.table.children(parent) {
+            let taken = self.table.states[usize::from(sibling)].count;
+            if usize::from(sibling) == state {
+                // Its own parameters passed on: so some transfer is always possible.
+                let first = PARAMETER_REGISTER + self.table.first_own(state) as u8;
+                let mut own: Vec<u8> = (first..first + taken).collect();
+                self.add_goto(&mut gotos, sibling, own.clone());
+                own.reverse();
+                if taken == 2 && self.fit(sibling, &own) {
+                    self.add_goto(&mut gotos, sibling, own);
+                }
+            } else if taken == 0 {
+                self.add_goto(&mut gotos, sibling, Vec::new());
+            }
+            if taken > 0 {
+                self.add_gotos(&mut gotos, sibling);
+            }
+        }
+        gotos
+    }
+
+    /// To a state with parameters, where there is something to be passed.
+    fn add_gotos(&mut self, gotos: &mut Vec<Destination>, state: u8) {
+        let named = self.table.states[usize::from(state)];
+        let of_each: Vec<Vec<u8>> = named.bounds[..usize::from(named.count)]
+            .iter()
+            .map(|&bounds| self.table.fitting(&self.scope.parameters, bounds))
+            .collect();
+        if of_each.iter().any(Vec::is_empty) {
+            return;
+        }
+        for _ in 0..TRIES {
+            let arguments = of_each.iter().map(|fitting| *self.random.pick(fitting));
+            let arguments = arguments.collect();
+            self.add_goto(gotos, state, arguments);
+        }
+    }
+
+    /// Each argument always lies within the bounds it is given to.
+    fn fit(&self, state: u8, arguments: &[u8]) -> bool {
+        let pairs = self.table.states[usize::from(state)].bounds;
+        let scope = &self.scope.parameters;
+        let mut given = arguments.iter().zip(pairs);
+        given.all(|(&argument, bounds)| self.table.always_within(scope, argument, bounds))
+    }
+
+    fn add_goto(&self, gotos: &mut Vec<Destination>, state: u8, arguments: Vec<u8>) {
+        gotos.push(Destination {
+            state,
+            label: self.table.named_label(state, &arguments),
+            arguments,
+        });
     }
 
     pub fn finish(self) -> Vec<Slot> {
@@ -107,7 +179,9 @@ impl<'a> Author<'a> {
     }
 
     fn flows(&self, context: &[u8], to: u8) -> bool {
-        context.iter().all(|&from| self.table.flows(from, to))
+        let scope = &self.scope.parameters;
+        let flows = |&from: &u8| self.table.always_flows(scope, from, to);
+        context.iter().all(flows)
     }
 
     /// A command that transfers. Some transfer is always possible in the context.
@@ -123,7 +197,7 @@ impl<'a> Author<'a> {
         }
         // The condition may read only what flows to some destination that is left.
         let ceiling = *self.random.pick(&self.destinations(context));
-        let readable = self.registers(|table, label| table.flows(label, ceiling));
+        let readable = self.readable(Some(ceiling));
         let (palette, inner) = self.condition(readable, context);
         let then = self.transfer(first, depth - 1, &inner);
         let otherwise = self.transfer(second, depth - 1, &inner);
@@ -141,7 +215,7 @@ impl<'a> Author<'a> {
             let second = self.plain(second, depth - 1, context);
             return self.table.sequence(first, second);
         }
-        let readable = self.registers(|_, _| true);
+        let readable = self.readable(None);
         let (palette, inner) = self.condition(readable, context);
         let then = self.plain(first, depth - 1, &inner);
         let otherwise = self.plain(second, depth - 1, &inner);
@@ -150,26 +224,19 @@ impl<'a> Author<'a> {
 
     fn leave(&mut self, context: &[u8]) -> u16 {
         let falls = self.scope.may_fall && self.flows(context, self.scope.label);
-        let table = &self.table;
-        let gotos: Vec<u8> = self
-            .scope
-            .gotos
-            .iter()
-            .copied()
-            .filter(|&state| self.flows(context, table.states[usize::from(state)].label))
-            .collect();
+        let mut gotos = self.scope.gotos.clone();
+        gotos.retain(|goto| self.flows(context, goto.label));
         if falls && (gotos.is_empty() || self.random.percent(60)) {
             self.table.fall()
         } else {
-            let state = *self.random.pick(&gotos);
-            self.table.goto(state)
+            let goto = self.random.pick(&gotos);
+            self.table.goto_with(goto.state, &goto.arguments)
         }
     }
 
     /// The labels to which the context may still transfer: never none.
     fn destinations(&self, context: &[u8]) -> Vec<u8> {
-        let label = |&state: &u8| self.table.states[usize::from(state)].label;
-        let mut labels: Vec<u8> = self.scope.gotos.iter().map(label).collect();
+        let mut labels: Vec<u8> = self.scope.gotos.iter().map(|goto| goto.label).collect();
         labels.push(self.scope.label);
         labels.retain(|&label| self.flows(context, label));
         labels
@@ -178,16 +245,13 @@ impl<'a> Author<'a> {
     /// An assignment where one is allowed, otherwise a skip.
     fn act(&mut self, context: &[u8]) -> u16 {
         let mut writable = self.table.of_kind(INNER);
-        writable.retain(|&register| {
-            let label = self.table.registers[usize::from(register)].label;
-            self.flows(context, label)
-        });
+        writable.extend(self.parameters());
+        writable.retain(|&register| self.flows(context, self.table.label_of(register)));
         if writable.is_empty() || self.random.percent(15) {
             return self.table.skip();
         }
         let register = *self.random.pick(&writable);
-        let to = self.table.registers[usize::from(register)].label;
-        let readable = self.registers(|table, label| table.flows(label, to));
+        let readable = self.readable(Some(self.table.label_of(register)));
         let palette = self.some(readable);
         let command = self.table.assign(register, 0);
         self.slots.push(Slot {
@@ -216,7 +280,7 @@ impl<'a> Author<'a> {
         let palette = self.some(readable);
         let mut inner = context.to_vec();
         for &register in &palette {
-            let label = self.table.registers[usize::from(register)].label;
+            let label = self.table.label_of(register);
             if !inner.contains(&label) {
                 inner.push(label);
             }
@@ -224,11 +288,22 @@ impl<'a> Author<'a> {
         (palette, inner)
     }
 
-    fn registers(&self, wanted: impl Fn(&Table, u8) -> bool) -> Vec<u8> {
-        (0..self.table.registers.len())
-            .filter(|&r| wanted(self.table, self.table.registers[r].label))
-            .map(|r| r as u8)
-            .collect()
+    /// What flows to the label, if one is given: registers, and parameters in scope.
+    fn readable(&self, ceiling: Option<u8>) -> Vec<u8> {
+        let registers = 0..self.table.registers.len() as u8;
+        let mut readable: Vec<u8> = registers.chain(self.parameters()).collect();
+        readable.retain(|&register| {
+            ceiling.is_none_or(|to| self.flows(&[self.table.label_of(register)], to))
+        });
+        readable
+    }
+
+    /// The register bytes that name the parameters in scope, each twice: what is made of parameters is to
+    /// be met often.
+    fn parameters(&self) -> impl Iterator<Item = u8> {
+        let first = PARAMETER_REGISTER;
+        let all = first..first + self.scope.parameters.len() as u8;
+        all.clone().chain(all)
     }
 
     /// Up to three of the registers.

@@ -2,13 +2,47 @@
 
 use super::body::Author;
 use super::lattice::{largest_lattice, lattice};
+use super::parameters::{add_parameters, fill_with_parameters};
 use super::random::Random;
 use super::size::Size;
 use crate::reference::image::{CONSTANT, INNER, LAST_OPERATION, PORT, SIGNED_LESS};
 use crate::reference::limits::{MOST_LABELS, WIDEST};
 use crate::table::{Node, State, Table};
 
+/// Without parameters.
 pub fn design(random: &mut Random, size: Size) -> Table {
+    written(random, size, |_, _| ())
+}
+
+/// With parameters, unless no tree of so many states comes out that has room for one.
+pub fn parameterised(random: &mut Random, size: Size) -> Table {
+    for _ in 0..4 {
+        let table = written(random, size, add_parameters);
+        if table.has_parameters() {
+            return table;
+        }
+    }
+    written(random, size, add_parameters)
+}
+
+/// With two parameters in every state that may take some: all states stand below the root, and only it and
+/// its default child have none.
+pub fn full_of_parameters(random: &mut Random, size: Size) -> Table {
+    written(random, size, fill_with_parameters)
+}
+
+/// With parameters or without, as often.
+pub fn any_design(random: &mut Random, size: Size) -> Table {
+    if random.percent(50) {
+        parameterised(random, size)
+    } else {
+        design(random, size)
+    }
+}
+
+/// What is done to the states before their bodies are written draws no numbers where it does nothing, so
+/// that designs without parameters are what they were.
+fn written(random: &mut Random, size: Size, change: fn(&mut Random, &mut Table)) -> Table {
     let rows = if size.labels == MOST_LABELS {
         largest_lattice(random)
     } else {
@@ -22,6 +56,7 @@ pub fn design(random: &mut Random, size: Size) -> Table {
         table.register(label, kind, random.value(), WIDEST);
     }
     table.states = states(random, &table, size.states);
+    change(random, &mut table);
     write_bodies(random, &mut table, size);
     table.renumber(random);
     narrow(random, &mut table);
@@ -91,7 +126,7 @@ fn states(random: &mut Random, table: &Table, count: usize) -> Vec<State> {
         states.push(State {
             parent: parent as u8,
             label,
-            command: 0,
+            ..State::default()
         });
     }
     states

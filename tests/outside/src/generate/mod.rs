@@ -5,10 +5,11 @@ mod design;
 pub mod faults;
 pub mod gates;
 mod lattice;
+pub mod parameters;
 mod raising;
 pub mod random;
 mod size;
 
-pub use design::design;
+pub use design::{any_design, design, full_of_parameters, parameterised};
 pub use raising::{chained, lowered};
 pub use size::Size;

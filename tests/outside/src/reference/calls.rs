@@ -2,20 +2,20 @@
 
 use super::image::{Image, PORT};
 use super::labels::Labels;
-use super::limits::MOST_CYCLES;
+use super::limits::{MOST_CYCLES, TARGET_BYTES};
 use super::machine::Machine;
 use super::refusal::Refusal;
 use super::{nodes, records, rules};
 use crate::answer::Answer;
 
-/// The image checks, 1 to 12 and 16, which every call but raising makes first.
+/// The image checks, 1 to 12, 16 and 19, which every call but raising makes first.
 pub fn judge(bytes: &[u8]) -> Result<Image<'_>, Refusal> {
     let (image, labels) = judge_nodes(bytes)?;
     rules::judge(&image, &labels)?;
     Ok(image)
 }
 
-/// Those up to 9, 16 included, which raising asks for.
+/// Those up to 9, 16 and 19 included, which raising asks for.
 pub fn judge_before_flow(bytes: &[u8]) -> Result<(Image<'_>, Labels), Refusal> {
     let (image, labels) = judge_nodes(bytes)?;
     rules::judge_before_flow(&image, &labels)?;
@@ -44,9 +44,9 @@ pub fn registers_length(image: &[u8]) -> Answer {
     answer(judge(image).map(|image| 4 * image.registers().len()))
 }
 
-/// The length of the target area: one byte per state.
+/// The length of the target area: for each state a target and two bindings.
 pub fn targets_length(image: &[u8]) -> Answer {
-    answer(judge(image).map(|image| image.states().len()))
+    answer(judge(image).map(|image| TARGET_BYTES * image.states().len()))
 }
 
 pub fn reset(image: &[u8], registers: &mut [u8], targets: &mut [u8]) -> Answer {
@@ -82,7 +82,7 @@ fn try_reset(bytes: &[u8], registers: &mut [u8], targets: &mut [u8]) -> Result<u
     for (place, register) in registers.chunks_exact_mut(4).zip(image.registers()) {
         place.copy_from_slice(&register.reset.to_le_bytes());
     }
-    targets.copy_from_slice(Machine::new(&image).default_children());
+    targets.copy_from_slice(&Machine::new(&image).reset_targets());
     Ok(0)
 }
 
@@ -130,7 +130,7 @@ fn try_run(
     Ok(cycles as usize)
 }
 
-/// Refusal 14 in its order: lengths, contents, targets. Gives the registers' values.
+/// Refusal 14 in its order: lengths, contents, targets, bindings. Gives the registers' values.
 fn judge_areas(
     image: &Image,
     machine: &Machine,
@@ -141,13 +141,14 @@ fn judge_areas(
     let values = values(registers);
     judge_contents(image, &values)?;
     judge_targets(machine, targets)?;
+    judge_bindings(machine, targets)?;
     Ok(values)
 }
 
 /// Refusal 14, a wrong length: place 0.
 fn judge_lengths(image: &Image, registers: &[u8], targets: Option<&[u8]>) -> Result<(), Refusal> {
     let fitting = registers.len() == 4 * image.registers().len()
-        && targets.is_none_or(|targets| targets.len() == image.states().len());
+        && targets.is_none_or(|targets| targets.len() == TARGET_BYTES * image.states().len());
     if fitting {
         Ok(())
     } else {
@@ -167,6 +168,14 @@ fn judge_contents(image: &Image, values: &[u32]) -> Result<(), Refusal> {
 /// Refusal 14, an unsound target: the lowest such state.
 fn judge_targets(machine: &Machine, targets: &[u8]) -> Result<(), Refusal> {
     match machine.unsound_target(targets) {
+        Some(state) => Err(Refusal::new(14, state)),
+        None => Ok(()),
+    }
+}
+
+/// Refusal 14, request E8, an unsound binding: the lowest such state.
+fn judge_bindings(machine: &Machine, targets: &[u8]) -> Result<(), Refusal> {
+    match machine.unsound_binding(targets) {
         Some(state) => Err(Refusal::new(14, state)),
         None => Ok(()),
     }

@@ -2,16 +2,18 @@
 
 use super::image::*;
 use super::labels::Labels;
-use super::limits::*;
 use super::refusal::Refusal;
-use super::rules::{States, Surroundings};
+use super::rules::{Parameters, States, Surroundings};
+use super::scopes::label_byte;
 
 /// What a command's flow is judged by.
 pub struct Flow<'a> {
     states: &'a States,
     around: &'a Surroundings,
+    parameters: &'a Parameters,
     labels: &'a Labels,
-    register_labels: [u8; MOST_REGISTERS],
+    register_labels: Vec<u8>,
+    named: Vec<State>,
 }
 
 impl<'a> Flow<'a> {
@@ -19,17 +21,16 @@ impl<'a> Flow<'a> {
         image: &Image,
         states: &'a States,
         around: &'a Surroundings,
+        parameters: &'a Parameters,
         labels: &'a Labels,
     ) -> Flow<'a> {
-        let mut register_labels = [0; MOST_REGISTERS];
-        for (label, register) in register_labels.iter_mut().zip(image.registers()) {
-            *label = register.label;
-        }
         Flow {
             states,
             around,
+            parameters,
             labels,
-            register_labels,
+            register_labels: image.registers().map(|register| register.label).collect(),
+            named: image.states().collect(),
         }
     }
 
@@ -58,18 +59,21 @@ impl<'a> Flow<'a> {
             .collect()
     }
 
-    /// Whether the command itself, not a part of it, is a fault.
+    /// Whether the command itself, not a part of it, is a fault for some choice of labels.
     fn fault(&self, number: usize, node: Node) -> Option<Refusal> {
+        let own = self.around.state[number];
         let (refusal, destination) = match node.kind {
-            ASSIGN => (10, self.register_labels[usize::from(node.which)]),
-            GOTO => (11, self.states.label[usize::from(node.which)]),
-            FALL => {
-                let own = self.around.state[number];
-                (12, self.states.label[usize::from(own)])
+            ASSIGN => (10, label_byte(node.which, &self.register_labels)),
+            GOTO => {
+                let named = &self.named[usize::from(node.which)];
+                let scopes = &self.parameters.scopes;
+                (11, scopes.named_label(node, named, &self.register_labels))
             }
+            FALL => (12, self.states.label[usize::from(own)]),
             _ => return None,
         };
-        let flows = (self.labels).flow(self.around.context[number], destination);
+        let context = self.around.context[number];
+        let flows = self.parameters.flow(own, context, destination, self.labels);
         (!flows).then_some(Refusal::new(refusal, number))
     }
 }

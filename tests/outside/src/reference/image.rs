@@ -45,10 +45,42 @@ impl Register {
     }
 }
 
+#[derive(Clone, Copy, Default)]
 pub struct State {
     pub parent: u8,
+    /// A label, or what stands for the label of a parameter in scope.
     pub label: u8,
     pub command: u16,
+    /// So many parameters of its own.
+    pub count: u8,
+    pub bounds: [Bounds; MOST_PARAMETERS],
+}
+
+/// The labels that a parameter may have lie between these, ends included.
+#[derive(Clone, Copy, Debug, Default, PartialEq, Eq)]
+pub struct Bounds {
+    pub lower: u8,
+    pub upper: u8,
+}
+
+impl State {
+    fn read(bytes: &[u8; STATE_BYTES]) -> State {
+        let [parent, label, c0, c1, count, lower0, upper0, lower1, upper1] = *bytes;
+        let bounds = |lower, upper| Bounds { lower, upper };
+        State {
+            parent,
+            label,
+            command: u16::from_le_bytes([c0, c1]),
+            count,
+            bounds: [bounds(lower0, upper0), bounds(lower1, upper1)],
+        }
+    }
+
+    /// The pairs that the count uses, and those that it does not.
+    pub fn pairs(&self) -> (&[Bounds], &[Bounds]) {
+        let used = usize::from(self.count).min(MOST_PARAMETERS);
+        self.bounds.split_at(used)
+    }
 }
 
 #[derive(Clone, Copy)]
@@ -71,6 +103,13 @@ impl Node {
             b: u16::from_le_bytes([b0, b1]),
             c: u16::from_le_bytes([c0, c1]),
         }
+    }
+
+    /// A goto's arguments: the fields that so many parameters of the named state use, and the others.
+    pub fn arguments(&self, count: u8) -> (Vec<u16>, Vec<u16>) {
+        let mut used = vec![self.a, self.b];
+        let unused = used.split_off(usize::from(count).min(MOST_PARAMETERS));
+        (used, unused)
     }
 
     /// The 32 bits in bytes 4 to 7.
@@ -112,18 +151,14 @@ impl<'a> Image<'a> {
     }
 
     pub fn states(&self) -> impl ExactSizeIterator<Item = State> + 'a {
-        self.states.iter().map(|&[parent, label, c0, c1]| State {
-            parent,
-            label,
-            command: u16::from_le_bytes([c0, c1]),
-        })
+        self.states.iter().map(State::read)
     }
 
     pub fn commands(&self) -> impl DoubleEndedIterator<Item = Node> + ExactSizeIterator + 'a {
         self.commands.iter().map(Node::read)
     }
 
-    pub fn expressions(&self) -> impl ExactSizeIterator<Item = Node> + 'a {
+    pub fn expressions(&self) -> impl DoubleEndedIterator<Item = Node> + ExactSizeIterator + 'a {
         self.expressions.iter().map(Node::read)
     }
 }

@@ -43,6 +43,10 @@ impl Labels {
         usize::from(label) < self.count
     }
 
+    pub fn all(&self) -> impl Iterator<Item = u8> {
+        0..self.count as u8
+    }
+
     /// Every label of the set flows to the one given.
     pub fn flow(&self, set: LabelSet, to: u8) -> bool {
         set & !self.below[usize::from(to)] == 0
@@ -50,7 +54,7 @@ impl Labels {
 
     /// The least label that every label of the set flows to.
     pub fn join(&self, set: LabelSet) -> u8 {
-        let above = || (0..self.count as u8).filter(|&label| self.flow(set, label));
+        let above = || self.all().filter(|&label| self.flow(set, label));
         let least = |&label: &u8| above().all(|other| self.flow(only(label), other));
         above().find(least).expect("a lattice")
     }

@@ -4,7 +4,7 @@ pub const DIRECTORY_BYTES: usize = 20;
 
 pub const ROW_BYTES: usize = 2;
 pub const REGISTER_BYTES: usize = 7;
-pub const STATE_BYTES: usize = 4;
+pub const STATE_BYTES: usize = 9;
 pub const NODE_BYTES: usize = 8;
 
 pub const MOST_LABELS: usize = 16;
@@ -12,6 +12,16 @@ pub const MOST_REGISTERS: usize = 64;
 pub const MOST_STATES: usize = 64;
 pub const MOST_COMMANDS: usize = 1_024;
 pub const MOST_EXPRESSIONS: usize = 2_048;
+
+/// The parameters of a state, and those in scope along a line from the root: request E8.
+pub const MOST_PARAMETERS: usize = 2;
+/// The register byte that names the first parameter in scope; the second has the next.
+pub const PARAMETER_REGISTER: u8 = 64;
+/// The label byte that stands for the label of the first parameter in scope.
+pub const PARAMETER_LABEL: u8 = 16;
+
+/// A state in the target area: its target, and behind all targets its two bindings.
+pub const TARGET_BYTES: usize = 1 + MOST_PARAMETERS;
 
 /// The bits of the widest register; the narrowest has one.
 pub const WIDEST: u8 = 32;

@@ -18,10 +18,10 @@ fn lines(input: &[u8]) -> Result<String, Refusal> {
     let image = judge(bytes)?;
     let machine = Machine::new(&image);
     let mut registers: Vec<u32> = image.registers().map(|register| register.reset).collect();
-    let mut targets = machine.default_children().to_vec();
+    let mut targets = machine.reset_targets();
     let mut text = String::from("cycle;walk;registers\n");
     for cycle in 1..=u16::from_le_bytes([count[0], count[1]]) {
-        let mut walk = Vec::new();
+        let mut walk: Vec<u8> = Vec::new();
         machine.cycle(&mut registers, &mut targets, &mut walk);
         text += &format!("{cycle};{};{}\n", spaced(&walk), spaced(&registers));
     }

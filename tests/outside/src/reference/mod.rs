@@ -1,4 +1,4 @@
-//! Document 01 with requests E1 to E4, E6, E7 and E13 of document 02, implemented for clarity: tables and passes
+//! Document 01 with requests E1 to E4, E6 to E8 and E13 of document 02, implemented for clarity: tables and passes
 //! over node numbers, no recursion in the checker, so that it shares as little as possible with the
 //! proved library.
 
@@ -18,8 +18,9 @@ mod raise;
 mod records;
 pub mod refusal;
 mod rules;
+pub mod scopes;
 
 pub use calls::{check, registers_length, reset, run, targets_length, walk, write_port};
 pub use listing::listing;
 pub use raise::{raise, with_labels};
-pub use rules::flow_faults;
+pub use rules::{context_flows, flow_faults};

@@ -3,6 +3,7 @@
 use super::image::*;
 use super::limits::*;
 use super::refusal::Refusal;
+use super::scopes::parameter;
 
 /// Refusal 5: node kind, unused byte, or part, register or state number.
 pub fn judge_fields(image: &Image) -> Result<(), Refusal> {
@@ -25,9 +26,10 @@ fn command_holds(image: &Image, number: usize, node: Node) -> bool {
     let expression = |part: u16| usize::from(part) < image.expressions().len();
     match node.kind {
         SKIP | FALL => which == 0 && a == 0 && b == 0 && c == 0,
-        ASSIGN => usize::from(which) < image.registers().len() && expression(a) && b == 0 && c == 0,
+        ASSIGN => names_register(image, which) && expression(a) && b == 0 && c == 0,
         SEQUENCE => which == 0 && below(a) && below(b) && c == 0,
-        GOTO => usize::from(which) < image.states().len() && a == 0 && b == 0 && c == 0,
+        // Its fields a and b carry arguments, which 16 and 19 judge.
+        GOTO => usize::from(which) < image.states().len() && c == 0,
         IF => which == 0 && expression(a) && below(b) && below(c),
         _ => false,
     }
@@ -38,10 +40,15 @@ fn expression_holds(image: &Image, number: usize, node: Node) -> bool {
     let below = |part: u16| usize::from(part) < number;
     match node.kind {
         CONSTANT => which == 0 && a == 0,
-        READ => usize::from(which) < image.registers().len() && a == 0 && b == 0 && c == 0,
+        READ => names_register(image, which) && a == 0 && b == 0 && c == 0,
         2..=LAST_OPERATION => which == 0 && below(a) && below(b) && c == 0,
         _ => false,
     }
+}
+
+/// A register, or a parameter; whether that is in scope is 19's to say.
+fn names_register(image: &Image, byte: u8) -> bool {
+    usize::from(byte) < image.registers().len() || parameter(byte, PARAMETER_REGISTER).is_some()
 }
 
 /// How often each node is used, and its depth.

@@ -18,6 +18,10 @@ pub fn raise(image: &[u8], out: &mut [u8]) -> Answer {
 
 fn try_raise(bytes: &[u8], out: &mut [u8]) -> Result<usize, Refusal> {
     let (image, labels) = judge_before_flow(bytes)?;
+    // Request E8. What else speaks of parameters is refused by 19 where there are none.
+    if image.states().any(|state| state.count > 0) {
+        return Err(Refusal::new(20, 0));
+    }
     if out.len() != bytes.len() {
         return Err(Refusal::new(14, 0));
     }

@@ -6,19 +6,23 @@ use crate::designs::{fall_before_assignment, lease, low_child, timer_is_a_port};
 pub fn add(script: &mut Script) {
     let image = lease().image();
     script.note("14: 4 bytes for two registers").image(&image);
-    wrong(script, 4, 5);
+    wrong(script, 4, 15);
     script.note("14: registers one too short");
-    wrong(script, 7, 5);
+    wrong(script, 7, 15);
     script.note("14: registers one too long");
-    wrong(script, 9, 5);
+    wrong(script, 9, 15);
     script.note("14: registers empty");
-    wrong(script, 0, 5);
+    wrong(script, 0, 15);
     script.note("14: registers the longest that are stored");
-    wrong(script, 264, 5);
+    wrong(script, 264, 15);
     script.note("14: targets one too short");
-    wrong(script, 8, 4);
+    wrong(script, 8, 14);
     script.note("14: targets one too long");
-    wrong(script, 8, 6);
+    wrong(script, 8, 16);
+    script.note("14: targets without bindings");
+    wrong(script, 8, 5);
+    script.note("14: one binding for each state");
+    wrong(script, 8, 10);
     script.note("14: targets empty");
     wrong(script, 8, 0);
     script.note("14: both areas empty");
@@ -31,15 +35,15 @@ pub fn add(script: &mut Script) {
 /// Each call on areas of these lengths, with bytes that a change would show in.
 fn wrong(script: &mut Script, registers: usize, targets: usize) {
     let registers: Vec<u8> = (0..registers).map(|i| 100 + (i % 100) as u8).collect();
-    let targets = &[1, 1, 3, 3, 4, 5][..targets];
-    script.areas(&registers, targets);
+    let targets = &[1, 1, 3, 3, 4, 0, 1, 0, 1, 0, 1, 0, 1, 0, 1, 0][..targets];
+    script.lent(&registers, targets);
     script.reset().write(1, 7).run(0).run(1).run(1_000_001);
 }
 
 fn refused_images(script: &mut Script, image: &[u8]) {
     script
         .note("a refused image, good areas")
-        .image(&image[..209])
+        .image(&image[..234])
         .areas(&[3, 0, 0, 0, 0, 0, 0, 0], &[1, 1, 3, 3, 4]);
     script.reset().write(1, 7).run(1);
     script

@@ -6,6 +6,7 @@ mod gate_refusals;
 mod gates;
 mod images;
 mod lease;
+mod parameters;
 mod ports;
 mod raising;
 mod record;
@@ -42,6 +43,7 @@ fn records() -> Vec<Record> {
     widths::add(&mut script);
     areas::add(&mut script);
     raising::add(&mut script);
+    parameters::add(&mut script);
     gates::add(&mut script);
     gate_refusals::add(&mut script);
     script.end()

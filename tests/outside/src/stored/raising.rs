@@ -44,7 +44,7 @@ fn image_first(script: &mut Script) {
     for (sentence, image) in [
         (
             "1 before 14: an image cut short",
-            lease().image()[..209].to_vec(),
+            lease().image()[..234].to_vec(),
         ),
         ("9 before 14: a low child", low_child().image()),
         (

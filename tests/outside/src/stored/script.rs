@@ -1,6 +1,7 @@
 //! Adding records one by one.
 
 use super::record::Record;
+use crate::reference::limits::MOST_PARAMETERS;
 use crate::table::gates::GateTable;
 use crate::table::Table;
 
@@ -19,8 +20,23 @@ impl Script {
         self.add(Record::Image(image.to_vec()))
     }
 
-    pub fn areas(&mut self, registers: &[u8], targets: &[u8]) -> &mut Script {
+    /// The areas as they are lent, of any length.
+    pub fn lent(&mut self, registers: &[u8], targets: &[u8]) -> &mut Script {
         self.add(Record::Areas(registers.to_vec(), targets.to_vec()))
+    }
+
+    /// The areas with these targets, and with no binding but 0.
+    pub fn areas(&mut self, registers: &[u8], targets: &[u8]) -> &mut Script {
+        self.bound(
+            registers,
+            targets,
+            &vec![0; MOST_PARAMETERS * targets.len()],
+        )
+    }
+
+    /// The areas with these targets and bindings.
+    pub fn bound(&mut self, registers: &[u8], targets: &[u8], bindings: &[u8]) -> &mut Script {
+        self.lent(registers, &[targets, bindings].concat())
     }
 
     /// The areas with these values, and with these targets.
@@ -35,8 +51,8 @@ impl Script {
     /// The design with areas of the right lengths.
     pub fn design(&mut self, table: &Table) -> &mut Script {
         self.image(&table.image());
-        let registers = vec![0xAA; 4 * table.registers.len()];
-        self.areas(&registers, &vec![0xAA; table.states.len()])
+        let (registers, targets) = table.areas();
+        self.lent(&vec![0xAA; registers], &vec![0xAA; targets])
     }
 
     pub fn reset(&mut self) -> &mut Script {

@@ -1,7 +1,7 @@
 //! Adding records one by one; each call gives the new record's number.
 
 use super::{Node, Register, State, Table};
-use crate::reference::image::{INNER, PORT};
+use crate::reference::image::{Bounds, INNER, PORT};
 
 impl Table {
     pub fn new(rows: &[u16]) -> Table {
@@ -34,8 +34,18 @@ impl Table {
             parent,
             label,
             command,
+            ..State::default()
         });
         (self.states.len() - 1) as u8
+    }
+
+    /// Gives a state its parameters: for each the lower and the upper label.
+    pub fn takes(&mut self, state: u8, bounds: &[(u8, u8)]) {
+        let state = &mut self.states[usize::from(state)];
+        state.count = bounds.len() as u8;
+        for (pair, &(lower, upper)) in state.bounds.iter_mut().zip(bounds) {
+            *pair = Bounds { lower, upper };
+        }
     }
 
     pub fn command(&mut self, kind: u8, which: u8, a: u16, b: u16, c: u16) -> u16 {
@@ -67,6 +77,12 @@ impl Table {
 
     pub fn goto(&mut self, state: u8) -> u16 {
         self.command(4, state, 0, 0, 0)
+    }
+
+    /// With arguments: registers, or 64 and 65.
+    pub fn goto_with(&mut self, state: u8, arguments: &[u8]) -> u16 {
+        let field = |number: usize| arguments.get(number).copied().unwrap_or(0).into();
+        self.command(4, state, field(0), field(1), 0)
     }
 
     pub fn branch(&mut self, condition: u16, then: u16, otherwise: u16) -> u16 {

@@ -3,11 +3,13 @@
 
 mod build;
 pub mod gates;
+mod parameters;
 mod renumber;
 
-use crate::reference::image::LAST_OPERATION;
+use crate::reference::image::{self, Bounds, Image, LAST_OPERATION};
 use crate::reference::limits::{
-    DIRECTORY_BYTES, NODE_BYTES, REGISTER_BYTES, ROW_BYTES, STATE_BYTES, WIDEST,
+    DIRECTORY_BYTES, MOST_PARAMETERS, NODE_BYTES, REGISTER_BYTES, ROW_BYTES, STATE_BYTES,
+    TARGET_BYTES, WIDEST,
 };
 
 #[derive(Clone, Debug, Default, PartialEq, Eq)]
@@ -44,6 +46,16 @@ pub struct State {
     pub parent: u8,
     pub label: u8,
     pub command: u16,
+    /// The parameters: how many, and lower and upper label of each.
+    pub count: u8,
+    pub bounds: [Bounds; MOST_PARAMETERS],
+}
+
+impl State {
+    /// The bounds of its own parameters.
+    pub fn pairs(&self) -> &[Bounds] {
+        &self.bounds[..usize::from(self.count).min(MOST_PARAMETERS)]
+    }
 }
 
 #[derive(Clone, Copy, Debug, Default, PartialEq, Eq)]
@@ -133,11 +145,54 @@ impl Table {
         for state in &self.states {
             image.extend([state.parent, state.label]);
             image.extend(state.command.to_le_bytes());
+            image.push(state.count);
+            for Bounds { lower, upper } in state.bounds {
+                image.extend([lower, upper]);
+            }
         }
         for node in self.commands.iter().chain(&self.expressions) {
             image.extend(node.bytes());
         }
         image
+    }
+
+    /// The records of an image, if its directory holds.
+    pub fn open(bytes: &[u8]) -> Option<Table> {
+        let image = Image::open(bytes).ok()?;
+        let node = |node: image::Node| Node {
+            kind: node.kind,
+            which: node.which,
+            a: node.a,
+            b: node.b,
+            c: node.c,
+        };
+        Some(Table {
+            rows: image.rows().collect(),
+            registers: (image.registers())
+                .map(|register| Register {
+                    label: register.label,
+                    kind: register.kind,
+                    reset: register.reset,
+                    width: register.width,
+                })
+                .collect(),
+            states: (image.states())
+                .map(|state| State {
+                    parent: state.parent,
+                    label: state.label,
+                    command: state.command,
+                    count: state.count,
+                    bounds: state.bounds,
+                })
+                .collect(),
+            commands: image.commands().map(node).collect(),
+            expressions: image.expressions().map(node).collect(),
+        })
+    }
+
+    /// How long the two areas are.
+    pub fn areas(&self) -> (usize, usize) {
+        (4 * self.registers.len(), TARGET_BYTES * self.states.len())
     }
 
     pub fn nodes(&mut self, family: Family) -> &mut Vec<Node> {

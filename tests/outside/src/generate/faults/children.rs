@@ -3,6 +3,7 @@
 use super::flow::Tree;
 use super::shape::{leaf, numbers};
 use crate::generate::random::Random;
+use crate::reference::limits::{MOST_PARAMETERS, PARAMETER_LABEL};
 use crate::table::Table;
 
 /// A state holds a fall, somewhere in its body, and its default child is not at or above it.
@@ -24,13 +25,22 @@ pub fn spoil_child(table: &mut Table, random: &mut Random) {
 
 /// Tries another label in either of the two, unless the child is low already.
 fn set_apart(table: &mut Table, group: usize, child: usize, random: &mut Random) -> bool {
-    let low = |table: &Table| !table.flows(table.states[group].label, table.states[child].label);
+    let scope = table.scope(child);
+    let low = |table: &Table| {
+        let label = |state: usize| table.states[state].label;
+        !table.always_flows(&scope, label(group), label(child))
+    };
     if low(table) {
         return true;
     }
     let changed = *random.pick(&[group, child]);
     let old = table.states[changed].label;
-    table.states[changed].label = random.below(table.rows.len()) as u8;
+    let group_scope = table.scope(group).len().min(MOST_PARAMETERS);
+    table.states[changed].label = if group_scope > 0 && random.percent(50) {
+        PARAMETER_LABEL + random.below(group_scope) as u8
+    } else {
+        random.below(table.rows.len()) as u8
+    };
     if low(table) {
         return true;
     }

@@ -1,8 +1,10 @@
 //! Faults in flow (refusals 10 to 12): a name or a read becomes one that is not allowed.
 
 use crate::generate::random::Random;
-use crate::reference::image::INNER;
-use crate::reference::limits::{MOST_COMMANDS, MOST_EXPRESSIONS};
+use crate::reference::image::{Bounds, INNER};
+use crate::reference::limits::{
+    MOST_COMMANDS, MOST_EXPRESSIONS, MOST_PARAMETERS, PARAMETER_REGISTER,
+};
 use crate::table::{Family, Node, Table};
 
 /// For each command its owner, or the state whose body it is.
@@ -71,16 +73,19 @@ pub fn spoil_assign(table: &mut Table, random: &mut Random) {
     let Some(number) = choose(table, &tree, 1, random) else {
         return;
     };
-    let written = table.registers[usize::from(table.commands[number].which)].label;
+    let written = table.label_of(table.commands[number].which);
+    let scope = table.scope(tree.state(number));
     match random.below(3) {
         // Of a port 16 speaks.
-        0 => table.commands[number].which = *random.pick(&table.of_kind(INNER)),
-        1 => read_too_much(
-            table,
-            usize::from(table.commands[number].a),
-            written,
-            random,
-        ),
+        0 => {
+            let mut writable = table.of_kind(INNER);
+            writable.extend(in_scope(&scope));
+            table.commands[number].which = *random.pick(&writable);
+        }
+        1 => {
+            let value = usize::from(table.commands[number].a);
+            read_too_much(table, value, &scope, written, random);
+        }
         _ => condition_too_much(table, &tree, number, written, random),
     }
 }
@@ -91,13 +96,46 @@ pub fn spoil_goto(table: &mut Table, random: &mut Random) {
         return;
     };
     let own = tree.state(number);
-    let named = table.states[usize::from(table.commands[number].which)].label;
-    if random.percent(50) {
-        let siblings = table.children(usize::from(table.states[own].parent));
-        table.commands[number].which = *random.pick(&siblings);
-    } else {
-        condition_too_much(table, &tree, number, named, random);
+    let Node { which, a, b, .. } = table.commands[number];
+    let named = table.named_label(which, &[a, b].map(|field| field as u8));
+    match random.below(4) {
+        0 | 1 => {
+            let siblings = table.children(usize::from(table.states[own].parent));
+            let sibling = *random.pick(&siblings);
+            pass_any(table, number, sibling, own, random);
+        }
+        // Another argument alone may do it.
+        2 => pass_any(table, number, which, own, random),
+        _ => condition_too_much(table, &tree, number, named, random),
     }
+}
+
+/// The goto names this state and passes what fits its parameters, so that 19 says nothing; where nothing
+/// fits it stays as it was.
+fn pass_any(table: &mut Table, goto: usize, named: u8, own: usize, random: &mut Random) {
+    let record = table.states[usize::from(named)];
+    let scope = table.scope(own);
+    let mut fields = [0, 0];
+    for (field, &bounds) in fields.iter_mut().zip(record.pairs()) {
+        let fitting = table.fitting(&scope, bounds);
+        if fitting.is_empty() {
+            return;
+        }
+        *field = u16::from(*random.pick(&fitting));
+    }
+    let [a, b] = fields;
+    table.commands[goto] = Node {
+        kind: 4,
+        which: named,
+        a,
+        b,
+        c: 0,
+    };
+}
+
+/// The register bytes of the parameters in scope.
+fn in_scope(scope: &[Bounds]) -> impl Iterator<Item = u8> {
+    (0..scope.len().min(MOST_PARAMETERS) as u8).map(|number| PARAMETER_REGISTER + number)
 }
 
 pub fn spoil_fall(table: &mut Table, random: &mut Random) {
@@ -146,14 +184,16 @@ fn wrap_fall(table: &mut Table, random: &mut Random) {
     }
     let state = *random.pick(&falling);
     let own = table.states[state];
-    let Some(register) = too_high(table, own.label, random) else {
+    let scope = table.scope(state);
+    let Some(register) = too_high(table, &scope, own.label, random) else {
         return;
     };
-    let label = table.registers[usize::from(register)].label;
+    let label = table.label_of(register);
     let mut siblings = table.children(usize::from(own.parent));
     siblings.retain(|&sibling| {
-        let above = table.states[usize::from(sibling)].label;
-        state != 0 && table.flows(label, above) && table.flows(own.label, above)
+        let named = table.states[usize::from(sibling)];
+        let flows = |from: u8| table.always_flows(&scope, from, named.label);
+        state != 0 && named.count == 0 && flows(label) && flows(own.label)
     });
     let condition = table.read(register);
     let otherwise = if siblings.is_empty() {
@@ -176,19 +216,26 @@ fn condition_too_much(
     let ifs = tree.ifs(table, number);
     if !ifs.is_empty() {
         let condition = table.commands[*random.pick(&ifs)].a;
-        read_too_much(table, usize::from(condition), label, random);
+        let scope = table.scope(tree.state(number));
+        read_too_much(table, usize::from(condition), &scope, label, random);
     }
 }
 
 /// Some leaf of the expression becomes a register that does not flow to the label.
-fn read_too_much(table: &mut Table, mut expression: usize, label: u8, random: &mut Random) {
+fn read_too_much(
+    table: &mut Table,
+    mut expression: usize,
+    scope: &[Bounds],
+    label: u8,
+    random: &mut Random,
+) {
     while let Node {
         kind: 2.., a, b, ..
     } = table.expressions[expression]
     {
         expression = usize::from(*random.pick(&[a, b]));
     }
-    if let Some(register) = too_high(table, label, random) {
+    if let Some(register) = too_high(table, scope, label, random) {
         table.expressions[expression] = Node {
             kind: 1,
             which: register,
@@ -197,10 +244,17 @@ fn read_too_much(table: &mut Table, mut expression: usize, label: u8, random: &m
     }
 }
 
-/// A register that does not flow to the label: above it, or not to be compared with it.
-fn too_high(table: &Table, label: u8, random: &mut Random) -> Option<u8> {
-    let registers: Vec<u8> = (0..table.registers.len() as u8)
-        .filter(|&r| !table.flows(table.registers[usize::from(r)].label, label))
-        .collect();
+/// A register or a parameter in scope that does not always flow to the label: above it, or not to be
+/// compared with it, or so for some choice.
+fn too_high(table: &Table, scope: &[Bounds], label: u8, random: &mut Random) -> Option<u8> {
+    let flows = |register: u8| table.always_flows(scope, table.label_of(register), label);
+    let of = |bytes: &mut dyn Iterator<Item = u8>| -> Vec<u8> {
+        bytes.filter(|&register| !flows(register)).collect()
+    };
+    let registers = of(&mut (0..table.registers.len() as u8));
+    let parameters = of(&mut in_scope(scope));
+    if !parameters.is_empty() && random.percent(50) {
+        return Some(*random.pick(&parameters));
+    }
     (!registers.is_empty()).then(|| *random.pick(&registers))
 }

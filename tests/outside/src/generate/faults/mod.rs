@@ -6,6 +6,7 @@ mod directory;
 mod flow;
 mod gates;
 mod nodes;
+mod parameters;
 mod raw;
 mod records;
 mod shape;
@@ -54,6 +55,7 @@ pub fn spoil(table: &mut Table, number: u32, random: &mut Random) {
         7 => nodes::spoil_depth(table, random),
         8 => shape::spoil_shape(table, random),
         16 => shape::spoil_port(table, random),
+        19 => parameters::spoil_parameter(table, random),
         9 => children::spoil_child(table, random),
         10 => flow::spoil_assign(table, random),
         11 => flow::spoil_goto(table, random),

@@ -18,6 +18,11 @@ pub fn spoil_field(table: &mut Table, random: &mut Random) {
     let registers = table.registers.len() as u8;
     let states = table.states.len() as u8;
     let expressions = table.expressions.len() as u16;
+    // Neither a register nor a parameter.
+    let none: &[u8] = match usize::from(registers) {
+        MOST_REGISTERS => &[66, 67, 128, 255],
+        _ => &[registers, MOST_REGISTERS as u8 - 1, 66, 255],
+    };
     let nodes = table.nodes(family);
     let count = nodes.len() as u16;
     let number = random.index(nodes.len());
@@ -47,11 +52,13 @@ pub fn spoil_field(table: &mut Table, random: &mut Random) {
             }
         }
         _ => match (family, node.kind) {
+            // Of its fields only c is 5's.
+            (Family::Command, 4) if random.percent(30) => node.c = *random.pick(&[1, 64, 256]),
             (Family::Command, 4) => {
                 node.which = *random.pick(&[states, states + 1, MOST_STATES as u8, 255])
             }
             (Family::Command, 1) if random.percent(50) => {
-                node.which = *random.pick(&[registers, MOST_REGISTERS as u8, 255]);
+                node.which = *random.pick(none);
             }
             (Family::Command, 1 | 5) => {
                 node.a = *random.pick(&[
@@ -62,7 +69,7 @@ pub fn spoil_field(table: &mut Table, random: &mut Random) {
                 ]);
             }
             (Family::Expression, 1) => {
-                node.which = *random.pick(&[registers, MOST_REGISTERS as u8, 255])
+                node.which = *random.pick(none);
             }
             _ => {}
         },

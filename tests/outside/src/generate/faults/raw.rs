@@ -1,7 +1,7 @@
 //! Faults that know nothing of the format: damage, other lengths, and bytes without sense.
 
 use crate::generate::random::Random;
-use crate::reference::limits::REGISTER_BYTES;
+use crate::reference::limits::{REGISTER_BYTES, STATE_BYTES};
 
 /// Some bytes or bits are others.
 pub fn damaged(mut image: Vec<u8>, random: &mut Random) -> Vec<u8> {
@@ -33,13 +33,13 @@ pub fn resized(mut image: Vec<u8>, random: &mut Random) -> Vec<u8> {
 /// Random bytes, half of them behind a directory that holds.
 pub fn senseless(random: &mut Random) -> Vec<u8> {
     if random.percent(50) {
-        let length = *random.pick(&[0, 1, 2, 19, 20, 21, 22, 46, 210, 1_000]);
+        let length = *random.pick(&[0, 1, 2, 19, 20, 21, 22, 56, 235, 1_000]);
         return bytes(random, length);
     }
     let counts = [
         random.between(1, 16) * 2,
         random.between(0, 64) * REGISTER_BYTES,
-        random.between(1, 64) * 4,
+        random.between(1, 64) * STATE_BYTES,
         random.between(0, 30) * 8,
         random.between(0, 30) * 8,
     ];

@@ -88,17 +88,23 @@ pub fn spoil_state(table: &mut Table, random: &mut Random) {
     let labels = table.rows.len() as u8;
     let states = table.states.len();
     let commands = table.commands.len() as u16;
+    // Neither a label nor what stands for one.
+    let none: &[u8] = match usize::from(labels) {
+        MOST_LABELS => &[18, 19, 128, 255],
+        _ => &[labels, MOST_LABELS as u8 - 1, 18, 255],
+    };
     let number = random.index(states);
     let state = &mut table.states[number];
     match (random.below(3), number) {
         // The root has parent 0 and label 0, though others exist.
         (0, 0) => state.parent = random.index(states) as u8,
+        (1, 0) if random.percent(30) => state.label = *random.pick(none),
         (1, 0) => state.label = random.index(usize::from(labels)) as u8,
         (0, _) => {
             let above = random.between(number, states) as u8;
             state.parent = *random.pick(&[number as u8, above, MOST_STATES as u8, 255]);
         }
-        (1, _) => state.label = *random.pick(&[labels, MOST_LABELS as u8, 255]),
+        (1, _) => state.label = *random.pick(none),
         _ => {
             state.command = *random.pick(&[commands, commands + 1, MOST_COMMANDS as u16, u16::MAX])
         }

@@ -3,6 +3,7 @@
 use super::flow::Tree;
 use crate::generate::random::Random;
 use crate::reference::image::PORT;
+use crate::reference::limits::MOST_PARAMETERS;
 use crate::table::{Node, Table};
 
 pub fn spoil_shape(table: &mut Table, random: &mut Random) {
@@ -67,19 +68,29 @@ fn spoil_goto_name(table: &mut Table, tree: &Tree, random: &mut Random) {
     table.commands[number].which = *random.pick(&[0, parent, child, any]);
 }
 
-/// Some assignment, not only the first, names a port.
+/// Some assignment, not only the first, names a port, or some goto passes one.
 pub fn spoil_port(table: &mut Table, random: &mut Random) {
     let assigns = numbers(table, |node| node.kind == 1);
+    let takes = |node: &Node| table.states[usize::from(node.which)].count;
+    let passes = numbers(table, |node| node.kind == 4 && takes(node) > 0);
+    let ports = table.of_kind(PORT);
+    if !passes.is_empty() && !ports.is_empty() && (assigns.is_empty() || random.percent(60)) {
+        let number = passes[random.index(passes.len())];
+        let count = usize::from(takes(&table.commands[number])).min(MOST_PARAMETERS);
+        let node = &mut table.commands[number];
+        let field = random.below(count);
+        *[&mut node.a, &mut node.b][field] = u16::from(*random.pick(&ports));
+        return;
+    }
     if assigns.is_empty() {
         return;
     }
     let number = assigns[random.index(assigns.len())];
-    let ports = table.of_kind(PORT);
-    if ports.is_empty() || random.percent(30) {
+    let register = usize::from(table.commands[number].which);
+    if register < table.registers.len() && (ports.is_empty() || random.percent(30)) {
         // And with it every other assignment to its register; all flows stay as they were.
-        let register = usize::from(table.commands[number].which);
         table.registers[register].kind = PORT;
-    } else {
+    } else if !ports.is_empty() {
         table.commands[number].which = *random.pick(&ports);
     }
 }
