@@ -7,7 +7,7 @@ use lib.ListN.{length, getD}
 use Rattle.model.specs.Limits.{parametersMax, parameterRegister, parameterLabel, bindingLength}
 use Rattle.model.specs.Indices.{tabulateFrom, joinBelow, someBelow, recursively}
 use Rattle.model.specs.Image.{Design, stateAt}
-use Rattle.model.specs.Lattice.{flowsTo, implies, registerLabel, stateLabel}
+use Rattle.model.specs.Lattice.{flowsTo, registerLabel, stateLabel}
 use Rattle.model.specs.States.{parent, isChild, defaultTarget}
 
 -- every entry of a list passes

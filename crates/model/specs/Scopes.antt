@@ -1,7 +1,7 @@
 -- 02, E8: refusal 19 as it judges nodes, by the state in whose body they stand: "at the lowest state, else the lowest node".
 use Prim.Native.Nat.{ℕ, _+_, _-_, _*_}
 use mathlib.Core.Bool.{Bool, _&&_, _||_, cond}
-use mathlib.Core.List.{List, [], _∷_, _++_}
+use mathlib.Core.List.{List, [], _++_}
 use lib.Dec.{leb, ltb, eqb}
 use lib.ListN.{length}
 use Rattle.model.specs.declared.Found.{Found}

@@ -8,7 +8,7 @@ use Rattle.model.specs.declared.Found.the-variants.{At, Nowhere}
 use Rattle.model.specs.Indices.{lowest, someBelow, recursively}
 use Rattle.model.specs.Image.{Design, registerAt, stateAt}
 use Rattle.model.specs.Lattice.{stateLabel}
-use Rattle.model.specs.Limits.{widthMax, parameterLabel, parametersMax, bindingLength}
+use Rattle.model.specs.Limits.{widthMax, parameterLabel, bindingLength}
 
 -- what was found, else s
 abbrev pub foundOr : ℕ → Found → ℕ
