@@ -1,5 +1,5 @@
 -- An argument lies within bounds for its every choice where its least label does so from below and its greatest from above: one label for a register, the bounds of a parameter in scope.
-use Prim.Native.Nat.{ℕ, zero, suc, _+_, _*_, _-_, _/_, _%_, _^_, _≤_, _<_}
+use Prim.Native.Nat.{ℕ, zero, suc, _+_, _*_, _-_, _/_, _%_, _≤_, _<_}
 use mathlib.Core.Path.{_≡_, refl, sym, _∙_, ap}
 use mathlib.Core.Logic.{_⊎_, inl, inr}
 use mathlib.Core.Bool.{Bool, true, false, _&&_, _||_, not}
@@ -22,30 +22,13 @@ use Rattle.model.proofs.Laws.Bounds.{least-label, least-parameter, most-label, 
 use Rattle.model.specs.Parameters.{leastLabel, mostLabel, boundedFlow}
 use Rattle.model.proofs.Exact.Records.{register-iff}
 use Rattle.model.proofs.Exact.Parameters.{parameters-iff}
-use Rattle.design.specs.Records.{rowIn, registerIn, stateIn, rowEnd, registerEnd, stateEnd}
+use Rattle.design.specs.Records.{registerIn, stateIn, registerEnd, stateEnd}
+use Rattle.design.specs.RecordsAt.{Comparing}
 use Rattle.design.specs.Scopes.{LabelByte}
-use Rattle.design.proofs.Laws.{labels-count, registers-count, states-count, registers-most, row-inside, row-in, register-inside, register-in, state-inside, state-in}
+use Rattle.design.proofs.Laws.{registers-count, states-count, registers-most, register-inside, register-in, state-inside, state-in}
 use Rattle.design.proofs.ResetRules.{states-few}
 use Rattle.design.proofs.BoundRules.{scopes-short, parameter-number, register-label-byte, parameter-label-byte, byte-of, labels-few, bounds-of, pair-in-scope}
-use Rattle.checker_bodies.specs.Scoping.{Comparing, Bounding, Given, Argument, Arguing, Counting}
-
--- ---- two labels
-module _ {image : List ℕ} {i j : ℕ} (here : Comparing image i j) where
-  few-rows : length (designOf image .rows) ≤ 16
-  few-rows = labels-few (here .describes)
-
-  inside : i < here .design .labels
-  inside = let count = labels-count (here .describes) in let below = here .from-label in omega arith
-
-  pub compared-row : rowEnd i ≤ length image
-  compared-row = row-inside (here .describes) inside
-
-  pub compared-small : j < 64
-  compared-small = let few = few-rows in let below = here .to-label in omega arith
-
-  pub compared : {row : ℕ} {b : Bool} → row ≡ rowIn image i → b ≡ eqb (row / 2 ^ j % 2) 1 → b ≡ flowsTo (designOf image .rows) i j
-  unfolding flowsTo
-  compared e h = h ∙ rw (e, row-in (here .describes) inside)
+use Rattle.checker_bodies.specs.Scoping.{Bounding, Given, Argument, Arguing, Counting}
 
 -- ---- the bounds of a parameter
 module _ {image : List ℕ} {place v : ℕ} (here : Bounding image place v) where

@@ -14,7 +14,6 @@ use Rattle.model.specs.Shape.{chargedUnless}
 use Rattle.model.specs.Parameters.{scopeOf, lowerBound, upperBound}
 use Rattle.model.specs.Scopes.{isArgument, scopeFaults, stateScopeFaults}
 use Rattle.design.specs.declared.Design.{Design}
-use Rattle.design.specs.Describes.{Describes}
 use Rattle.design.specs.Kept.{ExpressionsKept, ParametersKept, RecordsKept}
 use Rattle.design.specs.RecordsAt.{StateAt, CommandAt, ExpressionAt}
 use Rattle.design.specs.Scopes.{Scopes}
@@ -45,13 +44,6 @@ pub record StateScopedAt (d : Table) (s place : ℕ) : Type 0 where
   pub says : foundAmong nodePlaces place ≡ lowestOf (stateScopeFaults d s)
 
 -- ---- where the recursion has the places of a design instead of the design
--- labels are compared
-pub record Comparing (image : List ℕ) (from to : ℕ) : Type 0 where
-  pub design : Design
-  pub describes : Describes image design
-  pub from-label : from < length (designOf image .rows)
-  pub to-label : to < length (designOf image .rows)
-
 -- a bound of parameter v is asked for
 pub record Bounding (image : List ℕ) (statesAt v : ℕ) : Type 0 where
   pub design : Design

@@ -4,7 +4,7 @@
 use crate::places::found;
 use crate::places::lower;
 use design::Design;
-use design::rows::bit;
+use design::rows::flows;
 use design::scopes::SCOPE_LENGTH;
 use design::scopes::count;
 use design::wide;
@@ -17,24 +17,14 @@ ghost use lib.ListN.{length};
 ghost use Rattle.model.specs.Limits.{parameterRegister, bindingLength};
 ghost use Rattle.model.specs.Image.{designOf};
 ghost use Rattle.model.specs.Indices.{allBelow};
-ghost use Rattle.model.specs.Lattice.{flowsTo};
 ghost use Rattle.model.specs.Parameters.{lowerBound, upperBound, labelByte, leastLabel, mostLabel};
 ghost use Rattle.model.specs.Scopes.{argumentKept, fieldKept, argumentsKept, scopeFault};
 ghost use Rattle.design.specs.Kept.{RecordsKept, ParametersKept};
 ghost use Rattle.design.specs.Scopes.{Scopes};
-ghost use Rattle.checker_bodies.specs.Scoping.{nodeUnless, Comparing, Bounding, Given, Argument, Arguing, Counting, Reading, Scoping, ReadsAt, ScopedAt, StateScopedAt, plainState, plainCommand, plainExpression, plainDesign};
+ghost use Rattle.checker_bodies.specs.Scoping.{nodeUnless, Bounding, Given, Argument, Arguing, Counting, Reading, Scoping, ReadsAt, ScopedAt, StateScopedAt, plainState, plainCommand, plainExpression, plainDesign};
 
 // No place: it is past every command and every expression.
 const NODES: usize = Design::EXPRESSION_PLACE + Design::EXPRESSIONS;
-
-// Label i flows to label j.
-fn flows(image: &[u8], i: usize, j: usize) -> bool
-    requires { ⌜ Comparing (now image) i j ⌝ }
-    ensures { λ r. ⌜ r ≡ flowsTo (designOf (now (image .entry)) .rows) i j ⌝ }
-{
-    let row = Design::row(image, i);
-    bit(row, j)
-}
 
 // The bounds of parameter v, where the states begin at a place.
 fn lower_bound(image: &[u8], states_at: usize, v: usize) -> usize

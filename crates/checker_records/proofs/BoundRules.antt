@@ -21,9 +21,9 @@ use Rattle.design.specs.Describes.{Describes}
 use Rattle.design.specs.Kept.{LatticeKept, StatesKept, ParametersKept}
 use Rattle.design.specs.Scopes.{LabelByte}
 use Rattle.design.proofs.Laws.{labels-count, states-count}
+use Rattle.design.proofs.RowRules.{comparing}
 use Rattle.design.proofs.BoundRules.{scopes-short, parameter-number, byte-of, labels-few, bounds-of, pair-in-scope}
 use Rattle.checker_records.specs.Bounds.{flowsForEach}
-use Rattle.checker_records.proofs.LatticeRules.{label-small}
 
 -- what the name says
 pub flows-for-each : (y : Image.Design) (s b c : ℕ) → flowsForEach y s b c ≡ everyChoice y s (λ choice. flowsTo (y .rows) (labelUnder choice b) (labelUnder choice c))
@@ -141,4 +141,4 @@ module _ {image : List ℕ} {x : Design} {s : ℕ} (d : Describes image x) (latt
 -- the laws of a label byte, for `search`
 pub ruleset byte-laws = (plain-label, plain-least, plain-greatest, one-of-two, number-inside, bound-least, bound-greatest, lower-label, upper-label)
 
-pub ruleset each-laws = (each-self, each-apart, label-small)
+pub ruleset each-laws = (each-self, each-apart, comparing)

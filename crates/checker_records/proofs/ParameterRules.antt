@@ -27,9 +27,9 @@ use Rattle.design.specs.Resets.{Defaults}
 use Rattle.design.specs.Scopes.{inheritedScope, ScopesBelow}
 use Rattle.design.proofs.Laws.{labels-count, states-count, state-in}
 use Rattle.design.proofs.ResetRules.{parent-is, parent-inside, state-fits}
+use Rattle.design.proofs.RowRules.{comparing}
 use Rattle.design.proofs.ScopeRules.{count-is, scopes-all}
 use Rattle.checker_records.specs.ParameterTests.{firstPairKept, secondPairKept, Entered, ParametersPassed}
-use Rattle.checker_records.proofs.LatticeRules.{label-small}
 
 -- a test that a part fails
 and-third : (a b c : Bool) → b ≡ false → (a && b && c) ≡ false
@@ -154,7 +154,7 @@ module _ {image : List ℕ} {x : Design} (d : Describes image x) where
   parameters-pass p so l = record { is = passed-all p l (states-count d); scopes = λ z. scopes-all d so l }
 
 -- the laws of a state's parameters, for `search`
-pub ruleset pair-laws = (pair-unused, pair-no-lower, pair-no-upper, pair-flows, label-small)
+pub ruleset pair-laws = (pair-unused, pair-no-lower, pair-no-upper, pair-flows, comparing)
 
 pub ruleset taking-laws = (root-takes-none, parent-default, child-takes, state-fits)
 

@@ -1,7 +1,7 @@
 // "For each choice" by bounds: a label byte stands for labels between a least and a greatest one, so one
 // flows to another for each choice where the greatest flows to the least, or both are one.
-use crate::lattice::flows;
 use design::Design;
+use design::rows::flows;
 use design::scopes::in_scope;
 use design::scopes::lower_bound;
 use design::scopes::upper_bound;
@@ -51,5 +51,5 @@ pub fn flows_each(image: &[u8], design: Design, scopes: &[u8], s: usize, x: usiz
     }
     let from = most_label(image, design, scopes, s, x);
     let to = least_label(image, design, scopes, s, y);
-    flows(image, design, from, to)
+    flows(image, from, to)
 }

@@ -2,13 +2,14 @@
 // meaning, over tests of one bit and of whole rows as masks.
 use design::Design;
 use design::rows::bit;
+use design::rows::flows;
 use model::Found;
 ghost use Prim.Native.Nat.{_-_, _^_, _<_};
 ghost use mathlib.Core.Path.{_≡_};
 ghost use lib.ListN.{length, getD};
 ghost use Rattle.model.specs.Indices.{lowestFailing};
 ghost use Rattle.model.specs.Image.{designOf};
-ghost use Rattle.model.specs.Lattice.{flowsTo, rowInside, antisymmetric, transitive, leastFull, joined, labelKept};
+ghost use Rattle.model.specs.Lattice.{rowInside, antisymmetric, transitive, leastFull, joined, labelKept};
 ghost use Rattle.design.specs.Describes.{Describes};
 ghost use Rattle.checker_records.specs.LabelTests.{rowMask, distinct, carries, leastIn, joins};
 
@@ -36,14 +37,6 @@ fn mask(image: &[u8], design: Design, i: usize) -> usize
     row(image, design, i) & full(design)
 }
 
-// Label i flows to label j.
-pub fn flows(image: &[u8], design: Design, i: usize, j: usize) -> bool
-    requires { ⌜ Describes (now image) design × (i < design .labels) × (j < 64) ⌝ }
-    ensures { λ x. ⌜ x ≡ flowsTo (designOf (now (image .entry)) .rows) i j ⌝ }
-{
-    bit(row(image, design, i), j)
-}
-
 // The row of label i has no bit at or above the label count.
 fn row_inside(image: &[u8], design: Design, i: usize) -> bool
     requires { ⌜ Describes (now image) design × (i < design .labels) ⌝ }
@@ -57,10 +50,10 @@ fn distinct(image: &[u8], design: Design, i: usize, j: usize) -> bool
     requires { ⌜ Describes (now image) design × (i < design .labels) × (j < design .labels) ⌝ }
     ensures { λ x. ⌜ x ≡ distinct (designOf (now (image .entry)) .rows) i j ⌝ }
 {
-    if !flows(image, design, i, j) {
+    if !flows(image, i, j) {
         return true;
     }
-    !flows(image, design, j, i) | (i == j)
+    !flows(image, j, i) | (i == j)
 }
 
 // No other label flows to label i and from it.
@@ -168,7 +161,7 @@ fn label_kept(image: &[u8], design: Design, i: usize) -> bool
     if !row_inside(image, design, i) {
         return false;
     }
-    if !flows(image, design, i, i) {
+    if !flows(image, i, i) {
         return false;
     }
     if !antisymmetric(image, design, i) {

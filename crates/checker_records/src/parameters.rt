@@ -1,7 +1,7 @@
 // Refusal 19 at a state: its parameters, their bounds, what is in scope, and its label byte. One pass,
 // from the root on, which fills the table of scopes as it goes.
-use crate::lattice::flows;
 use design::Design;
+use design::rows::flows;
 use design::scopes::inherited;
 use design::scopes::put_scope;
 use model::Found;
@@ -30,7 +30,7 @@ fn pair_kept(image: &[u8], design: Design, used: bool, lower: usize, upper: usiz
     if design.labels <= upper {
         return false;
     }
-    flows(image, design, lower, upper)
+    flows(image, lower, upper)
 }
 
 // State s is neither the root nor a default child.

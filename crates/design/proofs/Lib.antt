@@ -7,5 +7,6 @@ pub mod WordRules
 pub mod WidthRules
 pub mod ResetRules
 pub mod LabelRules
+pub mod RowRules
 pub mod ScopeRules
 pub mod BoundRules

@@ -1,6 +1,6 @@
 -- Bindings as the code has them. They stand behind the targets, so a store behind the targets is a store in them. And the states along the current targets: of two
 -- such states the target of the lower is at most the higher, so a pass upwards meets the next of them at the target of the last.
-use Prim.Native.Nat.{ℕ, zero, suc, _+_, _*_, _/_, _%_, _^_, _≤_, _<_}
+use Prim.Native.Nat.{ℕ, zero, suc, _+_, _*_, _/_, _%_, _≤_, _<_}
 use mathlib.Core.Path.{_≡_, refl, sym, _∙_, ap}
 use mathlib.Core.Logic.{_⊎_, inl, inr, _≢_}
 use mathlib.Core.Bool.{Bool, true, false, _&&_, _||_, not, cond}
@@ -31,10 +31,10 @@ use Rattle.model.proofs.Laws.Paths.{path-root, path-child, path-above}
 use Rattle.model.proofs.Exact.Records.{register-iff}
 use Rattle.model.proofs.Exact.Parameters.{parameters-iff}
 use Rattle.design.specs.declared.Design.{Design}
-use Rattle.design.specs.Records.{rowIn, registerIn, stateIn}
+use Rattle.design.specs.Records.{registerIn, stateIn}
 use Rattle.design.specs.Describes.{Describes}
 use Rattle.design.specs.Kept.{StatesKept, ParametersKept, RecordsKept}
-use Rattle.design.proofs.Laws.{labels-count, labels-most, registers-count, registers-most, states-count, row-in, register-in, state-in}
+use Rattle.design.proofs.Laws.{labels-count, registers-count, registers-most, states-count, register-in, state-in}
 use Rattle.design.proofs.ResetRules.{parent-lower}
 use Rattle.machine.specs.Bindings.{ArgumentsFit, Bound, Pointed, Gone, Packed, TargetsSound, mayBind}
 
@@ -171,14 +171,6 @@ module _ (scopes : List ℕ) (states : ℕ) (area : List ℕ) (s : ℕ) where
       }
 
 -- ---- labels
-module _ {image : List ℕ} {x : Design} (d : Describes image x) where
-  pub label-few : {j : ℕ} → j < x .labels → j < 64
-  label-few l = let most = labels-most d in omega arith
-
-  pub flows-rule : (j : ℕ) {i w : ℕ} {b : Bool} → i < x .labels → w ≡ rowIn image i → b ≡ eqb (w / 2 ^ j % 2) 1 → b ≡ flowsTo (designOf image .rows) i j
-  unfolding flowsTo
-  flows-rule j l e h = h ∙ ap (λ (row : ℕ). eqb (row / 2 ^ j % 2) 1) (e ∙ row-in d l)
-
 module _ {image : List ℕ} {x : Design} (known : RecordsKept image x) where
   label-is : {r c : ℕ} → r < x .registers → c ≡ registerIn image (x .«registers_at») r .label → c ≡ registerLabel (designOf image) r
   label-is l e = e ∙ ap (λ (y : Register). y .label) (register-in (known .describes) l)

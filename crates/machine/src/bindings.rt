@@ -1,7 +1,7 @@
 // The bindings, behind the targets in their area: two bytes for each state, the registers bound to its
 // own parameters.
 use design::Design;
-use design::rows::bit;
+use design::rows::flows;
 use design::scopes::SCOPE_LENGTH;
 use design::scopes::lower_bound;
 use design::scopes::upper_bound;
@@ -15,7 +15,7 @@ ghost use lib.ListN.{length, getD};
 ghost use Rattle.model.specs.Limits.{bindingLength, targetLength};
 ghost use Rattle.model.specs.Indices.{lowestFailing};
 ghost use Rattle.model.specs.Image.{designOf};
-ghost use Rattle.model.specs.Lattice.{flowsTo, registerLabel};
+ghost use Rattle.model.specs.Lattice.{registerLabel};
 ghost use Rattle.model.specs.Parameters.{allOf, ownParameters, withinBounds};
 ghost use Rattle.model.specs.Bindings.{onPath, boundSound, bindingSound};
 ghost use Rattle.model.specs.Calls.{targetsIn, bindingsIn};
@@ -65,14 +65,6 @@ fn byte_kept(design: Design, r: usize) -> bool
     (r == 0) | (r < design.registers)
 }
 
-// Label i flows to label j.
-fn flows(image: &[u8], design: Design, i: usize, j: usize) -> bool
-    requires { ⌜ Describes (now image) design × (i < design .labels) × (j < design .labels) ⌝ }
-    ensures { λ x. ⌜ x ≡ flowsTo (designOf (now (image .entry)) .rows) i j ⌝ }
-{
-    bit(Design::row(image, i), j)
-}
-
 // The label of register r lies within the bounds of parameter v.
 fn within(image: &[u8], design: Design, v: usize, r: usize) -> bool
     requires { ⌜ RecordsKept (now image) design × ParametersKept (designOf (now image)) × (v < bindingLength * design .states) × (r < design .registers) ⌝ }
@@ -81,7 +73,7 @@ fn within(image: &[u8], design: Design, v: usize, r: usize) -> bool
     let label = Design::register_label(image, design.registers_at, r);
     let lower = lower_bound(image, design, v);
     let upper = upper_bound(image, design, v);
-    flows(image, design, lower, label) & flows(image, design, label, upper)
+    flows(image, lower, label) & flows(image, label, upper)
 }
 
 // Register r exists, is no port, and its label lies within the bounds of parameter v.

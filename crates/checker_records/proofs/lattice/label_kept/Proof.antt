@@ -1,4 +1,5 @@
-use Rattle.checker_records.proofs.LatticeRules.{label-laws, label-small}
+use Rattle.checker_records.proofs.LatticeRules.{label-laws}
+use Rattle.design.proofs.RowRules.{comparing}
 use borrow.Author.Needs.{needs}
 use Rattle.checker_records.proofs.lattice.label_kept.Statement.{statement}
 use Rattle.checker_records.proofs.lattice.label_kept.Tie as tie
@@ -10,7 +11,7 @@ returns : tie.Need-returns
 returns c = search (label-laws, needs)
 
 flows-requires : tie.Need-flows-requires
-flows-requires c κs = search (label-small, needs)
+flows-requires c κs = search (comparing, needs)
 
 returns-2 : tie.Need-returns-2
 returns-2 c = search (label-laws, needs)

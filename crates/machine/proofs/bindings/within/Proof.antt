@@ -1,3 +1,4 @@
+use Rattle.design.proofs.RowRules.{comparing}
 use Rattle.machine.proofs.BindingRules.{label-below, lower-below, upper-below, within-rule}
 use borrow.Author.Needs.{needs}
 use Rattle.machine.proofs.bindings.within.Statement.{statement}
@@ -13,10 +14,10 @@ upper-bound-requires : tie.Need-upper-bound-requires
 upper-bound-requires c κs = search needs
 
 flows-requires : tie.Need-flows-requires
-flows-requires c κs = search (label-below, lower-below, needs)
+flows-requires c κs = search (comparing, label-below, lower-below, needs)
 
 flows-requires-2 : tie.Need-flows-requires-2
-flows-requires-2 c κs = search (label-below, upper-below, needs)
+flows-requires-2 c κs = search (comparing, label-below, upper-below, needs)
 
 returns : tie.Need-returns
 returns c = search (within-rule, needs)
