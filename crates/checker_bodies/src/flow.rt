@@ -4,6 +4,7 @@
 // begin, since a whole design would be copied at every call, and answers a place; which rule is
 // broken there, the command's kind tells. It stops at the first fault in the order in which a body is
 // written.
+use crate::masks::ALL;
 use crate::masks::MASKS;
 use crate::masks::label_rows;
 use crate::masks::scope_masks;
@@ -73,7 +74,7 @@ pub fn reads(
             let q = reads(&*image, &*labels, &*masks, expressions_at, b);
             p & q
         }
-        _ => 262143,
+        _ => ALL,
     }
 }
 

@@ -17,6 +17,13 @@ ghost use Rattle.checker_bodies.specs.Masks.{masksLength, widened, Widen
 
 // One entry for each label and each parameter in scope.
 pub const MASKS: usize = Design::LABELS + Design::PARAMETERS;
+// A mask has a bit for each label byte, of 16 labels and then two parameters: those of the parameters, and
+// all of them.
+const FIRST: usize = 65536;
+
+const SECOND: usize = 131072;
+
+pub const ALL: usize = 262143;
 
 // Bit l of a row, as a number.
 fn flag(row: usize, l: usize) -> usize
@@ -31,7 +38,7 @@ fn widen(row: usize, first: usize, second: usize) -> usize
     requires { ⌜ (row < 65536) × (first < 16) × (second < 16) ⌝ }
     ensures { λ m. ⌜ m ≡ widened row first second ⌝ }
 {
-    row + 65536 * flag(row, first) + 131072 * flag(row, second)
+    row + FIRST * flag(row, first) + SECOND * flag(row, second)
 }
 
 // The mask of each label, where the parameters in scope have these lower bounds.
@@ -86,8 +93,8 @@ fn put_own(masks: &mut [usize], first: usize, second: usize)
 {
     let one = masks[first];
     let other = masks[second];
-    masks[Design::PARAMETER_LABEL] = one % 65536 + 65536 + 131072 * (one / 131072 % 2);
-    masks[Design::PARAMETER_LABEL + 1] = other % 131072 + 131072;
+    masks[Design::PARAMETER_LABEL] = one % FIRST + FIRST + SECOND * (one / SECOND % 2);
+    masks[Design::PARAMETER_LABEL + 1] = other % SECOND + SECOND;
 }
 
 // The table of state s, from that of another state.
