@@ -8,10 +8,7 @@ use native.Mathlib.Omega.{arith}
 use lib.ListN.{length}
 use mir.Syntax.{w32}
 use mir.Val.{Fits}
-use Rattle.model.specs.Image.{designOf}
-use Rattle.model.specs.Machine.{resetAreas, afterCycles}
 use Rattle.design.specs.declared.Design.{Design}
-use Rattle.machine.specs.Cycles.{areasIn}
 use Rattle.listing.specs.Lines.{RunningAt}
 use Rattle.lister.specs.Ran.{Ran}
 

@@ -26,7 +26,7 @@ use Rattle.design.proofs.Laws.{labels-count, labels-most, expressions-count, ro
 use Rattle.design.proofs.FieldRules.{command-at, same-command, item-is, a-is, assigned-register, assigned-expression, condition, expression-at}
 use Rattle.checker_bodies.specs.Masks.{Rows}
 use Rattle.checker_bodies.specs.Flows.{ReadsMask, Gathering}
-use Rattle.raising.specs.Passes.{leastOf, RowMask, Labelling, Raising, Assigns, Moved, RaisedAt, RaisedTo}
+use Rattle.raising.specs.Passes.{leastOf, RowMask, Labelling, Raising, Assigns, Moved, RaisedAt}
 use Rattle.raising.proofs.MaskRules.{mask-both, mask-row, read-mask}
 use Rattle.raising.proofs.JoinRules.{least-is-join, least-label}
 
@@ -47,12 +47,6 @@ pub moved-both : {d : Table} {a b c : List ℕ} {p q : Bool} → Moved d a b p �
 moved-both {p = p} {q = q} first second = record { labelling = second .labelling; still = still-both p q (first .still) (second .still) }
 
 -- what is known stays known
-pub raising-on : {image before after : List ℕ} {x : Design} {mask n : ℕ} {moved : Bool} → RaisedAt (designOf image) mask n before after moved → Raising image x before → Raising image x after
-raising-on raised here = record { known = here .known; structured = here .structured; plain = here .plain; labelling = raised .change .labelling }
-
-pub raising-to : {image before after raised : List ℕ} {x : Design} {moved : Bool} → RaisedTo (designOf image) raised before after moved → Raising image x before → Raising image x after
-raising-to to here = record { known = here .known; structured = here .structured; plain = here .plain; labelling = to .change .labelling }
-
 module _ {image labels : List ℕ} {x : Design} (here : Raising image x labels) where
   pub command-here : {n : ℕ} → n < x .commands → CommandAt image x (x .«commands_at») n
   command-here l = command-at (here .known .describes) (here .known .commands) l refl
