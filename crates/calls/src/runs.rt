@@ -3,7 +3,7 @@ use crate::areas::areas_kept;
 use crate::contents::too_large;
 use design::Design;
 use design::reset::default_targets;
-use design::scopes::SCOPE_LENGTH;
+use design::scopes::SCOPES;
 use design::scopes::scopes;
 use machine::bindings::unbound;
 use machine::cycle::cycles;
@@ -31,9 +31,6 @@ ghost use Rattle.calls.specs.Stages.{leftAs, runOn, runSound};
 
 // The most cycles of a run.
 const MOST_CYCLES: u32 = 1000000;
-
-// The length of a table of scopes for the most states.
-const SCOPES: usize = SCOPE_LENGTH * Design::STATES;
 
 // A run of so many cycles is short enough.
 fn count_kept(count: u32) -> bool

@@ -3,7 +3,7 @@
 mod flow;
 
 use design::Design;
-use design::scopes::SCOPE_LENGTH;
+use design::scopes::SCOPES;
 use model::Answer;
 use model::Found;
 use model::Refusal;
@@ -20,9 +20,6 @@ ghost use Rattle.design.specs.Kept.{LatticeKept, RegistersKept, StatesKept, Par
 ghost use Rattle.design.specs.Scopes.{Scopes};
 ghost use Rattle.checker_nodes.specs.Tables.{NodesPassed, OnceWhere, ShallowWhere, NodesTold};
 ghost use Rattle.checker.specs.Stages.{ChildrenTold, fromChildren, fromScopes, fromParameters, fromPorts, fromShape, fromDepths, fromUses, fromNodes, fromStates, fromRegisters, fromLabels};
-
-// The length of a table of scopes for the most states.
-const SCOPES: usize = SCOPE_LENGTH * Design::STATES;
 
 // A command's number, else an expression's place.
 fn commands_first(command: Found, expression: Found) -> Found

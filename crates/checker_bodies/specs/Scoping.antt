@@ -1,17 +1,16 @@
 -- What the pass for refusal 19 knows at a node, and the place of a fault as a number: a command's own, 1,024 plus an expression's, or one past all of these.
 use Prim.Native.Nat.{ℕ, _+_, _/_, _<_}
 use mathlib.Core.Path.{_≡_}
-use mathlib.Core.Bool.{Bool, true, _&&_, cond}
+use mathlib.Core.Bool.{Bool, true, _&&_, _||_, not, cond}
 use mathlib.Core.List.{List, [], _++_}
 use lib.Dec.{ltb, eqb}
 use lib.ListN.{length}
 use Rattle.model.specs.Limits.{expressionPlace, expressionsMax, parameterRegister, bindingLength}
-use Rattle.model.specs.Image.{Design as Table, Node, designOf, stateAt, commandAt, expressionAt}
+use Rattle.model.specs.Image.{Design as Table, designOf, commandAt, expressionAt}
 use Rattle.model.specs.Indices.{lowestOf, allBelow}
-use Rattle.model.specs.Kinds.{CommandKind, skips, assigns, sequences, falls, goes, branches, unknownCommand, ExpressionKind, constants, reads, unknownExpression, operates, commandKind, expressionKind}
 use Rattle.model.specs.Trees.{Expr, constant, register, binary, exprOf, cmdOf}
 use Rattle.model.specs.Shape.{chargedUnless}
-use Rattle.model.specs.Parameters.{scopeOf, lowerBound, upperBound}
+use Rattle.model.specs.Parameters.{scopeOf, hasParameters, lowerBound, upperBound}
 use Rattle.model.specs.Scopes.{isArgument, scopeFaults, stateScopeFaults}
 use Rattle.design.specs.declared.Design.{Design}
 use Rattle.design.specs.Kept.{ExpressionsKept, ParametersKept, RecordsKept}
@@ -86,31 +85,15 @@ pub record Scoping (image scopes : List ℕ) (registersAt statesAt commandsAt ex
   pub command : CommandAt image (arguing .design) commandsAt n
   pub expressions-begin : expressionsAt ≡ arguing .design .«expressions_at»
 
--- ---- a design that names no parameter: no node can be at fault
-unfoldable pub commandPlain : CommandKind → Node → Bool
-commandPlain skips x = true
-commandPlain assigns x = ltb (x .item) parameterRegister
-commandPlain sequences x = true
-commandPlain falls x = true
-commandPlain goes x = eqb (x .a) 0 && eqb (x .b) 0
-commandPlain branches x = true
-commandPlain unknownCommand x = true
-
-unfoldable pub expressionPlain : ExpressionKind → Node → Bool
-expressionPlain constants x = true
-expressionPlain reads x = ltb (x .item) parameterRegister
-expressionPlain (operates o) x = true
-expressionPlain unknownExpression x = true
-
+-- ---- a design that names no parameter: no node can be at fault. A byte that names no register is below the names of parameters by its rule
 module _ (d : Table) where
-  unfoldable pub plainState : ℕ → Bool
-  plainState s = eqb (stateAt d s .parameters) 0
-
   unfoldable pub plainCommand : ℕ → Bool
-  plainCommand n = commandPlain (commandKind (commandAt d n .kind)) (commandAt d n)
+  plainCommand n =
+      ltb (commandAt d n .item) parameterRegister
+      && (not (eqb (commandAt d n .kind) 4) || (eqb (commandAt d n .a) 0 && eqb (commandAt d n .b) 0))
 
   unfoldable pub plainExpression : ℕ → Bool
-  plainExpression e = expressionPlain (expressionKind (expressionAt d e .kind)) (expressionAt d e)
+  plainExpression e = ltb (expressionAt d e .item) parameterRegister
 
   unfoldable pub plainDesign : Bool
-  plainDesign = allBelow plainState (length (d .states)) && (allBelow plainCommand (length (d .commands)) && allBelow plainExpression (length (d .expressions)))
+  plainDesign = not (hasParameters d) && (allBelow plainCommand (length (d .commands)) && allBelow plainExpression (length (d .expressions)))

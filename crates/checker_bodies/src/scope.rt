@@ -7,6 +7,7 @@ use design::Design;
 use design::rows::flows;
 use design::scopes::SCOPE_LENGTH;
 use design::scopes::count;
+use design::scopes::has_parameters;
 use design::wide;
 use model::Found;
 ghost use Prim.Native.Nat.{_<_};
@@ -21,7 +22,7 @@ ghost use Rattle.model.specs.Parameters.{lowerBound, upperBound, labelByte, lea
 ghost use Rattle.model.specs.Scopes.{argumentKept, fieldKept, argumentsKept, scopeFault};
 ghost use Rattle.design.specs.Kept.{RecordsKept, ParametersKept};
 ghost use Rattle.design.specs.Scopes.{Scopes};
-ghost use Rattle.checker_bodies.specs.Scoping.{nodeUnless, Bounding, Given, Argument, Arguing, Counting, Reading, Scoping, ReadsAt, ScopedAt, StateScopedAt, plainState, plainCommand, plainExpression, plainDesign};
+ghost use Rattle.checker_bodies.specs.Scoping.{nodeUnless, Bounding, Given, Argument, Arguing, Counting, Reading, Scoping, ReadsAt, ScopedAt, StateScopedAt, plainCommand, plainExpression, plainDesign};
 
 // No place: it is past every command and every expression.
 const NODES: usize = Design::EXPRESSION_PLACE + Design::EXPRESSIONS;
@@ -358,29 +359,18 @@ fn state_scope(image: &[u8], design: Design, scopes: &[u8], s: usize) -> usize
     )
 }
 
-// State s has no parameter.
-fn plain_state(image: &[u8], design: Design, s: usize) -> bool
-    requires { ⌜ RecordsKept (now image) design × (s < design .states) ⌝ }
-    ensures { λ b. ⌜ b ≡ plainState (designOf (now (image .entry))) s ⌝ }
-{
-    Design::parameters(image, design.states_at, s) == 0
-}
-
-// Command n names no parameter, and gives none.
+// Command n names no parameter, and gives none. Where a byte names no register, its rule keeps it below
+// the names of parameters.
 fn plain_command(image: &[u8], design: Design, n: usize) -> bool
     requires { ⌜ RecordsKept (now image) design × (n < design .commands) ⌝ }
     ensures { λ b. ⌜ b ≡ plainCommand (designOf (now (image .entry))) n ⌝ }
 {
-    let kind = Design::kind(image, design.commands_at, n);
-    match kind {
-        1 => Design::item(image, design.commands_at, n) < Design::PARAMETER_REGISTER,
-        4 => {
-            let a = Design::part_a(image, design.commands_at, n);
-            let b = Design::part_b(image, design.commands_at, n);
-            (a == 0) & (b == 0)
-        }
-        _ => true,
-    }
+    let at = design.commands_at;
+    let kind = Design::kind(image, at, n);
+    let item = Design::item(image, at, n);
+    let a = Design::part_a(image, at, n);
+    let b = Design::part_b(image, at, n);
+    (item < Design::PARAMETER_REGISTER) & ((kind != 4) | ((a == 0) & (b == 0)))
 }
 
 // Expression e names no parameter.
@@ -388,25 +378,7 @@ fn plain_expression(image: &[u8], design: Design, e: usize) -> bool
     requires { ⌜ RecordsKept (now image) design × (e < design .expressions) ⌝ }
     ensures { λ b. ⌜ b ≡ plainExpression (designOf (now (image .entry))) e ⌝ }
 {
-    let kind = Design::kind(image, design.expressions_at, e);
-    match kind {
-        1 => Design::item(image, design.expressions_at, e) < Design::PARAMETER_REGISTER,
-        _ => true,
-    }
-}
-
-fn plain_states(image: &[u8], design: Design) -> bool
-    requires { ⌜ RecordsKept (now image) design ⌝ }
-    ensures { λ b. ⌜ b ≡ allBelow (plainState (designOf (now (image .entry)))) (length (designOf (now (image .entry)) .states)) ⌝ }
-{
-    let mut s = 0;
-    while s < design.states {
-        if !plain_state(image, design, s) {
-            return false;
-        }
-        s += 1;
-    }
-    true
+    Design::item(image, design.expressions_at, e) < Design::PARAMETER_REGISTER
 }
 
 fn plain_commands(image: &[u8], design: Design) -> bool
@@ -443,8 +415,8 @@ fn plain(image: &[u8], design: Design) -> bool
     requires { ⌜ RecordsKept (now image) design ⌝ }
     ensures { λ b. ⌜ b ≡ plainDesign (designOf (now (image .entry))) ⌝ }
 {
-    let states = plain_states(image, design);
-    if !states {
+    let some = has_parameters(image, design);
+    if some {
         return false;
     }
     let commands = plain_commands(image, design);

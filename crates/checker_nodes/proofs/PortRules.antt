@@ -1,13 +1,13 @@
 -- Whether a command names a port, tested on its kind byte and on the kinds of the registers that it names, is the meaning's rule: a number past the registers is no
 -- port's, and where its record is kept, a goto names a state.
 use Prim.Native.Nat.{ℕ, zero, suc, _≤_, _<_}
-use mathlib.Core.Path.{_≡_, refl, _∙_, ap}
+use mathlib.Core.Path.{_≡_, refl, sym, _∙_, ap}
 use mathlib.Core.Bool.{Bool, true, false, _&&_, not}
 use mathlib.Core.List.{List}
 use native.Mathlib.Omega.{arith}
 use lib.Dec.{ltb, eqb}
 use lib.ListN.{List·getD-eq-default}
-use Rattle.model.specs.Image.{Design as Table, Register, State, Node, noRegister, designOf, registerAt, commandAt}
+use Rattle.model.specs.Image.{Design as Table, Register, State, Node, noRegister, designOf, registerAt, stateAt, commandAt}
 use Rattle.model.specs.States.{isPort}
 use Rattle.model.specs.Kinds.{assigns, goes, commandKind}
 use Rattle.model.specs.Ports.{fieldSparesPorts, sparesPorts, namesNoPort}
@@ -73,9 +73,17 @@ module _ {image : List ℕ} {x : Design} {n : ℕ} (known : RecordsKept image x)
   unfolding namesNoPort sparesPorts
   goto-rule q f g k t a b = rw (f, g, command-kind-of here goes q k (kind-goes refl), item-is here t, a-is here a, b-is here b)
 
+  -- a state without parameters is given nothing
+  pub goto-plain : {k t m : ℕ} → k ≡ 4 → m ≡ 0 → k ≡ nodeIn image (x .«commands_at») n .kind → t ≡ nodeIn image (x .«commands_at») n .item → m ≡ stateIn image (x .«states_at») t .parameters
+      → true ≡ namesNoPort (designOf image) n
+  unfolding namesNoPort sparesPorts fieldSparesPorts
+  goto-plain q z k t m =
+      let none : stateAt (designOf image) (commandAt (designOf image) n .item) .parameters ≡ 0 = ap (λ (s : ℕ). stateAt (designOf image) s .parameters) (sym (item-is here t)) ∙ sym (m ∙ ap (λ (y : State). y .parameters) (state-in (known .describes) (goto-state q k t))) ∙ z in
+      rw (command-kind-of here goes q k (kind-goes refl), none)
+
   -- no other command is asked
   pub other-rule : {k : ℕ} → (k ≡ 1 → ⊥) → (k ≡ 4 → ⊥) → k ≡ nodeIn image (x .«commands_at») n .kind → true ≡ namesNoPort (designOf image) n
   unfolding namesNoPort
   other-rule {k} one four p = rw (command-kind-is here {k = k} {m = k} refl p) (unasked (designOf image) k (commandAt (designOf image) n) one four)
 
-pub ruleset port-rules = (assignment-rule, goto-state, goto-rule, other-rule)
+pub ruleset port-rules = (assignment-rule, goto-state, goto-plain, goto-rule, other-rule)

@@ -45,6 +45,9 @@ fn names_no_port(image: &[u8], design: Design, n: usize) -> bool
         }
         4 => {
             let t = Design::item(image, at, n);
+            if Design::parameters(image, design.states_at, t) == 0 {
+                return true;
+            }
             let a = Design::part_a(image, at, n);
             let b = Design::part_b(image, at, n);
             field_spares_ports(image, design, t, 0, a) & field_spares_ports(image, design, t, 1, b)

@@ -1,25 +1,28 @@
 -- What is in scope of a state is what is in scope of its parent, then its own parameters. So its entry in the table of scopes comes from its parent's.
 use Prim.Native.Nat.{ℕ, zero, suc, _+_, _*_, _-_, _/_, _%_, _≤_, _<_}
-use mathlib.Core.Path.{_≡_, sym, _∙_, ap}
+use mathlib.Core.Path.{_≡_, refl, sym, _∙_, ap}
+use mathlib.Core.Bool.{Bool, true, false, not}
 use mathlib.Core.List.{List, [], _++_}
 use native.Mathlib.Omega.{arith}
 use native.Mathlib.Numerals.{add-one}
 use native.Mathlib.Decide.{ℕ-discrete}
 use lib.Dec.{eqb}
-use lib.ListN.{length, getD, set, length-set, length-append, List·getD-append, List·getD-eq-default}
+use lib.ListN.{length, getD, set, length-set, length-append, List·getD-append, List·getD-eq-default, replicate, length-replicate, getD-replicate}
 use lib.Seq.{getD-set-same, getD-set-other}
 use borrow.Author.Tests.{eq-eqb, ne-eqb}
 use Rattle.model.specs.Image.{Design as Table, State, designOf, stateAt}
 use Rattle.model.specs.States.{parent}
-use Rattle.model.specs.Parameters.{ownParameters, scopeOf, lowerBound, upperBound}
+use Rattle.model.specs.Parameters.{ownParameters, scopeOf, hasParameters, lowerBound, upperBound}
 use Rattle.model.proofs.Laws.Booleans.{cond-true, cond-false}
 use Rattle.model.proofs.Laws.Indices.{extend, nothing-below-zero}
+use Rattle.model.proofs.Laws.Passes.{Missed, missed-more, one-passes, none-pass}
+use Rattle.model.proofs.Laws.Plain.{plain-iff, plain-scope}
 use Rattle.model.proofs.Laws.Scopes.{own-length, own-at, scope-root, scope-step, getD-append-second}
 use Rattle.design.specs.declared.Design.{Design}
 use Rattle.design.specs.Records.{stateIn, stateEnd}
 use Rattle.design.specs.Describes.{Describes}
 use Rattle.design.specs.Kept.{StatesKept}
-use Rattle.design.specs.Scopes.{scopeLength, inheritedScope, ScopesBelow, Scopes, ScopesShort}
+use Rattle.design.specs.Scopes.{scopeLength, inheritedScope, ScopesBelow, Scopes, NoParameters, ScopesShort}
 use Rattle.design.proofs.Laws.{states-count, state-inside, state-in}
 use Rattle.design.proofs.ResetRules.{states-few, parent-is, parent-inside, parent-lower}
 
@@ -245,6 +248,44 @@ module _ {image : List ℕ} {x : Design} (d : Describes image x) where
 
     pub parameter-read : {i v : ℕ} → i < 2 → v ≡ getD table (3 * s + 1 + i) 0 → v ≡ getD (scopeOf (designOf image) s) i 0
     parameter-read {i} h e = let states = states-count d in e ∙ entry-first-two table-below s i (omega arith) h
+
+-- ---- the loop that looks for a parameter
+abbrev pub parametrised : Table → ℕ → Bool
+parametrised d s = not (eqb (stateAt d s .parameters) 0)
+
+module _ {image : List ℕ} {x : Design} {s : ℕ} (describes : Describes image x) where
+  module _ {k : ℕ} (l : s < x .states) (is : k ≡ stateIn image (x .«states_at») s .parameters) where
+    own-is : k ≡ stateAt (designOf image) s .parameters
+    own-is = is ∙ ap (λ (y : State). y .parameters) (state-in describes l)
+
+    pub parameter-found : (k ≡ 0 → ⊥) → true ≡ hasParameters (designOf image)
+    unfolding hasParameters
+    parameter-found some =
+        one-passes (parametrised (designOf image)) l (states-count describes) (rw (← own-is, ne-eqb k 0 some) refl) refl
+
+    pub parameter-missed : Missed (parametrised (designOf image)) s → k ≡ 0 → Missed (parametrised (designOf image)) (s + 1)
+    parameter-missed missed none = missed-more missed (rw (← own-is, eq-eqb k 0 none) refl) refl
+
+  pub parameters-none : Missed (parametrised (designOf image)) s → x .states ≤ s → false ≡ hasParameters (designOf image)
+  unfolding hasParameters
+  parameters-none missed l = none-pass missed l (states-count describes)
+
+-- where no state has a parameter, nothing is in scope
+pub empty-scopes : {image : List ℕ} {x : Design} → Describes image x → NoParameters (designOf image) → Scopes (designOf image) (replicate {A = ℕ} 192 0)
+empty-scopes {image} describes plain =
+    let few = states-few describes in
+    let count = states-count describes in
+    let long = length-replicate {A = ℕ} 192 0 in
+    let none = plain-scope (designOf image) (plain .none) in
+    record {
+      long = omega arith;
+      count = λ s l. getD-replicate {A = ℕ} 192 (3 * s) 0 0 (omega arith) ∙ sym (ap length (none s));
+      first = λ s l. getD-replicate {A = ℕ} 192 (3 * s + 1) 0 0 (omega arith) ∙ sym (ap (λ (scope : List ℕ). getD scope 0 0) (none s));
+      second = λ s l. getD-replicate {A = ℕ} 192 (3 * s + 2) 0 0 (omega arith) ∙ sym (ap (λ (scope : List ℕ). getD scope 1 0) (none s));
+    }
+
+pub no-parameters : {b : Bool} (d : Table) → b ≡ false → b ≡ hasParameters d → NoParameters d
+no-parameters d h e = record { none = plain-iff d .0 (rw (← e, h) refl) }
 
 -- the laws of a state's entry, for `search`
 pub ruleset scope-laws = (none-above, parent-entry, parent-parameter, some-above, parameter-above, count-is, parameter-own, parameter-none, count-fits, own-parameter-fits)

@@ -7,7 +7,7 @@ use mathlib.Core.List.{List, []}
 use lib.Dec.{eqb}
 use lib.ListN.{length, getD}
 use Rattle.model.specs.Limits.{parametersMax, parameterLabel}
-use Rattle.model.specs.Image.{Design as Table}
+use Rattle.model.specs.Image.{Design as Table, stateAt}
 use Rattle.model.specs.States.{parent}
 use Rattle.model.specs.Parameters.{scopeOf}
 
@@ -32,6 +32,10 @@ pub record Scopes (d : Table) (table : List ℕ) : Type 0 where
   pub count : (s : ℕ) → s < length (d .states) → getD table (scopeLength * s) 0 ≡ length (scopeOf d s)
   pub first : (s : ℕ) → s < length (d .states) → getD table (scopeLength * s + 1) 0 ≡ getD (scopeOf d s) 0 0
   pub second : (s : ℕ) → s < length (d .states) → getD table (scopeLength * s + 2) 0 ≡ getD (scopeOf d s) 1 0
+
+-- no state has a parameter
+pub record NoParameters (d : Table) : Type 0 where
+  pub none : (s : ℕ) → s < length (d .states) → stateAt d s .parameters ≡ 0
 
 -- a label byte that stands for a label, or for a parameter in scope of state s
 pub record LabelByte (d : Table) (s byte : ℕ) : Type 0 where

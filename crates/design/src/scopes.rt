@@ -7,13 +7,15 @@ ghost use mathlib.Core.Path.{_≡_};
 ghost use lib.ListN.{length, getD};
 ghost use Rattle.model.specs.Limits.{parametersMax, bindingLength};
 ghost use Rattle.model.specs.Image.{designOf};
-ghost use Rattle.model.specs.Parameters.{scopeOf, lowerBound, upperBound};
+ghost use Rattle.model.specs.Parameters.{scopeOf, hasParameters, lowerBound, upperBound};
 ghost use Rattle.design.specs.Describes.{Describes};
 ghost use Rattle.design.specs.Kept.{StatesKept};
 ghost use Rattle.design.specs.Scopes.{scopeLength, inheritedScope, ScopesBelow, Scopes, ScopesShort};
 
 // The bytes that a state takes in the table.
 pub const SCOPE_LENGTH: usize = 3;
+// The length of a table for the most states.
+pub const SCOPES: usize = SCOPE_LENGTH * Design::STATES;
 
 // The lower bound of parameter v.
 pub fn lower_bound(image: &[u8], design: Design, v: usize) -> usize
@@ -97,6 +99,21 @@ pub fn in_scope(image: &[u8], design: Design, scopes: &[u8], s: usize, i: usize)
     ensures { λ v. ⌜ (v ≡ getD (scopeOf (designOf (now (image .entry))) s) i 0) × (v < 256) ⌝ }
 {
     wide(scopes[SCOPE_LENGTH * s + 1 + i])
+}
+
+// Some state has a parameter. Where none has, the table has only zeros.
+pub fn has_parameters(image: &[u8], design: Design) -> bool
+    requires { ⌜ Describes (now image) design ⌝ }
+    ensures { λ x. ⌜ x ≡ hasParameters (designOf (now (image .entry))) ⌝ }
+{
+    let mut s = 0;
+    while s < design.states {
+        if Design::parameters(image, design.states_at, s) != 0 {
+            return true;
+        }
+        s += 1;
+    }
+    false
 }
 
 // The entries of all states.

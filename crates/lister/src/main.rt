@@ -3,7 +3,7 @@
 // Behind a write that failed it writes one line to standard error, and ends. No contract can speak of
 // what is written; a function that writes answers whether all of it was.
 use design::Design;
-use design::scopes::SCOPE_LENGTH;
+use design::scopes::SCOPES;
 use listing::lines::header;
 use listing::lines::next_line;
 use listing::lines::refusal_line;
@@ -26,13 +26,11 @@ ghost use Rattle.lister.specs.Ran.{Ran};
 // A cycle count, the longest image and one byte more: whatever stands behind them, an image so long
 // is refused.
 const INPUT: usize = Design::LARGEST + 3;
-// The bytes of all registers, of all targets and bindings, and of a table of what is in scope of all
-// states.
+// The bytes of all registers, and of all targets and bindings.
 const REGISTERS: usize = 256;
 
 const TARGETS: usize = Design::TARGET_LENGTH * Design::STATES;
 
-const SCOPES: usize = SCOPE_LENGTH * Design::STATES;
 // The longest header, refusal and line of a cycle.
 const HEADER: usize = 21;
 

@@ -1,12 +1,11 @@
 -- The call from each point on: what has been found, before what follows; and that the table which the passes leave is the meaning's labelling, so that the flow
 -- under it is the verdict on the raised image.
-use Prim.Native.Nat.{ℕ, _+_, _*_, _≤_, _<_}
+use Prim.Native.Nat.{ℕ, _+_, _*_, _≤_}
 use mathlib.Core.Path.{_≡_, refl, sym, _∙_, ap, ap₂}
-use mathlib.Core.Bool.{Bool, true, false, not}
+use mathlib.Core.Bool.{Bool, true, false}
 use mathlib.Core.List.{List}
 use native.Mathlib.Omega.{arith}
-use lib.Dec.{eqb}
-use lib.ListN.{length, getD, replicate, length-replicate, getD-replicate}
+use lib.ListN.{length}
 use lib.Seq.{ext-getD}
 use borrow.Author.Tests.{eq-eqb, ne-eqb}
 use Rattle.model.specs.declared.Refusal.{Refusal}
@@ -14,7 +13,7 @@ use Rattle.model.specs.declared.Refusal.the-variants.{Area, NoRaising, RaisePar
 use Rattle.model.specs.declared.Answer.{Answer}
 use Rattle.model.specs.declared.Answer.the-variants.{Accepted, Refused}
 use Rattle.model.specs.Limits.{registerLength}
-use Rattle.model.specs.Image.{Design as Table, State, Registers, offset, designOf, stateAt}
+use Rattle.model.specs.Image.{Registers, offset, designOf}
 use Rattle.model.specs.Lattice.{registerLabel}
 use Rattle.model.specs.Parameters.{hasParameters}
 use Rattle.model.specs.Labelling.{labelsOf, relabelled}
@@ -23,19 +22,15 @@ use Rattle.model.specs.Rules.{DirectoryKeeps, StructureKeeps}
 use Rattle.model.specs.Verdict.{_before_, refusedAt, structure, verdict}
 use Rattle.model.specs.Raising.{LeftOut, putLabels, raisedTimes, raisedLabels, raisedImage, raiseAnswer, raise}
 use Rattle.model.proofs.Exact.{structure-exact}
-use Rattle.model.proofs.Laws.Passes.{Missed, missed-more, one-passes, none-pass}
-use Rattle.model.proofs.Laws.Plain.{plain-iff, plain-scope}
 use Rattle.model.proofs.Laws.Relabelling.{length-labels, label-at}
 use Rattle.model.proofs.Raising.Images.{raised-verdict}
 use Rattle.design.specs.declared.Design.{Design}
-use Rattle.design.specs.Records.{stateIn}
 use Rattle.design.specs.Describes.{Describes}
 use Rattle.design.specs.Resets.{Filled}
-use Rattle.design.specs.Scopes.{Scopes}
-use Rattle.design.proofs.Laws.{registers-count, states-count, state-in}
-use Rattle.design.proofs.ResetRules.{states-few}
+use Rattle.design.specs.Scopes.{NoParameters}
+use Rattle.design.proofs.Laws.{registers-count}
 use Rattle.checker.proofs.Accepted.{structure-known}
-use Rattle.raising.specs.Passes.{NoParameters, Labelling, Raising}
+use Rattle.raising.specs.Passes.{Labelling, Raising}
 use Rattle.raising.specs.Stages.{leftOutAs, raiseWithin, raisePlain, raiseOn}
 
 -- ---- once the structure is accepted
@@ -100,41 +95,6 @@ labels-inside out here own e =
     let long = ap length e in
     omega (arith, describes .registers, describes .registers-at, k .states-at, k .commands-at, k .expressions-at, k .ends, k .sections Registers .whole)
 
--- ---- the loop that looks for a parameter
-abbrev pub parametrised : Table → ℕ → Bool
-parametrised d s = not (eqb (stateAt d s .parameters) 0)
-
-module _ {image : List ℕ} {x : Design} {s : ℕ} (describes : Describes image x) where
-  module _ {k : ℕ} (l : s < x .states) (is : k ≡ stateIn image (x .«states_at») s .parameters) where
-    count-is : k ≡ stateAt (designOf image) s .parameters
-    count-is = is ∙ ap (λ (y : State). y .parameters) (state-in describes l)
-
-    pub parameter-found : (k ≡ 0 → ⊥) → true ≡ hasParameters (designOf image)
-    unfolding hasParameters
-    parameter-found some =
-        one-passes (parametrised (designOf image)) l (states-count describes) (rw (← count-is, ne-eqb k 0 some) refl) refl
-
-    pub parameter-missed : Missed (parametrised (designOf image)) s → k ≡ 0 → Missed (parametrised (designOf image)) (s + 1)
-    parameter-missed missed none = missed-more missed (rw (← count-is, eq-eqb k 0 none) refl) refl
-
-  pub parameters-none : Missed (parametrised (designOf image)) s → x .states ≤ s → false ≡ hasParameters (designOf image)
-  unfolding hasParameters
-  parameters-none missed l = none-pass missed l (states-count describes)
-
--- where no state has a parameter, nothing is in scope
-pub empty-scopes : {image : List ℕ} {x : Design} → Describes image x → NoParameters (designOf image) → Scopes (designOf image) (replicate {A = ℕ} 192 0)
-empty-scopes {image} describes plain =
-    let few = states-few describes in
-    let count = states-count describes in
-    let long = length-replicate {A = ℕ} 192 0 in
-    let none = plain-scope (designOf image) (plain .none) in
-    record {
-      long = omega arith;
-      count = λ s l. getD-replicate {A = ℕ} 192 (3 * s) 0 0 (omega arith) ∙ sym (ap length (none s));
-      first = λ s l. getD-replicate {A = ℕ} 192 (3 * s + 1) 0 0 (omega arith) ∙ sym (ap (λ (scope : List ℕ). getD scope 0 0) (none s));
-      second = λ s l. getD-replicate {A = ℕ} 192 (3 * s + 2) 0 0 (omega arith) ∙ sym (ap (λ (scope : List ℕ). getD scope 1 0) (none s));
-    }
-
 -- ---- the area, and all that follows
 pub area-refuses : (image out : List ℕ) → (length out ≡ length image → ⊥) → leftOutAs (Refused Area 0) out ≡ raisePlain image out
 unfolding raisePlain refusedAt _before_
@@ -152,9 +112,6 @@ parameters-refuse image out h e = rw (← e, h)
 pub parameters-pass : {left : LeftOut} {b : Bool} (image out : List ℕ) → b ≡ false → b ≡ hasParameters (designOf image) → left ≡ raisePlain image out → left ≡ raiseOn image out
 unfolding raiseOn raisePlain refusedAt _before_
 parameters-pass image out h e k = rw (← e, h) k
-
-pub no-parameters : {b : Bool} (d : Table) → b ≡ false → b ≡ hasParameters d → NoParameters d
-no-parameters d h e = record { none = plain-iff d .0 (rw (← e, h) refl) }
 
 -- ---- the whole
 module _ (image : List ℕ) {a : Answer} (is : a ≡ structure image) where

@@ -6,7 +6,7 @@ use mathlib.Core.List.{List}
 use lib.Dec.{eqb}
 use lib.ListN.{length}
 use Rattle.model.specs.Indices.{lowest}
-use Rattle.model.specs.Image.{Design as Table, designOf, stateAt, commandAt}
+use Rattle.model.specs.Image.{Design as Table, designOf, commandAt}
 use Rattle.model.specs.Lattice.{allFlowTo}
 use Rattle.model.specs.States.{foundOr}
 use Rattle.model.specs.Trees.{cmdOf}
@@ -15,6 +15,7 @@ use Rattle.model.specs.Raising.{raisedBy}
 use Rattle.design.specs.declared.Design.{Design}
 use Rattle.design.specs.Kept.{RecordsKept}
 use Rattle.design.specs.Labels.{LabelsKept}
+use Rattle.design.specs.Scopes.{NoParameters}
 use Rattle.checker_records.specs.LabelTests.{leastIn}
 use Rattle.checker_bodies.specs.Masks.{Rows}
 
@@ -26,10 +27,6 @@ leastOf rows among = foundOr 0 (lowest (leastIn rows among) (length rows))
 pub record Labelling (d : Table) (labels : List ℕ) : Type 0 where
   pub kept : LabelsKept d labels
   pub exact : length labels ≡ length (d .registers)
-
--- no state has a parameter
-pub record NoParameters (d : Table) : Type 0 where
-  pub none : (s : ℕ) → s < length (d .states) → stateAt d s .parameters ≡ 0
 
 -- a context of labels as a mask: without parameters all label bytes are labels
 pub record RowMask (rows context : List ℕ) (mask : ℕ) : Type 0 where

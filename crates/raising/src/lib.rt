@@ -10,23 +10,21 @@ use crate::passes::raise_labels;
 use checker_bodies::flow::faults;
 use design::Design;
 use design::labels::register_labels;
-use design::scopes::SCOPE_LENGTH;
+use design::scopes::SCOPES;
+use design::scopes::has_parameters;
 use model::Answer;
 use model::Refusal;
 ghost use mathlib.Core.Path.{_≡_};
 ghost use lib.ListN.{length};
 ghost use Rattle.model.specs.declared.Answer.the-variants.{Accepted};
 ghost use Rattle.model.specs.Image.{designOf};
-ghost use Rattle.model.specs.Parameters.{hasParameters};
 ghost use Rattle.model.specs.Labelling.{labelsOf};
 ghost use Rattle.model.specs.Verdict.{structure as structureOf};
 ghost use Rattle.model.specs.Raising.{raise as raiseOf};
 ghost use Rattle.design.specs.Describes.{Describes};
-ghost use Rattle.raising.specs.Passes.{NoParameters, Raising};
+ghost use Rattle.design.specs.Scopes.{NoParameters};
+ghost use Rattle.raising.specs.Passes.{Raising};
 ghost use Rattle.raising.specs.Stages.{leftOutAs, raiseWithin, raisePlain, raiseOn};
-
-// The length of a table of scopes for the most states.
-const SCOPES: usize = SCOPE_LENGTH * Design::STATES;
 
 // Raising with a table of the registers' own labels, into an area as long as the image. No state has a
 // parameter, so the table of what is in scope has only zeros.
@@ -85,21 +83,6 @@ fn raise_plain(image: &[u8], design: Design, out: &mut [u8]) -> Answer
         return Answer::Refused(Refusal::Area, 0);
     }
     raise_sized(image, design, out)
-}
-
-// Some state has a parameter.
-fn has_parameters(image: &[u8], design: Design) -> bool
-    requires { ⌜ Describes (now image) design ⌝ }
-    ensures { λ x. ⌜ x ≡ hasParameters (designOf (now (image .entry))) ⌝ }
-{
-    let mut s = 0;
-    while s < design.states {
-        if Design::parameters(image, design.states_at, s) != 0 {
-            return true;
-        }
-        s += 1;
-    }
-    false
 }
 
 // Raising an image whose structure is accepted.

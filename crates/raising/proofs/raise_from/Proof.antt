@@ -1,4 +1,5 @@
-use Rattle.raising.proofs.StageRules.{within-refuses, within-accepts, labels-inside, empty-scopes}
+use Rattle.raising.proofs.StageRules.{within-refuses, within-accepts, labels-inside}
+use Rattle.design.proofs.ScopeRules.{empty-scopes}
 use Rattle.checker.proofs.Accepted.{structure-parameters, structure-bodies}
 use borrow.Author.Needs.{needs}
 use borrow.Author.Needs.{needs}

@@ -1,4 +1,5 @@
-use Rattle.raising.proofs.StageRules.{structured-directory, parameters-refuse, parameters-pass, no-parameters}
+use Rattle.raising.proofs.StageRules.{structured-directory, parameters-refuse, parameters-pass}
+use Rattle.design.proofs.ScopeRules.{no-parameters}
 use borrow.Author.Needs.{needs}
 use Rattle.raising.proofs.raise_structured.Statement.{statement}
 use Rattle.raising.proofs.raise_structured.Tie as tie

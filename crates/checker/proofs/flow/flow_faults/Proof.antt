@@ -1,6 +1,5 @@
 use Rattle.design.proofs.LabelRules.{registers-few, own-labels-kept}
-use Rattle.design.proofs.BoundRules.{scopes-short}
-use Rattle.checker.proofs.StageRules.{scopes-fit}
+use Rattle.design.proofs.ScopeRules.{empty-scopes, no-parameters}
 use Rattle.checker.proofs.OwnLabels.{own-flow}
 use borrow.Author.Needs.{needs}
 use Rattle.checker.proofs.flow.flow_faults.Statement.{statement}
@@ -12,11 +11,17 @@ slice-aggregate-register-labels c = search needs
 register-labels-requires : tie.Need-register-labels-requires
 register-labels-requires c κs = (search needs, search (registers-few, needs))
 
-slice-aggregate-scopes : tie.Need-slice-aggregate-scopes
-slice-aggregate-scopes c = search needs
+has-parameters-requires : tie.Need-has-parameters-requires
+has-parameters-requires c κs = search needs
 
-scopes-requires : tie.Need-scopes-requires
-scopes-requires c κs = (search needs, search needs, search scopes-short, search (scopes-fit, needs))
+slice-aggregate-declared-faults : tie.Need-slice-aggregate-declared-faults
+slice-aggregate-declared-faults c = search needs
+
+declared-faults-requires : tie.Need-declared-faults-requires
+declared-faults-requires c κs = (search needs, search needs, search (own-labels-kept, registers-few, needs), search needs)
+
+returns : tie.Need-returns
+returns c = search (own-flow, needs)
 
 slice-aggregate-faults : tie.Need-slice-aggregate-faults
 slice-aggregate-faults c = search needs
@@ -25,10 +30,11 @@ slice-aggregate-faults-2 : tie.Need-slice-aggregate-faults-2
 slice-aggregate-faults-2 c = search needs
 
 faults-requires : tie.Need-faults-requires
-faults-requires c κs = (search needs, search needs, search needs, search (own-labels-kept, registers-few, needs), search needs)
+faults-requires c κs =
+    (search needs, search needs, search (empty-scopes, no-parameters, needs), search (own-labels-kept, registers-few, needs), search needs)
 
-returns : tie.Need-returns
-returns c = search (own-flow, needs)
+returns-2 : tie.Need-returns-2
+returns-2 c = search (own-flow, needs)
 
 pub flow-faults-spec : {M : Type 1} → statement M
 flow-faults-spec =
@@ -36,9 +42,11 @@ flow-faults-spec =
     (tie.spec
     slice-aggregate-register-labels
     register-labels-requires
-    slice-aggregate-scopes
-    scopes-requires
+    has-parameters-requires
+    slice-aggregate-declared-faults
+    declared-faults-requires
+    returns
     slice-aggregate-faults
     slice-aggregate-faults-2
     faults-requires
-    returns)
+    returns-2)

@@ -3,8 +3,8 @@ use borrow.Author.Needs.{needs}
 use Rattle.checker_bodies.proofs.scope.plain.Statement.{statement}
 use Rattle.checker_bodies.proofs.scope.plain.Tie as tie
 
-plain-states-requires : tie.Need-plain-states-requires
-plain-states-requires c κs = search needs
+has-parameters-requires : tie.Need-has-parameters-requires
+has-parameters-requires c κs = search needs
 
 returns : tie.Need-returns
 returns c = search (plain-laws, needs)
@@ -25,7 +25,7 @@ pub plain-spec : {M : Type 1} → statement M
 plain-spec =
     tie.close
     (tie.spec
-    plain-states-requires
+    has-parameters-requires
     returns
     plain-commands-requires
     returns-2

@@ -1,4 +1,4 @@
-use Rattle.checker_bodies.proofs.PlainRules.{plain-assign, plain-goto, plain-other}
+use Rattle.checker_bodies.proofs.PlainRules.{plain-command-rule}
 use borrow.Author.Needs.{needs}
 use Rattle.checker_bodies.proofs.scope.plain_command.Statement.{statement}
 use Rattle.checker_bodies.proofs.scope.plain_command.Tie as tie
@@ -16,22 +16,8 @@ part-b-requires : tie.Need-part-b-requires
 part-b-requires c κs = search needs
 
 returns : tie.Need-returns
-returns c = search (plain-assign, needs)
-
-returns-2 : tie.Need-returns-2
-returns-2 c = search (plain-goto, needs)
-
-returns-3 : tie.Need-returns-3
-returns-3 c = search (plain-other, needs)
+returns c = search (plain-command-rule, needs)
 
 pub plain-command-spec : {M : Type 1} → statement M
 plain-command-spec =
-    tie.close
-    (tie.spec
-    kind-requires
-    item-requires
-    part-a-requires
-    part-b-requires
-    returns
-    returns-2
-    returns-3)
+    tie.close (tie.spec kind-requires item-requires part-a-requires part-b-requires returns)

@@ -1,11 +1,11 @@
 use Prim.Native.Nat.{_-_}
 use Rattle.model.specs.Image.{designOf}
 use Rattle.model.proofs.Laws.Passes.{Missed, missed-none}
 use Rattle.design.proofs.Laws.{state-inside}
-use Rattle.raising.proofs.StageRules.{parametrised, parameter-found, parameter-missed, parameters-none}
+use Rattle.design.proofs.ScopeRules.{parametrised, parameter-found, parameter-missed, parameters-none}
 use borrow.Author.Needs.{needs}
-use Rattle.raising.proofs.has_parameters.Statement.{statement}
-use Rattle.raising.proofs.has_parameters.Tie as tie
+use Rattle.design.proofs.scopes.has_parameters.Statement.{statement}
+use Rattle.design.proofs.scopes.has_parameters.Tie as tie
 
 abbrev Inv-loop : tie.InvT-loop
 Inv-loop image design s₀ s = Missed (parametrised (designOf image)) s
