@@ -113,7 +113,7 @@ module _ (image : List ℕ) (lent : Lent) where
 
   -- ---- a run of areas that are ready
   module _ (ready : Ready) where
-    ready-run : (n : ℕ) → n ≤ cyclesMax → run image lent n ≡ record { answer = Accepted n; lent = lentOf (afterCycles (designOf image) n (areasOf (designOf image) lent)) }
+    pub ready-run : (n : ℕ) → n ≤ cyclesMax → run image lent n ≡ record { answer = Accepted n; lent = lentOf (afterCycles (designOf image) n (areasOf (designOf image) lent)) }
     unfolding perform
     ready-run n l = run-accepted image (ready .accepted) lent (ready .lengths) (ready .contents) (ready .sound) (ready .bound) n (at-most-iff .1 l)
 
@@ -147,7 +147,7 @@ module _ (image : List ℕ) (accepted : verdict image ≡ Accepted 0) where
       after-good (designOf image) (λ areas. run-good (designOf image) (accepted-design image keeps) (length (designOf image .states)) 0 areas (root-live (designOf image) (accepted-design image keeps) areas (rooted image (keeps .directory))))
 
   -- good areas, written as bytes, are ready
-  good-ready : (areas : Areas) → Good (designOf image) areas → Ready image (lentOf areas)
+  pub good-ready : (areas : Areas) → Good (designOf image) areas → Ready image (lentOf areas)
   unfolding lentOf contentKept areasOf
   good-ready areas good =
       let d = designOf image in

@@ -47,7 +47,7 @@ pub mod Scopes
 pub mod Flows
 
 -- a stage that searches, put before those behind it
-stage : {refusal : Refusal} {Kept : ℕ → Type 0} {f : Found} {b : Answer} {count : ℕ} {more : List Pass} → Finds f Kept → Decides b count more → Decides (refusedAt refusal f before b) count ((refusal asks Kept ∷ []) ∷ more)
+pub stage : {refusal : Refusal} {Kept : ℕ → Type 0} {f : Found} {b : Answer} {count : ℕ} {more : List Pass} → Finds f Kept → Decides b count more → Decides (refusedAt refusal f before b) count ((refusal asks Kept ∷ []) ∷ more)
 stage found next = decides-before (decides-one found) (λ kept. next)
 
 -- ---- the image checks

@@ -67,7 +67,7 @@ shows-lowest-child
 shows-lowest-child = unfold checks in refl
 
 -- Why "from reset onward". The group, state 1, has label 1: if r1 then fall else goto 1. Its default child 2 has label 1, and the spare child 3 has label 0: r0 := 1; goto 3.
-abbrev spare : List ℕ
+abbrev pub spare : List ℕ
 spare =
     assemble
     chain

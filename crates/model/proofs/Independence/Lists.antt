@@ -17,8 +17,8 @@ use Rattle.model.specs.Rules.{StructureKeeps}
 use Rattle.model.specs.Verdict.{verdict}
 use Rattle.model.specs.Values.{modulus, fits, wordsOf}
 use Rattle.model.specs.Machine.{Areas, Cycle, resetAreas, cycle, cycles, afterLast, afterCycles}
-use Rattle.model.specs.Calls.{Lent, Left, contentKept, isWritable, areasOf, lentOf}
-use Rattle.model.specs.Parties.{Call, resets, writes, runs, perform, Event, wasReset, wasWritten, cycled, eventsOf, events, atEnd, Seen, Remaining, aReset, aWrite, aCycle, registerSeen, valuesSeen, walkSeen, view, remaining, givenUnseen, RightLengths, Use, withUnseen, start, history, remains, views, seenAtEnd}
+use Rattle.model.specs.Calls.{Lent, Left, contentKept, isWritable, areasOf, lentOf, reset}
+use Rattle.model.specs.Parties.{Call, resets, writes, runs, perform, Event, wasReset, wasWritten, cycled, eventsOf, events, atEnd, Seen, Remaining, aReset, aWrite, aCycle, registerSeen, valuesSeen, walkSeen, view, remaining, RightLengths, Use, withUnseen, start, history, remains, views, seenAtEnd}
 use Rattle.model.proofs.Laws.Equivalences.{less-iff}
 use Rattle.model.proofs.Laws.Words.{length-bytesOf}
 use Rattle.model.proofs.Exact.{verdict-exact}
@@ -32,64 +32,131 @@ module _ (d : Design) (level : ℕ) where
   abbrev pub shown : Cycle → Seen
   shown c = record { values = valuesSeen d level (c .after .registers); walk = walkSeen d level (c .ranWith) (c .walk) }
 
-  pub followed : Areas → List Remaining → List Seen
+  unfoldable pub followed : Areas → List Remaining → List Seen
   followed areas [] = []
   followed areas (aReset ∷ more) = followed (resetAreas d) more
   followed areas (aWrite r v ∷ more) = followed (withRegister r v areas) more
   followed areas (aCycle ∷ more) = shown (cycle d areas) ∷ followed (cycle d areas .after) more
 
-  pub followedEnd : Areas → List Remaining → Areas
+  unfoldable pub followedEnd : Areas → List Remaining → Areas
   followedEnd areas [] = areas
   followedEnd areas (aReset ∷ more) = followedEnd (resetAreas d) more
   followedEnd areas (aWrite r v ∷ more) = followedEnd (withRegister r v areas) more
   followedEnd areas (aCycle ∷ more) = followedEnd (cycle d areas .after) more
 
+  -- ---- one list and then another
+  pub followed-append : (areas : Areas) (first second : List Remaining)
+      → followed areas (first ++ second) ≡ followed areas first ++ followed (followedEnd areas first) second
+  unfolding followed followedEnd
+  followed-append areas [] second = refl
+  followed-append areas (aReset ∷ first) second = followed-append (resetAreas d) first second
+  followed-append areas (aWrite r v ∷ first) second = followed-append (withRegister r v areas) first second
+  followed-append areas (aCycle ∷ first) second = rw (followed-append (cycle d areas .after) first second)
+
+  pub end-append : (areas : Areas) (first second : List Remaining) → followedEnd areas (first ++ second) ≡ followedEnd (followedEnd areas first) second
+  unfolding followedEnd
+  end-append areas [] second = refl
+  end-append areas (aReset ∷ first) second = end-append (resetAreas d) first second
+  end-append areas (aWrite r v ∷ first) second = end-append (withRegister r v areas) first second
+  end-append areas (aCycle ∷ first) second = end-append (cycle d areas .after) first second
+
+  pub view-append : (first second : List Event) → view d level (first ++ second) ≡ view d level first ++ view d level second
+  unfolding view
+  view-append [] second = refl
+  view-append (wasReset ∷ first) second = view-append first second
+  view-append (wasWritten r v ∷ first) second = view-append first second
+  view-append (cycled c ∷ first) second = rw (view-append first second)
+
+  pub remaining-append : (first second : List Event) → remaining d level (first ++ second) ≡ remaining d level first ++ remaining d level second
+  unfolding remaining
+  remaining-append [] second = refl
+  remaining-append (wasReset ∷ first) second = rw (remaining-append first second)
+  remaining-append (wasWritten r v ∷ first) second = rw (remaining-append first second) (go (registerSeen d level r))
+    where
+      go : (w : Bool)
+          → cond w (aWrite r v ∷ (remaining d level first ++ remaining d level second)) (remaining d level first ++ remaining d level second)
+          ≡ cond w (aWrite r v ∷ remaining d level first) (remaining d level first) ++ remaining d level second
+      go true = refl
+      go false = refl
+  remaining-append (cycled c ∷ first) second = rw (remaining-append first second)
+
 module _ (d₁ d₂ : Design) (level : ℕ) where
-  -- events of the first design, and the values seen at their end, are those of the canonical run in the second
-  pub record Agrees (happened : List Event) (values : List ℕ) (areas : Areas) : Type 0 where
+  -- events of the first design show what the canonical run in the second shows, which they lead from areas to areas
+  pub record Agrees (happened : List Event) (areas reached : Areas) : Type 0 where
     pub seen : view d₁ level happened ≡ followed d₂ level areas (remaining d₁ level happened)
-    pub at-end : values ≡ valuesSeen d₂ level (followedEnd d₂ level areas (remaining d₁ level happened) .registers)
+    pub at-end : followedEnd d₂ level areas (remaining d₁ level happened) ≡ reached
 
-module _ {d₁ d₂ : Design} {level : ℕ} {more : List Event} {values : List ℕ} {areas : Areas} where
-  agrees-reset : Agrees d₁ d₂ level more values (resetAreas d₂) → Agrees d₁ d₂ level (wasReset ∷ more) values areas
-  unfolding view remaining followed followedEnd
-  agrees-reset h = record { seen = h .seen; at-end = h .at-end }
+module _ {d₁ d₂ : Design} {level : ℕ} where
+  pub agrees-append : {first second : List Event} {areas between reached : Areas}
+      → Agrees d₁ d₂ level first areas between
+      → Agrees d₁ d₂ level second between reached
+      → Agrees d₁ d₂ level (first ++ second) areas reached
+  agrees-append {first} {second} {areas} h k =
+      let rest = remaining d₁ level second in
+      record {
+        seen = rw (view-append d₁ level first second, remaining-append d₁ level first second, followed-append d₂ level areas (remaining d₁ level first) rest, h .at-end, h .seen, k .seen);
+        at-end = rw (remaining-append d₁ level first second, end-append d₂ level areas (remaining d₁ level first) rest, h .at-end) (k .at-end);
+      }
 
-  agrees-written : (r v : ℕ) → registerSeen d₁ level r ≡ true
-      → Agrees d₁ d₂ level more values (withRegister r v areas)
-      → Agrees d₁ d₂ level (wasWritten r v ∷ more) values areas
-  unfolding view remaining followed followedEnd
-  agrees-written r v e h = record { seen = rw e (h .seen); at-end = rw e (h .at-end) }
+  module _ {areas : Areas} where
+    pub agrees-none : Agrees d₁ d₂ level [] areas areas
+    unfolding view remaining followed followedEnd
+    agrees-none = record { seen = refl; at-end = refl }
 
-  agrees-struck : (r v : ℕ) → registerSeen d₁ level r ≡ false
-      → Agrees d₁ d₂ level more values areas
-      → Agrees d₁ d₂ level (wasWritten r v ∷ more) values areas
-  unfolding view remaining
-  agrees-struck r v e h = record { seen = rw e (h .seen); at-end = rw e (h .at-end) }
+    agrees-reset : Agrees d₁ d₂ level (wasReset ∷ []) areas (resetAreas d₂)
+    unfolding view remaining followed followedEnd
+    agrees-reset = record { seen = refl; at-end = refl }
 
-  agrees-cycled : (c : Cycle) → shown d₁ level c ≡ shown d₂ level (cycle d₂ areas)
-      → Agrees d₁ d₂ level more values (cycle d₂ areas .after)
-      → Agrees d₁ d₂ level (cycled c ∷ more) values areas
-  unfolding view remaining followed followedEnd
-  agrees-cycled c e h = record { seen = rw (e, h .seen); at-end = h .at-end }
+    agrees-written : (r v : ℕ) → registerSeen d₁ level r ≡ true → Agrees d₁ d₂ level (wasWritten r v ∷ []) areas (withRegister r v areas)
+    unfolding view remaining followed followedEnd
+    agrees-written r v e = record { seen = rw e; at-end = rw e }
+
+    agrees-struck : (r v : ℕ) → registerSeen d₁ level r ≡ false → Agrees d₁ d₂ level (wasWritten r v ∷ []) areas areas
+    unfolding view remaining followed followedEnd
+    agrees-struck r v e = record { seen = rw e; at-end = rw e }
+
+    agrees-cycled : (c : Cycle) → shown d₁ level c ≡ shown d₂ level (cycle d₂ areas) → Agrees d₁ d₂ level (cycled c ∷ []) areas (cycle d₂ areas .after)
+    unfolding view remaining followed followedEnd
+    agrees-cycled c e = record { seen = rw e; at-end = refl }
 
 module _ {d₁ d₂ : Design} {level : ℕ} {Related : Areas → Areas → Type 0} (same : Bisimulation d₁ d₂ level Related) where
-  shown-same : (a b : Areas) → Related a b → shown d₁ level (cycle d₁ a) ≡ shown d₂ level (cycle d₂ b)
-  shown-same a b h = rw (same .values (cycle d₁ a .after) (cycle d₂ b .after) (same .cycles a b h), same .walks a b h)
-
-  -- n cycles, and whatever agrees from all areas that are related to those after the last
-  agrees-cycles : {more : List Event} {values : List ℕ} (n : ℕ) (a b : Areas) → Related a b
-      → ((c : Areas) → Related (afterCycles d₁ n a) c → Agrees d₁ d₂ level more values c)
-      → Agrees d₁ d₂ level (map cycled (cycles d₁ n a) ++ more) values b
-  unfolding afterCycles afterLast cycles
-  agrees-cycles zero a b h rest = rest b h
-  agrees-cycles (suc n) a b h rest =
+  -- one cycle of both
+  pub agrees-cycle : (a b : Areas) → Related a b → Agrees d₁ d₂ level (cycled (cycle d₁ a) ∷ []) b (cycle d₂ b .after)
+  agrees-cycle a b h =
       agrees-cycled
       (cycle d₁ a)
-      (shown-same a b h)
-      (agrees-cycles n (cycle d₁ a .after) (cycle d₂ b .after) (same .cycles a b h) rest)
+      (rw (same .values (cycle d₁ a .after) (cycle d₂ b .after) (same .cycles a b h), same .walks a b h))
+
+  -- n cycles of both
+  pub related-cycles : (n : ℕ) (a b : Areas) → Related a b → Related (afterCycles d₁ n a) (afterCycles d₂ n b)
+  unfolding afterCycles afterLast cycles
+  related-cycles zero a b h = h
+  related-cycles (suc n) a b h = related-cycles n (cycle d₁ a .after) (cycle d₂ b .after) (same .cycles a b h)
+
+  agrees-cycles : (n : ℕ) (a b : Areas) → Related a b → Agrees d₁ d₂ level (map cycled (cycles d₁ n a)) b (afterCycles d₂ n b)
+  unfolding afterCycles afterLast cycles
+  agrees-cycles zero a b h = agrees-none
+  agrees-cycles (suc n) a b h = agrees-append (agrees-cycle a b h) (agrees-cycles n (cycle d₁ a .after) (cycle d₂ b .after) (same .cycles a b h))
 
 -- ---- a list of calls
+-- lent areas that are related to areas of the second run
+pub record Follows (image : List ℕ) (Related : Areas → Areas → Type 0) (lent : Lent) (areas : Areas) : Type 0 where
+  pub area : length (lent .registers) ≡ wordLength * length (designOf image .registers)
+  pub related : Related (areasOf (designOf image) lent) areas
+
+-- what happened leads the second run from areas to some that what is left follows
+pub record Leads
+    (image : List ℕ)
+    (d₂ : Design)
+    (level : ℕ)
+    (Related : Areas → Areas → Type 0)
+    (happened : List Event)
+    (left : Lent)
+    (areas : Areas) : Type 0 where
+  pub reached : Areas
+  pub agrees : Agrees (designOf image) d₂ level happened areas reached
+  pub following : Follows image Related left reached
+
 module _
     (image : List ℕ)
     (accepted : verdict image ≡ Accepted 0)
@@ -97,23 +164,18 @@ module _
     (level : ℕ)
     (Related : Areas → Areas → Type 0)
     (same : Bisimulation (designOf image) d₂ level Related) where
-  -- lent areas that are related to areas of the second run
-  pub record Follows (lent : Lent) (areas : Areas) : Type 0 where
-    pub area : length (lent .registers) ≡ wordLength * length (designOf image .registers)
-    pub related : Related (areasOf (designOf image) lent) areas
-
   keeps : StructureKeeps (designOf image)
   keeps = verdict-exact image .0 accepted .design .structure
 
-  follows-lent : (a b : Areas) → Related a b → Follows (lentOf a) b
+  pub follows-lent : (a b : Areas) → Related a b → Follows image Related (lentOf a) b
   follows-lent a b h =
       let good = same .good a b h in
       record { area = length-lent (designOf image) keeps a good; related = rw (areas-of-lent (designOf image) keeps a good) h }
 
-  good-lent : (lent : Lent) (b : Areas) → Follows lent b → Good (designOf image) (areasOf (designOf image) lent)
+  good-lent : (lent : Lent) (b : Areas) → Follows image Related lent b → Good (designOf image) (areasOf (designOf image) lent)
   good-lent lent b h = same .good (areasOf (designOf image) lent) b (h .related)
 
-  right-lengths : (lent : Lent) (b : Areas) → Follows lent b → RightLengths (designOf image) lent
+  pub right-lengths : (lent : Lent) (b : Areas) → Follows image Related lent b → RightLengths (designOf image) lent
   unfolding areasOf
   right-lengths lent b h =
       let n = length (designOf image .states) in
@@ -123,14 +185,23 @@ module _
       let both : length (lent .targets) ≡ length (take n (lent .targets)) + length (drop n (lent .targets)) = ap length (sym (take-append-drop n (lent .targets))) ∙ length-append (take n (lent .targets)) (drop n (lent .targets)) in
       record { registers = h .area; targets = omega arith }
 
+  -- the values that the level sees of what follows
+  pub values-follow : (lent : Lent) (b : Areas) → Follows image Related lent b
+      → valuesSeen (designOf image) level (wordsOf (length (designOf image .registers)) (lent .registers)) ≡ valuesSeen d₂ level (b .registers)
+  unfolding areasOf
+  values-follow lent b h = same .values (areasOf (designOf image) lent) b (h .related)
+
   -- the contents are never at fault
-  contents : (lent : Lent) (b : Areas) → Follows lent b → (r : ℕ) → r < length (designOf image .registers) → contentKept (designOf image) (lent .registers) r ≡ true
+  contents : (lent : Lent) (b : Areas) → Follows image Related lent b
+      → (r : ℕ)
+      → r < length (designOf image .registers)
+      → contentKept (designOf image) (lent .registers) r ≡ true
   unfolding areasOf contentKept
   contents lent b h r l = less-iff .1 (good-lent lent b h .fitting r)
 
-  follows-written : (lent : Lent) (a b : Areas) (r v : ℕ) → v < modulus (designOf image .registers) r → Follows lent a
+  follows-written : (lent : Lent) (a b : Areas) (r v : ℕ) → v < modulus (designOf image .registers) r → Follows image Related lent a
       → Related (withRegister r v (areasOf (designOf image) lent)) b
-      → Follows (written (designOf image) lent r v) b
+      → Follows image Related (written (designOf image) lent r v) b
   unfolding areasOf
   follows-written lent a b r v fit h k =
       let n = length (designOf image .registers) in
@@ -141,20 +212,14 @@ module _
         related = rw (words-of-written words n r v (good .registers-length) (fitting-bounded (designOf image) keeps (set words r v) (set-fitting (designOf image .registers) words r v fit (good .fitting)))) k;
       }
 
-  abbrev endSeen : Lent → List Call → List ℕ
-  endSeen lent calls = valuesSeen (designOf image) level (wordsOf (length (designOf image .registers)) (atEnd image lent calls .registers))
+  -- one call
+  module _ (lent : Lent) (b : Areas) (h : Follows image Related lent b) where
+    abbrev Claim : Call → Left → Type 0
+    Claim call left = Leads image d₂ level Related (eventsOf (left .answer) image lent call) (left .lent) b
 
-  abbrev Claim : List Call → Lent → Areas → Type 0
-  Claim calls lent b = Agrees (designOf image) d₂ level (events image lent calls) (endSeen lent calls) b
-
-  -- one call, and more calls of which the claim holds
-  module _ (more : List Call) (rest : (lent : Lent) (b : Areas) → Follows lent b → Claim more lent b) (lent : Lent) (b : Areas) (h : Follows lent b) where
     -- a call that leaves what is said
-    claim-left : (call : Call) {left : Left} → perform image lent call ≡ left
-        → Agrees (designOf image) d₂ level (eventsOf (left .answer) image lent call ++ events image (left .lent) more) (endSeen (left .lent) more) b
-        → Claim (call ∷ more) lent b
-    unfolding events atEnd
-    claim-left call e k = rw (e, atEnd) k
+    claim-left : (call : Call) {left : Left} → perform image lent call ≡ left → Claim call left → Claim call (perform image lent call)
+    claim-left call e k = rw e k
 
     lengths : RightLengths (designOf image) lent
     lengths = right-lengths lent b h
@@ -162,19 +227,22 @@ module _
     abbrev areas : Areas
     areas = areasOf (designOf image) lent
 
-    claim-reset : Claim (resets ∷ more) lent b
+    claim-reset : Claim resets (perform image lent resets)
     unfolding perform eventsOf
     claim-reset =
-        let made = follows-lent (resetAreas (designOf image)) (resetAreas d₂) (same .resets) in
-        claim-left resets (reset-leaves image accepted lent lengths) (agrees-reset (rest (lentOf (resetAreas (designOf image))) (resetAreas d₂) made))
+        claim-left
+        resets
+        (reset-leaves image accepted lent lengths)
+        (record { reached = resetAreas d₂; agrees = agrees-reset; following = follows-lent (resetAreas (designOf image)) (resetAreas d₂) (same .resets) })
 
     -- a refused call leaves everything as it is
     claim-refused : (call : Call) {refusal : Refusal} {place : ℕ} → perform image lent call ≡ record { answer = Refused refusal place; lent = lent }
-        → Claim (call ∷ more) lent b
+        → Claim call (perform image lent call)
     unfolding eventsOf
-    claim-refused call e = claim-left call e (rest lent b h)
+    claim-refused call e = claim-left call e (record { reached = b; agrees = agrees-none; following = h })
 
-    claim-written : (r v : ℕ) → isWritable (designOf image) r ≡ true → fits (designOf image .registers) r v ≡ true → Claim (writes r v ∷ more) lent b
+    claim-written : (r v : ℕ) → isWritable (designOf image) r ≡ true → fits (designOf image .registers) r v ≡ true
+        → Claim (writes r v) (perform image lent (writes r v))
     unfolding eventsOf
     claim-written r v e l =
         claim-left (writes r v) (write-accepted image accepted lent lengths (contents lent b h) r v e l) (go (registerSeen (designOf image) level r) refl)
@@ -182,71 +250,87 @@ module _
         fit : v < modulus (designOf image .registers) r
         fit = less-iff .0 l
 
-        made : Lent
-        made = written (designOf image) lent r v
-
         go : (w : Bool) → registerSeen (designOf image) level r ≡ w
-            → Agrees (designOf image) d₂ level (wasWritten r v ∷ events image made more) (endSeen made more) b
+            → Leads image d₂ level Related (wasWritten r v ∷ []) (written (designOf image) lent r v) b
         go true s =
             let c = withRegister r v b in
             let related = same .writes-seen areas b (h .related) r v fit in
-            agrees-written r v s (rest made c (follows-written lent b c r v fit h related))
+            record { reached = c; agrees = agrees-written r v s; following = follows-written lent b c r v fit h related }
         go false s =
             let related = same .writes-unseen areas b (h .related) r v fit s in
-            agrees-struck r v s (rest made b (follows-written lent b b r v fit h related))
+            record { reached = b; agrees = agrees-struck r v s; following = follows-written lent b b r v fit h related }
 
-    claim-write : (r v : ℕ) → Claim (writes r v ∷ more) lent b
+    claim-write : (r v : ℕ) → Claim (writes r v) (perform image lent (writes r v))
     claim-write r v = go (isWritable (designOf image) r) (fits (designOf image .registers) r v) refl refl
       where
-        go : (w f : Bool) → isWritable (designOf image) r ≡ w → fits (designOf image .registers) r v ≡ f → Claim (writes r v ∷ more) lent b
+        go : (w f : Bool) → isWritable (designOf image) r ≡ w → fits (designOf image .registers) r v ≡ f → Claim (writes r v) (perform image lent (writes r v))
         go true true e l = claim-written r v e l
         go true false e l = claim-refused (writes r v) (write-too-large image accepted lent lengths (contents lent b h) r v e l)
         go false f e l = claim-refused (writes r v) (write-refused image accepted lent lengths (contents lent b h) r v e)
 
-    claim-run : (n : ℕ) → Claim (runs n ∷ more) lent b
+    claim-run : (n : ℕ) → Claim (runs n) (perform image lent (runs n))
     unfolding eventsOf areasOf
     claim-run n = go (leb n cyclesMax) refl
       where
         after : Areas
         after = afterCycles (designOf image) n areas
 
-        go : (w : Bool) → leb n cyclesMax ≡ w → Claim (runs n ∷ more) lent b
+        go : (w : Bool) → leb n cyclesMax ≡ w → Claim (runs n) (perform image lent (runs n))
         go true e =
+            let reached = afterCycles d₂ n b in
             claim-left
             (runs n)
             (run-accepted image accepted lent lengths (contents lent b h) (good-lent lent b h .sound) (good-lent lent b h .bound) n e)
-            (agrees-cycles same n areas b (h .related) (λ c k. rest (lentOf after) c (follows-lent after c k)))
+            (record {
+              reached = reached;
+              agrees = agrees-cycles same n areas b (h .related);
+              following = follows-lent after reached (related-cycles same n areas b (h .related));
+            })
         go false e = claim-refused (runs n) (run-refused image accepted lent lengths (contents lent b h) (good-lent lent b h .sound) (good-lent lent b h .bound) n e)
 
-  pub follows : (calls : List Call) (lent : Lent) (b : Areas) → Follows lent b → Claim calls lent b
-  unfolding events atEnd view remaining followed followedEnd areasOf
-  follows [] lent b h = record { seen = refl; at-end = same .values (areasOf (designOf image) lent) b (h .related) }
-  follows (resets ∷ more) lent b h = claim-reset more (follows more) lent b h
-  follows (writes r v ∷ more) lent b h = claim-write more (follows more) lent b h r v
-  follows (runs n ∷ more) lent b h = claim-run more (follows more) lent b h n
+    pub call-leads : (call : Call) → Claim call (perform image lent call)
+    call-leads resets = claim-reset
+    call-leads (writes r v) = claim-write r v
+    call-leads (runs n) = claim-run n
+
+  -- a list of them
+  pub list-leads : (calls : List Call) (lent : Lent) (b : Areas) → Follows image Related lent b
+      → Leads image d₂ level Related (events image lent calls) (atEnd image lent calls) b
+  unfolding events atEnd
+  list-leads [] lent b h = record { reached = b; agrees = agrees-none; following = h }
+  list-leads (call ∷ more) lent b h =
+      let first = call-leads lent b h call in
+      let rest = list-leads more (perform image lent call .lent) (first .reached) (first .following) in
+      record { reached = rest .reached; agrees = agrees-append (first .agrees) (rest .agrees); following = rest .following }
+
+  -- ---- the start
+  reset-good : Good (designOf image) (resetAreas (designOf image))
+  reset-good = same .good (resetAreas (designOf image)) (resetAreas d₂) (same .resets)
+
+  start-lent : (lent : Lent) → RightLengths (designOf image) lent → (given : ℕ → ℕ)
+      → withUnseen image level given (reset image lent .lent) ≡ lentOf (startAreas (designOf image) level given)
+  unfolding withUnseen areasOf lentOf
+  start-lent lent lengths given =
+      let back = areas-of-lent (designOf image) keeps (resetAreas (designOf image)) reset-good in
+      rw (reset-leaves image accepted lent lengths, ap (λ (a : Areas). a .registers) back)
+
+  -- the start is related to the start of the second run, whatever values are given in both within their widths
+  pub start-follows : (lent : Lent) → RightLengths (designOf image) lent → (given₁ given₂ : ℕ → ℕ)
+      → ((r : ℕ) → r < length (designOf image .registers) → given₁ r < modulus (designOf image .registers) r)
+      → ((r : ℕ) → r < length (d₂ .registers) → given₂ r < modulus (d₂ .registers) r)
+      → Follows image Related (withUnseen image level given₁ (reset image lent .lent)) (startAreas d₂ level given₂)
+  start-follows lent lengths given₁ given₂ within fit =
+      rw (start-lent lent lengths given₁) (follows-lent (startAreas (designOf image) level given₁) (startAreas d₂ level given₂) (same .starts given₁ given₂ within fit))
 
   module _ (u : Use (designOf image)) where
-    reset-good : Good (designOf image) (resetAreas (designOf image))
-    reset-good = same .good (resetAreas (designOf image)) (resetAreas d₂) (same .resets)
-
-    start-lent : start image level u ≡ lentOf (startAreas (designOf image) level (u .given))
-    unfolding start withUnseen areasOf lentOf
-    start-lent =
-        let back = areas-of-lent (designOf image) keeps (resetAreas (designOf image)) reset-good in
-        rw (reset-leaves image accepted (u .lent) (u .lengths), ap (λ (a : Areas). a .registers) back)
-
-    -- the start is related to the start of the second run, whatever values are given there within their widths
-    start-follows : (given : ℕ → ℕ) → ((r : ℕ) → r < length (d₂ .registers) → given r < modulus (d₂ .registers) r) → Follows (start image level u) (startAreas d₂ level given)
-    start-follows given fit = rw start-lent (follows-lent (startAreas (designOf image) level (u .given)) (startAreas d₂ level given) (same .starts (u .given) given (u .within) fit))
-
     -- a use shows what the canonical run of what remains shows
     pub use-follows : (given : ℕ → ℕ) → ((r : ℕ) → r < length (d₂ .registers) → given r < modulus (d₂ .registers) r)
         → (views image level u ≡ followed d₂ level (startAreas d₂ level given) (remains image level u))
         × (seenAtEnd image level u ≡ valuesSeen d₂ level (followedEnd d₂ level (startAreas d₂ level given) (remains image level u) .registers))
-    unfolding views remains seenAtEnd history
+    unfolding views remains seenAtEnd history start
     use-follows given fit =
-        let agrees = follows (u .calls) (start image level u) (startAreas d₂ level given) (start-follows given fit) in
-        (agrees .seen, agrees .at-end)
+        let led = list-leads (u .calls) (start image level u) (startAreas d₂ level given) (start-follows (u .lent) (u .lengths) (u .given) given (u .within) fit) in
+        (led .agrees .seen, rw (led .agrees .at-end) (values-follow (atEnd image (start image level u) (u .calls)) (led .reached) (led .following)))
 
 -- Two uses of which the same remains show the same: both show what one canonical run shows.
 pub lists-independent : (image₁ image₂ : List ℕ) → verdict image₁ ≡ Accepted 0 → verdict image₂ ≡ Accepted 0

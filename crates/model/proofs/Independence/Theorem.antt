@@ -5,9 +5,11 @@ use mathlib.Core.Path.{_≡_}
 use mathlib.Core.List.{List}
 use native.Mathlib.Omega.{arith}
 use lib.ListN.{length, drop}
+use Rattle.model.specs.declared.Answer.the-variants.{Accepted}
 use Rattle.model.specs.Limits.{stateLength}
 use Rattle.model.specs.Image.{Labels, Registers, States, count, offset, stateOf, sectionOf, designOf}
 use Rattle.model.specs.Rules.{DirectoryKeeps, Keeps}
+use Rattle.model.specs.Verdict.{verdict}
 use Rattle.model.specs.Parties.{Independent}
 use Rattle.model.proofs.Laws.Words.{length-recordsOf}
 use Rattle.model.proofs.Exact.{verdict-exact}
@@ -36,11 +38,12 @@ accepted-design image keeps =
       few-registers = let most = keeps .directory .sections Registers .at-most in let count = register-count image in omega arith;
     }
 
-pub independent : Independent
-independent image accepted level isLabel one other same =
+-- two runs of an accepted image from reset, at one of its labels
+pub related-runs : (image : List ℕ) → verdict image ≡ Accepted 0 → (level : ℕ) → level < length (designOf image .rows)
+    → Bisimulation (designOf image) (designOf image) level (Related (designOf image) (designOf image) level)
+related-runs image accepted level isLabel =
     let d = designOf image in
     let keeps = verdict-exact image .0 accepted in
-    let related : Bisimulation d d level (Related d d level) =
     related-bisimulation
     d
     d
@@ -49,5 +52,10 @@ independent image accepted level isLabel one other same =
     (accepted-design image keeps)
     (accepted-design image keeps)
     (rooted image (keeps .directory))
-    isLabel in
+    isLabel
+
+pub independent : Independent
+independent image accepted level isLabel one other same =
+    let d = designOf image in
+    let related = related-runs image accepted level isLabel in
     lists-independent image image accepted accepted level (Related d d level) (Related d d level) related related one other same

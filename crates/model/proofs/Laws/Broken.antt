@@ -114,11 +114,11 @@ kept-or-broken {a} {count} d kept r place broken =
     refused-is-not-accepted r place count (sym (d .refuses r place .1 broken) ∙ d .accepts .1 kept)
 
 -- what comes behind is asked only where all before it is kept
-pub decides-before : {a b : Answer} {count : ℕ} {passes more : List Pass} → Decides a 0 passes → (AllKept passes → Decides b count more) → Decides (a before b) count (passes ++ more)
+pub decides-before : {a b : Answer} {first count : ℕ} {passes more : List Pass} → Decides a first passes → (AllKept passes → Decides b count more) → Decides (a before b) count (passes ++ more)
 unfolding _before_
-decides-before {a} {b} {count} {passes} {more} d next = go (d .either)
+decides-before {a} {b} {first} {count} {passes} {more} d next = go (d .either)
   where
-    go : (a ≡ Accepted 0) ⊎ ((refusal : Refusal) × (place : ℕ) × (a ≡ Refused refusal place)) → Decides (a before b) count (passes ++ more)
+    go : (a ≡ Accepted first) ⊎ ((refusal : Refusal) × (place : ℕ) × (a ≡ Refused refusal place)) → Decides (a before b) count (passes ++ more)
     go (inl h) =
         let passed : (a before b) ≡ b = rw h in
         let kept = d .accepts .0 h in
@@ -133,7 +133,7 @@ decides-before {a} {b} {count} {passes} {more} d next = go (d .either)
         }
     go (inr (refusal, i, h)) =
         let passed : (a before b) ≡ a = rw h in
-        let never : AllKept passes → ⊥ = λ kept. refused-is-not-accepted refusal i 0 (sym h ∙ d .accepts .1 kept) in
+        let never : AllKept passes → ⊥ = λ kept. refused-is-not-accepted refusal i first (sym h ∙ d .accepts .1 kept) in
         record {
           either = inr (refusal, i, passed ∙ h);
           accepts = (λ k. absurd (refused-is-not-accepted refusal i count (sym h ∙ sym passed ∙ k)), λ k. absurd (never (all-kept-append passes more .0 k .0)));
