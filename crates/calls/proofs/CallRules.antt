@@ -1,7 +1,7 @@
 -- What each call leaves, case by case of what it judged: a refusal leaves the areas as they were lent, and the bytes of an area of the right length are
 -- those of its values.
 use Prim.Native.Nat.{ℕ, _+_, _*_, _^_, _≤_, _<_}
-use mathlib.Core.Path.{_≡_, sym, _∙_, ap}
+use mathlib.Core.Path.{_≡_, refl, sym, _∙_, ap}
 use mathlib.Core.Bool.{Bool, true, false, not, _&&_}
 use mathlib.Core.List.{List}
 use native.Mathlib.Omega.{arith}
@@ -30,7 +30,7 @@ use Rattle.model.specs.Calls.{Lent, Left, LeftRegisters, lengthAnswer, targetsI
 use Rattle.model.proofs.Laws.Booleans.{not-true, not-false, and-first, and-second}
 use Rattle.model.proofs.Laws.Indices.{failing-none}
 use Rattle.model.proofs.Laws.Equivalences.{less-iff}
-use Rattle.model.proofs.Laws.Verdict.{found-nothing}
+use Rattle.model.proofs.Laws.Verdict.{first-accepts, later-accepts, found-nothing}
 use Rattle.model.proofs.Laws.Words.{bytes-of-words, length-wordsOf}
 use Rattle.model.proofs.Independence.Widths.{fitting-each}
 use Rattle.model.proofs.Exact.Records.{state-iff}
@@ -48,7 +48,7 @@ use Rattle.design.proofs.WidthRules.{width-is}
 use Rattle.machine.specs.Bindings.{TargetsSound}
 use Rattle.machine.specs.Cycles.{Running, areasIn}
 use Rattle.checker.proofs.Accepted.{accepted-known}
-use Rattle.calls.specs.Stages.{leftAs, leftRegistersAs, resetOn, writePortOn, runOn, runSound}
+use Rattle.calls.specs.Stages.{leftAs, leftRegistersAs, resetOn, writePortOn, soundOn, runOn, runSound}
 
 pub registers-few : {image : List ℕ} {x : Design} → Describes image x → x .registers ≤ 64
 registers-few d = omega (arith, d .registers, d .directory .sections Registers)
@@ -250,49 +250,60 @@ pub run-refuses : (d : Table) (registers targets : List ℕ) (n : ℕ) → lengt
 unfolding runOn _before_
 run-refuses d registers targets n h = rw h
 
-pub run-refuses-contents : (d : Table) (registers targets : List ℕ) (n : ℕ) {p : ℕ} → lengthAnswer d (lends registers targets) ≡ Accepted 0 → contentsAnswer d registers ≡ Refused Area p
-    → leftAs (Refused Area p) registers targets ≡ runOn d (lends registers targets) n
-unfolding runOn _before_
-run-refuses-contents d registers targets n right h = rw (right, h)
+-- ---- whether areas are sound
+module _ (d : Table) (registers targets : List ℕ) where
+  pub sound-refuses-contents : {p : ℕ} → contentsAnswer d registers ≡ Refused Area p → Refused Area p ≡ soundOn d (lends registers targets)
+  unfolding soundOn _before_
+  sound-refuses-contents h = rw h
 
-module _ (d : Table) (registers targets : List ℕ) (n : ℕ) {f : Found} where
-  pub run-refuses-target : {p : ℕ} → f ≡ At p → f ≡ lowestFailing (targetSound d (targetsIn d targets)) (length (d .states)) → lengthAnswer d (lends registers targets) ≡ Accepted 0 → contentsAnswer d registers ≡ Accepted 0
-      → leftAs (Refused Area p) registers targets ≡ runOn d (lends registers targets) n
-  unfolding runOn targetsAnswer refusedAt _before_
-  run-refuses-target h found right fit = rw (right, fit, ← found, h)
+  module _ {f : Found} where
+    pub sound-refuses-target : {p : ℕ} → f ≡ At p → f ≡ lowestFailing (targetSound d (targetsIn d targets)) (length (d .states)) → contentsAnswer d registers ≡ Accepted 0 → Refused Area p ≡ soundOn d (lends registers targets)
+    unfolding soundOn targetsAnswer refusedAt _before_
+    sound-refuses-target h found fit = rw (fit, ← found, h)
 
-  module _ {g : Found} (none : f ≡ Nowhere) (found : f ≡ lowestFailing (targetSound d (targetsIn d targets)) (length (d .states))) where
-    pub run-refuses-binding : {p : ℕ} → g ≡ At p → g ≡ lowestFailing (bindingSound d (targetsIn d targets) (bindingsIn d targets)) (length (d .states)) → lengthAnswer d (lends registers targets) ≡ Accepted 0 → contentsAnswer d registers ≡ Accepted 0
-        → leftAs (Refused Area p) registers targets ≡ runOn d (lends registers targets) n
-    unfolding runOn targetsAnswer bindingsAnswer refusedAt _before_
-    run-refuses-binding h loose right fit = rw (right, fit, ← found, none, ← loose, h)
+    module _ {g : Found} (none : f ≡ Nowhere) (found : f ≡ lowestFailing (targetSound d (targetsIn d targets)) (length (d .states))) where
+      pub sound-refuses-binding : {p : ℕ} → g ≡ At p → g ≡ lowestFailing (bindingSound d (targetsIn d targets) (bindingsIn d targets)) (length (d .states)) → contentsAnswer d registers ≡ Accepted 0 → Refused Area p ≡ soundOn d (lends registers targets)
+      unfolding soundOn targetsAnswer bindingsAnswer refusedAt _before_
+      sound-refuses-binding h loose fit = rw (fit, ← found, none, ← loose, h)
 
-    pub run-passes : {left : Left} → left ≡ runSound d (lends registers targets) n → g ≡ Nowhere → g ≡ lowestFailing (bindingSound d (targetsIn d targets) (bindingsIn d targets)) (length (d .states)) → lengthAnswer d (lends registers targets) ≡ Accepted 0 → contentsAnswer d registers ≡ Accepted 0
-        → left ≡ runOn d (lends registers targets) n
-    unfolding runOn runSound targetsAnswer bindingsAnswer refusedAt _before_
-    run-passes k tied loose right fit = rw (right, fit, ← found, none, ← loose, tied) k
+      pub sound-accepts : g ≡ Nowhere → g ≡ lowestFailing (bindingSound d (targetsIn d targets) (bindingsIn d targets)) (length (d .states)) → contentsAnswer d registers ≡ Accepted 0 → Accepted 0 ≡ soundOn d (lends registers targets)
+      unfolding soundOn targetsAnswer bindingsAnswer refusedAt _before_
+      sound-accepts tied loose fit = rw (fit, ← found, none, ← loose, tied)
 
--- what the judged areas give to the cycles
 pub targets-sound : (d : Table) (area : List ℕ) {f : Found} → f ≡ Nowhere → f ≡ lowestFailing (targetSound d (targetsIn d area)) (length (d .states)) → TargetsSound d area
 targets-sound d area none found = record { sound = failing-none (targetSound d (targetsIn d area)) (length (d .states)) (sym found ∙ none) }
 
-fitting-contents : (d : Table) (registers : List ℕ) → contentsAnswer d registers ≡ Accepted 0 → (r : ℕ) → getD (wordsOf (length (d .registers)) registers) r 0 < modulus (d .registers) r
-unfolding contentsAnswer contentKept refusedAt
-fitting-contents d registers fit =
-    fitting-each (d .registers) (wordsOf (length (d .registers)) registers) (length-wordsOf (length (d .registers)) registers)
-    (λ r l. less-iff .0 (failing-none (contentKept d registers) (length (d .registers)) (found-nothing Area (lowestFailing (contentKept d registers) (length (d .registers))) fit) r l))
+-- what each of the three found where all accept
+module _ (d : Table) (lent : Lent) {c : ℕ} (sound : soundOn d lent ≡ Accepted c) where
+  behind-contents : (targetsAnswer d lent before bindingsAnswer d lent) ≡ Accepted c
+  unfolding soundOn
+  behind-contents = later-accepts (contentsAnswer d (lent .registers)) (targetsAnswer d lent before bindingsAnswer d lent) sound
 
-pub run-running : {image : List ℕ} {x : Design} {f g : Found} {table inScope : List ℕ} (registers targets : List ℕ) → Keeps image → Describes image x → Defaults (designOf image) table → Scopes (designOf image) inScope
+  sound-contents : (r : ℕ) → getD (wordsOf (length (d .registers)) (lent .registers)) r 0 < modulus (d .registers) r
+  unfolding soundOn contentsAnswer contentKept
+  sound-contents =
+      fitting-each (d .registers) (wordsOf (length (d .registers)) (lent .registers)) (length-wordsOf (length (d .registers)) (lent .registers))
+      (λ r l. less-iff .0 (failing-none (contentKept d (lent .registers)) (length (d .registers)) (found-nothing Area (lowestFailing (contentKept d (lent .registers)) (length (d .registers))) (first-accepts (contentsAnswer d (lent .registers)) (targetsAnswer d lent before bindingsAnswer d lent) sound .1)) r l))
+
+  sound-targets : (s : ℕ) → s < length (d .states) → targetSound d (targetsIn d (lent .targets)) s ≡ true
+  unfolding targetsAnswer
+  sound-targets = failing-none (targetSound d (targetsIn d (lent .targets))) (length (d .states)) (found-nothing Area (lowestFailing (targetSound d (targetsIn d (lent .targets))) (length (d .states))) (first-accepts (targetsAnswer d lent) (bindingsAnswer d lent) behind-contents .1))
+
+  sound-bindings : (s : ℕ) → s < length (d .states) → bindingSound d (targetsIn d (lent .targets)) (bindingsIn d (lent .targets)) s ≡ true
+  unfolding bindingsAnswer
+  sound-bindings = failing-none (bindingSound d (targetsIn d (lent .targets)) (bindingsIn d (lent .targets))) (length (d .states)) (found-nothing Area (lowestFailing (bindingSound d (targetsIn d (lent .targets)) (bindingsIn d (lent .targets))) (length (d .states))) (later-accepts (targetsAnswer d lent) (bindingsAnswer d lent) behind-contents))
+
+-- what the judged areas give to the cycles
+pub sound-running : {image : List ℕ} {x : Design} {a : Answer} {c : ℕ} {table inScope : List ℕ} (registers targets : List ℕ) → a ≡ Accepted c → a ≡ soundOn (designOf image) (lends registers targets) → Keeps image → Describes image x
+    → Defaults (designOf image) table
+    → Scopes (designOf image) inScope
     → length registers ≡ 4 * x .registers
     → length targets ≡ 3 * x .states
-    → contentsAnswer (designOf image) registers ≡ Accepted 0
-    → f ≡ Nowhere
-    → f ≡ lowestFailing (targetSound (designOf image) (targetsIn (designOf image) targets)) (length (designOf image .states))
-    → g ≡ Nowhere
-    → g ≡ lowestFailing (bindingSound (designOf image) (targetsIn (designOf image) targets) (bindingsIn (designOf image) targets)) (length (designOf image .states))
     → Running image x table inScope registers targets
-run-running {image} registers targets keeps describes defaults scopes area long fit none found tied loose =
+sound-running {image} registers targets h judged keeps describes defaults scopes area long =
     let d = designOf image in
+    let lent = lends registers targets in
+    let sound = sym judged ∙ h in
     record {
       known = accepted-known keeps describes;
       keeps = keeps;
@@ -300,10 +311,20 @@ run-running {image} registers targets keeps describes defaults scopes area long 
       scopes = scopes;
       area = area;
       states = long;
-      fitting = fitting-contents d registers fit;
-      sound = failing-none (targetSound d (targetsIn d targets)) (length (d .states)) (sym found ∙ none);
-      bound = failing-none (bindingSound d (targetsIn d targets) (bindingsIn d targets)) (length (d .states)) (sym loose ∙ tied);
+      fitting = sound-contents d lent sound;
+      sound = sound-targets d lent sound;
+      bound = sound-bindings d lent sound;
     }
+
+-- ---- run, behind the lengths
+module _ (d : Table) (registers targets : List ℕ) (n : ℕ) {a : Answer} where
+  pub run-refuses-unsound : {r : Refusal} {p : ℕ} → a ≡ Refused r p → a ≡ soundOn d (lends registers targets) → lengthAnswer d (lends registers targets) ≡ Accepted 0 → leftAs (Refused r p) registers targets ≡ runOn d (lends registers targets) n
+  unfolding runOn _before_
+  run-refuses-unsound h judged right = rw (right, ← judged, h)
+
+  pub run-passes : {left : Left} {c : ℕ} → left ≡ runSound d (lends registers targets) n → a ≡ Accepted c → a ≡ soundOn d (lends registers targets) → lengthAnswer d (lends registers targets) ≡ Accepted 0 → left ≡ runOn d (lends registers targets) n
+  unfolding runOn runSound _before_
+  run-passes k h judged right = rw (right, ← judged, h) k
 
 -- the bytes that a run leaves are those of its values
 pub bytes-left : {image : List ℕ} {x : Design} {table inScope : List ℕ} (registers targets : List ℕ) {areas : Areas} → AreBytes registers → Running image x table inScope registers targets → areasIn (designOf image) registers targets ≡ areas → lends registers targets ≡ lentOf areas
@@ -330,6 +351,18 @@ pub number-of : {r q : Refusal} {n : ℕ} → r ≡ q → n ≡ numberOf q → n
 number-of e h = rw e h
 
 -- ---- the image first
+before-together : (a b c : Answer) → ((a before b) before c) ≡ (a before b before c)
+unfolding _before_
+before-together (Refused r p) b c = refl
+before-together (Accepted n) b c = refl
+
+-- what is one answer here are three in a run
+pub sound-before : (d : Table) (lent : Lent) (later : Answer) → (soundOn d lent before later) ≡ (contentsAnswer d (lent .registers) before targetsAnswer d lent before bindingsAnswer d lent before later)
+unfolding soundOn
+sound-before d lent later =
+    before-together (contentsAnswer d (lent .registers)) (targetsAnswer d lent before bindingsAnswer d lent) later
+    ∙ ap (λ (behind : Answer). contentsAnswer d (lent .registers) before behind) (before-together (targetsAnswer d lent) (bindingsAnswer d lent) later)
+
 module _ (image : List ℕ) {a : Answer} (e : a ≡ verdict image) where
   module _ {r : Refusal} {p : ℕ} (h : a ≡ Refused r p) where
     pub refused-reset : (registers targets : List ℕ) → leftAs (Refused r p) registers targets ≡ reset image (lends registers targets)
@@ -371,4 +404,4 @@ module _ (image : List ℕ) {a : Answer} (e : a ≡ verdict image) where
 
     pub accepted-run : {left : Left} (lent : Lent) (n : ℕ) → left ≡ runOn (designOf image) lent n → left ≡ run image lent n
     unfolding run runAnswer runOn _before_
-    accepted-run lent n k = rw (← e, h) k
+    accepted-run lent n k = rw (← e, h, ← sound-before (designOf image) lent (cyclesAnswer n before Accepted n)) k

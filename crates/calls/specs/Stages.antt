@@ -27,10 +27,15 @@ writePortOn d registers r v =
     registers
     (bytesOf (set (wordsOf (length (d .registers)) registers) r v))
 
+-- 14 of areas of the right lengths: "then any fault that a request adds in the registers' contents, at the lowest register, then an unsound target, at the lowest
+-- state"; 02, E8: then an unsound binding
+unfoldable pub soundOn : Table → Lent → Answer
+soundOn d lent = contentsAnswer d (lent .registers) before targetsAnswer d lent before bindingsAnswer d lent
+
 unfoldable pub runOn : Table → Lent → ℕ → Left
 runOn d lent n =
     leaves
-    (lengthAnswer d lent before contentsAnswer d (lent .registers) before targetsAnswer d lent before bindingsAnswer d lent before cyclesAnswer n before Accepted n)
+    (lengthAnswer d lent before soundOn d lent before cyclesAnswer n before Accepted n)
     lent
     (lentOf (afterCycles d n (areasOf d lent)))
 

@@ -1,10 +1,11 @@
 // The calls on slices, with answers as enums. Each makes the image checks first, and makes them once.
-mod areas;
+pub mod areas;
 mod contents;
 pub mod numbers;
 mod ports;
 mod resets;
-mod runs;
+pub mod runs;
+pub mod soundness;
 
 use model::Answer;
 ghost use mathlib.Core.Path.{_≡_};

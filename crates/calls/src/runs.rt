@@ -1,29 +1,21 @@
 // Run on an image that keeps the rules: all that can be done once is done before the first cycle.
 use crate::areas::areas_kept;
-use crate::contents::too_large;
+use crate::soundness::judge;
 use design::Design;
 use design::reset::default_targets;
 use design::scopes::SCOPES;
 use design::scopes::scopes;
-use machine::bindings::unbound;
 use machine::cycle::cycles;
-use machine::targets::unsound;
 use model::Answer;
-use model::Found;
 use model::Refusal;
 ghost use Prim.Native.Nat.{_*_};
 ghost use mathlib.Core.Path.{_≡_};
 ghost use lib.Dec.{leb};
 ghost use lib.ListN.{length};
 ghost use Rattle.model.specs.Limits.{cyclesMax, wordLength, targetLength};
-ghost use Rattle.model.specs.Indices.{lowestFailing};
-ghost use Rattle.model.specs.declared.Answer.the-variants.{Accepted};
 ghost use Rattle.model.specs.Image.{designOf};
 ghost use Rattle.model.specs.Rules.{Keeps};
-ghost use Rattle.model.specs.Machine.{targetSound};
-ghost use Rattle.model.specs.Calls.{contentsAnswer, targetsIn};
 ghost use Rattle.design.specs.Describes.{Describes};
-ghost use Rattle.design.specs.Kept.{StatesKept};
 ghost use Rattle.design.specs.Resets.{Defaults, lends};
 ghost use Rattle.design.specs.Scopes.{Scopes};
 ghost use Rattle.machine.specs.Cycles.{Running};
@@ -33,18 +25,10 @@ ghost use Rattle.calls.specs.Stages.{leftAs, runOn, runSound};
 const MOST_CYCLES: u32 = 1000000;
 
 // A run of so many cycles is short enough.
-fn count_kept(count: u32) -> bool
+pub fn count_kept(count: u32) -> bool
     ensures { λ r. ⌜ r ≡ leb count cyclesMax ⌝ }
 {
     count <= MOST_CYCLES
-}
-
-// The lowest state whose target is not sound. The targets stand in front in their area.
-fn unsound_target(image: &[u8], design: Design, defaults: &[u8], area: &[u8]) -> Found
-    requires { ⌜ Describes (now image) design × StatesKept (designOf (now image)) × Defaults (designOf (now image)) (now defaults) × (length (now area) ≡ targetLength * design .states) ⌝ }
-    ensures { λ f. ⌜ f ≡ lowestFailing (targetSound (designOf (now (image .entry))) (targetsIn (designOf (now (image .entry))) (now (area .entry)))) (length (designOf (now (image .entry)) .states)) ⌝ }
-{
-    unsound(image, design, defaults, &area[..design.states])
 }
 
 // A run on sound areas.
@@ -67,7 +51,7 @@ fn run_sound(
     Answer::Accepted(count as usize)
 }
 
-// A run on areas of the right lengths, where every register is within its width.
+// A run on areas of the right lengths.
 fn run_on(
     image: &[u8],
     design: Design,
@@ -77,18 +61,22 @@ fn run_on(
     targets: &mut [u8],
     count: u32,
 ) -> Answer
-    requires { ⌜ Keeps (now image) × Describes (now image) design × Defaults (designOf (now image)) (now defaults) × Scopes (designOf (now image)) (now «in_scope») × (length (now registers) ≡ wordLength * design .registers) × (length (now targets) ≡ targetLength * design .states) × (contentsAnswer (designOf (now image)) (now registers) ≡ Accepted 0) ⌝ }
+    requires { ⌜ Keeps (now image) × Describes (now image) design × Defaults (designOf (now image)) (now defaults) × Scopes (designOf (now image)) (now «in_scope») × (length (now registers) ≡ wordLength * design .registers) × (length (now targets) ≡ targetLength * design .states) ⌝ }
     ensures { λ a. ⌜ leftAs a (now (registers .exit)) (now (targets .exit)) ≡ runOn (designOf (now (image .entry))) (lends (now (registers .entry)) (now (targets .entry))) count ⌝ }
 {
-    let found = unsound_target(image, design, defaults, targets);
-    if let Found::At(place) = found {
-        return Answer::Refused(Refusal::Area, place);
+    let judged = judge(image, design, defaults, registers, targets);
+    match judged {
+        Answer::Refused(refusal, place) => Answer::Refused(refusal, place),
+        Answer::Accepted(_) => run_sound(
+            image,
+            design,
+            defaults,
+            in_scope,
+            registers,
+            targets,
+            count,
+        ),
     }
-    let loose = unbound(image, design, targets);
-    if let Found::At(place) = loose {
-        return Answer::Refused(Refusal::Area, place);
-    }
-    run_sound(image, design, defaults, in_scope, registers, targets, count)
 }
 
 // The same, with fresh tables of the default targets and of what is in scope of each state.
@@ -99,7 +87,7 @@ fn with_tables(
     targets: &mut [u8],
     count: u32,
 ) -> Answer
-    requires { ⌜ Keeps (now image) × Describes (now image) design × (length (now registers) ≡ wordLength * design .registers) × (length (now targets) ≡ targetLength * design .states) × (contentsAnswer (designOf (now image)) (now registers) ≡ Accepted 0) ⌝ }
+    requires { ⌜ Keeps (now image) × Describes (now image) design × (length (now registers) ≡ wordLength * design .registers) × (length (now targets) ≡ targetLength * design .states) ⌝ }
     ensures { λ a. ⌜ leftAs a (now (registers .exit)) (now (targets .exit)) ≡ runOn (designOf (now (image .entry))) (lends (now (registers .entry)) (now (targets .entry))) count ⌝ }
 {
     let mut defaults = [0u8; Design::STATES];
@@ -124,10 +112,6 @@ pub fn run(image: &[u8], registers: &mut [u8], targets: &mut [u8], count: u32) -
     let design = Design::read(image);
     if !areas_kept(design, registers.len(), targets.len()) {
         return Answer::Refused(Refusal::Area, 0);
-    }
-    let found = too_large(image, design, registers);
-    if let Found::At(place) = found {
-        return Answer::Refused(Refusal::Area, place);
     }
     with_tables(image, design, registers, targets, count)
 }

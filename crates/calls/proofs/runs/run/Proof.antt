@@ -1,5 +1,5 @@
 use Rattle.design.proofs.ResetRules.{states-few}
-use Rattle.calls.proofs.CallRules.{registers-few, registers-long, targets-long, wrong-lengths, right-lengths, image-known, contents-refuse, contents-fit, run-refuses, run-refuses-contents}
+use Rattle.calls.proofs.CallRules.{registers-few, registers-long, targets-long, wrong-lengths, run-refuses}
 use borrow.Author.Needs.{needs}
 use Rattle.calls.proofs.runs.run.Statement.{statement}
 use Rattle.calls.proofs.runs.run.Tie as tie
@@ -13,32 +13,17 @@ areas-kept-requires c κs = (search (registers-few, needs), search (states-few, 
 returns : tie.Need-returns
 returns c = search (run-refuses, wrong-lengths, needs)
 
-too-large-requires : tie.Need-too-large-requires
-too-large-requires c κs = (search (image-known, needs), search (registers-long, needs))
-
-enum-known-found : tie.Need-enum-known-found
-enum-known-found c = search needs
+with-tables-requires : tie.Need-with-tables-requires
+with-tables-requires c κs = (search needs, search needs, search (registers-long, needs), search (targets-long, needs))
 
 same-length : tie.Need-same-length
 same-length c = search needs
 
-returns-2 : tie.Need-returns-2
-returns-2 c = search (run-refuses-contents, right-lengths, registers-long, targets-long, contents-refuse, needs)
-
-enum-told : tie.Need-enum-told
-enum-told c = search needs
-
-with-tables-requires : tie.Need-with-tables-requires
-with-tables-requires c κs = (search needs, search needs, search (registers-long, needs), search (targets-long, needs), search (contents-fit, needs))
-
 same-length-2 : tie.Need-same-length-2
 same-length-2 c = search needs
 
-same-length-3 : tie.Need-same-length-3
-same-length-3 c = search needs
-
-returns-3 : tie.Need-returns-3
-returns-3 c = search needs
+returns-2 : tie.Need-returns-2
+returns-2 c = search needs
 
 pub run-spec : {M : Type 1} → statement M
 run-spec =
@@ -47,12 +32,7 @@ run-spec =
     read-requires
     areas-kept-requires
     returns
-    too-large-requires
-    enum-known-found
-    same-length
-    returns-2
-    enum-told
     with-tables-requires
+    same-length
     same-length-2
-    same-length-3
-    returns-3)
+    returns-2)

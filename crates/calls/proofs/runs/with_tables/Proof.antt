@@ -24,7 +24,7 @@ slice-aggregate-run-on-2 : tie.Need-slice-aggregate-run-on-2
 slice-aggregate-run-on-2 c = search needs
 
 run-on-requires : tie.Need-run-on-requires
-run-on-requires c κs = (search needs, search needs, search (fresh-defaults, needs), search needs, search needs, search needs, search needs)
+run-on-requires c κs = (search needs, search needs, search (fresh-defaults, needs), search needs, search needs, search needs)
 
 same-length : tie.Need-same-length
 same-length c = search needs
