@@ -28,6 +28,8 @@ pub fn number(refusal: Refusal) -> u32
         Refusal::NoRaising => 18,
         Refusal::Parameter => 19,
         Refusal::RaiseParameters => 20,
+        Refusal::JournalArea => 21,
+        Refusal::StepsBack => 22,
         Refusal::GateDirectory => 25,
         Refusal::GateWire => 26,
     }

@@ -41,6 +41,8 @@ pub enum Refusal {
     NoRaising,
     Parameter,
     RaiseParameters,
+    JournalArea,
+    StepsBack,
     GateDirectory,
     GateWire,
 }

@@ -7,7 +7,7 @@ use mathlib.Core.List.{[], _∷_}
 use native.Mathlib.Omega.{arith}
 use lib.ListN.{getD}
 use Rattle.model.specs.declared.Refusal.{Refusal}
-use Rattle.model.specs.declared.Refusal.the-variants.{Directory, LabelRow, RegisterRecord, StateRecord, NodeRecord, NodeUse, Depth, Shape, ChildLabel, AssignFlow, GotoFlow, FallFlow, NoPort, Area, CycleCount, PortAssigned, PortValue, NoRaising, Parameter, RaiseParameters, GateDirectory, GateWire}
+use Rattle.model.specs.declared.Refusal.the-variants.{Directory, LabelRow, RegisterRecord, StateRecord, NodeRecord, NodeUse, Depth, Shape, ChildLabel, AssignFlow, GotoFlow, FallFlow, NoPort, Area, CycleCount, PortAssigned, PortValue, NoRaising, Parameter, RaiseParameters, JournalArea, StepsBack, GateDirectory, GateWire}
 use Rattle.model.specs.declared.Answer.{Answer}
 use Rattle.model.specs.declared.Answer.the-variants.{Accepted, Refused}
 use Rattle.model.specs.Answers.{Numbers, numberOf, numbersOf}
@@ -36,8 +36,8 @@ numbered n =
     ∷ NoRaising
     ∷ Parameter
     ∷ RaiseParameters
-    ∷ Directory
-    ∷ Directory
+    ∷ JournalArea
+    ∷ StepsBack
     ∷ Directory
     ∷ Directory
     ∷ GateDirectory
@@ -67,6 +67,8 @@ numbered-back PortValue = refl
 numbered-back NoRaising = refl
 numbered-back Parameter = refl
 numbered-back RaiseParameters = refl
+numbered-back JournalArea = refl
+numbered-back StepsBack = refl
 numbered-back GateDirectory = refl
 numbered-back GateWire = refl
 
