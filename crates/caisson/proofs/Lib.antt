@@ -7,3 +7,6 @@ pub mod RaisePromises
 pub mod GateAnswered
 pub mod GateContracts
 pub mod GatePromises
+pub mod JournalAnswered
+pub mod JournalContracts
+pub mod JournalPromises

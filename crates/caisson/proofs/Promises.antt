@@ -27,10 +27,10 @@ pub told-accepted-exactly : (image : List ℕ) (h : HostAnswer) → Checked imag
 told-accepted-exactly image h checked = rw (checked-told image h checked) (meaning.accepted-exactly image)
 
 -- ---- what a call told and left
-called-told : (image : List ℕ) (before after : Lent) (call : Call) (h : HostAnswer) → Called image before call h after → told h ≡ numbersOf (perform image before call .answer)
+pub called-told : (image : List ℕ) (before after : Lent) (call : Call) (h : HostAnswer) → Called image before call h after → told h ≡ numbersOf (perform image before call .answer)
 called-told image before after call h called = ap (λ (x : NumbersLeft). x .numbers) (called-made image before after call h called)
 
-called-leaves : (image : List ℕ) (before after : Lent) (call : Call) (h : HostAnswer) → Called image before call h after → after ≡ perform image before call .lent
+pub called-leaves : (image : List ℕ) (before after : Lent) (call : Call) (h : HostAnswer) → Called image before call h after → after ≡ perform image before call .lent
 called-leaves image before after call h called = ap (λ (x : NumbersLeft). x .lent) (called-made image before after call h called)
 
 -- Refusals are as exact. A host is told a refusal's number and a place exactly when all rules before it in the table are kept everywhere, and the place is

@@ -8,8 +8,11 @@ ghost use Rattle.model.specs.Calls.{check, registersLength, targetsLength, rese
 ghost use Rattle.model.specs.Raising.{raise};
 ghost use Rattle.design.specs.Resets.{lends};
 ghost use Rattle.gates_model.specs.Calls.{gatesCheck, gatesReset, gatesCycle};
+ghost use Rattle.journal_model.specs.Calls.{runJournalled, stepBack};
+ghost use Rattle.journal.specs.Stages.{lendsJournal};
 ghost use Rattle.caisson.specs.Told.{told, toldLeft, inNumbers, toldLeftRegisters, registersInNumbers, toldLeftOut, outInNumbers};
 ghost use Rattle.caisson.specs.ToldGates.{toldLeftFlipFlops, flipFlopsInNumbers};
+ghost use Rattle.caisson.specs.ToldJournal.{toldLeftJournal, journalInNumbers};
 
 // An answer as the host is given it: caisson_answer in the header.
 #[repr(C)]
@@ -102,6 +105,36 @@ pub extern "C" fn caisson_run(
     ensures { λ r. ⌜ toldLeft r (now (registers .exit)) (now (targets .exit)) ≡ inNumbers (run (now (image .entry)) (lends (now (registers .entry)) (now (targets .entry))) cycles) ⌝ }
 {
     let answer = calls::run(image, registers, targets, cycles);
+    in_numbers(answer)
+}
+
+// So many cycles, with both areas saved in a journal before each.
+#[no_mangle]
+pub extern "C" fn caisson_run_journalled(
+    image: &[u8],
+    registers: &mut [u8],
+    targets: &mut [u8],
+    journal: &mut [u8],
+    cycles: u32,
+) -> HostAnswer
+    ensures { λ r. ⌜ toldLeftJournal r (now (registers .exit)) (now (targets .exit)) (now (journal .exit)) ≡ journalInNumbers (runJournalled (now (image .entry)) (lendsJournal (now (registers .entry)) (now (targets .entry)) (now (journal .entry))) cycles) ⌝ }
+{
+    let answer = journal::run_journalled(image, registers, targets, journal, cycles);
+    in_numbers(answer)
+}
+
+// Back by so many cycles that a journal counts.
+#[no_mangle]
+pub extern "C" fn caisson_step_back(
+    image: &[u8],
+    registers: &mut [u8],
+    targets: &mut [u8],
+    journal: &mut [u8],
+    cycles: u32,
+) -> HostAnswer
+    ensures { λ r. ⌜ toldLeftJournal r (now (registers .exit)) (now (targets .exit)) (now (journal .exit)) ≡ journalInNumbers (stepBack (now (image .entry)) (lendsJournal (now (registers .entry)) (now (targets .entry)) (now (journal .entry))) cycles) ⌝ }
+{
+    let answer = journal::step_back(image, registers, targets, journal, cycles);
     in_numbers(answer)
 }
 
