@@ -12,27 +12,30 @@ use Rattle.design.proofs.ResetRules.{filled-within, filled-all}
 use Rattle.cases.specs.declared.Lent.{Lent}
 use Rattle.cases.specs.declared.Step.{Step}
 use Rattle.cases.specs.declared.Step.the-variants.{Next}
-use Rattle.cases.specs.Fits.{imageRoom, registersRoom, targetsRoom, tableRoom, flipflopsRoom, Fits, StepFits, next}
+use Rattle.cases.specs.Fits.{imageRoom, registersRoom, targetsRoom, tableRoom, flipflopsRoom, journalRoom, Fits, StepFits, next}
 
 pub part-length : (n : ℕ) (bytes : List ℕ) → n ≤ length bytes → n ≡ length (take n bytes)
 part-length n bytes h = sym (length-take-le n bytes h)
 
 -- each record leaves the lengths that it does not bring
 module _ {lent : Lent} (fits : Fits lent) where
-  pub image-fits : (a : ℕ) → a ≤ imageRoom → Fits (record { image = a; registers = lent .registers; targets = lent .targets; table = lent .table; flipflops = lent .flipflops })
-  image-fits a h = record { image = h; registers = fits .registers; targets = fits .targets; table = fits .table; flipflops = fits .flipflops }
+  pub image-fits : (a : ℕ) → a ≤ imageRoom → Fits (record { image = a; registers = lent .registers; targets = lent .targets; table = lent .table; flipflops = lent .flipflops; journal = lent .journal })
+  image-fits a h = record { image = h; registers = fits .registers; targets = fits .targets; table = fits .table; flipflops = fits .flipflops; journal = fits .journal }
 
-  pub areas-fit : (a b : ℕ) → a ≤ registersRoom → b ≤ targetsRoom → StepFits (Next (record { image = lent .image; registers = a; targets = b; table = lent .table; flipflops = lent .flipflops }))
-  areas-fit a b h g = next (record { image = fits .image; registers = h; targets = g; table = fits .table; flipflops = fits .flipflops })
+  pub areas-fit : (a b : ℕ) → a ≤ registersRoom → b ≤ targetsRoom → StepFits (Next (record { image = lent .image; registers = a; targets = b; table = lent .table; flipflops = lent .flipflops; journal = lent .journal }))
+  areas-fit a b h g = next (record { image = fits .image; registers = h; targets = g; table = fits .table; flipflops = fits .flipflops; journal = fits .journal })
 
-  pub table-fits : (a : ℕ) → a ≤ tableRoom → Fits (record { image = lent .image; registers = lent .registers; targets = lent .targets; table = a; flipflops = lent .flipflops })
-  table-fits a h = record { image = fits .image; registers = fits .registers; targets = fits .targets; table = h; flipflops = fits .flipflops }
+  pub table-fits : (a : ℕ) → a ≤ tableRoom → Fits (record { image = lent .image; registers = lent .registers; targets = lent .targets; table = a; flipflops = lent .flipflops; journal = lent .journal })
+  table-fits a h = record { image = fits .image; registers = fits .registers; targets = fits .targets; table = h; flipflops = fits .flipflops; journal = fits .journal }
 
-  pub flipflops-fit : (a : ℕ) → a ≤ flipflopsRoom → StepFits (Next (record { image = lent .image; registers = lent .registers; targets = lent .targets; table = lent .table; flipflops = a }))
-  flipflops-fit a h = next (record { image = fits .image; registers = fits .registers; targets = fits .targets; table = fits .table; flipflops = h })
+  pub flipflops-fit : (a : ℕ) → a ≤ flipflopsRoom → StepFits (Next (record { image = lent .image; registers = lent .registers; targets = lent .targets; table = lent .table; flipflops = a; journal = lent .journal }))
+  flipflops-fit a h = next (record { image = fits .image; registers = fits .registers; targets = fits .targets; table = fits .table; flipflops = h; journal = fits .journal })
 
-pub nothing-fits : Fits (record { image = 0; registers = 0; targets = 0; table = 0; flipflops = 0 })
-nothing-fits = record { image = search needs; registers = search needs; targets = search needs; table = search needs; flipflops = search needs }
+  pub journal-fits : (a : ℕ) → a ≤ journalRoom → StepFits (Next (record { image = lent .image; registers = lent .registers; targets = lent .targets; table = lent .table; flipflops = lent .flipflops; journal = a }))
+  journal-fits a h = next (record { image = fits .image; registers = fits .registers; targets = fits .targets; table = fits .table; flipflops = fits .flipflops; journal = h })
+
+pub nothing-fits : Fits (record { image = 0; registers = 0; targets = 0; table = 0; flipflops = 0; journal = 0 })
+nothing-fits = record { image = search needs; registers = search needs; targets = search needs; table = search needs; flipflops = search needs; journal = search needs }
 
 pub next-fits : {step : Step} {lent : Lent} → step ≡ Next lent → StepFits step → Fits lent
 next-fits {step} {lent} e fits = held (subst StepFits e fits)

@@ -24,12 +24,16 @@ tableRoom = largestTable + 1
 abbrev pub flipflopsRoom : ℕ
 flipflopsRoom = 520
 
+abbrev pub journalRoom : ℕ
+journalRoom = 1024
+
 pub record Fits (lent : Lent) : Type 0 where
   pub image : lent .image ≤ imageRoom
   pub registers : lent .registers ≤ registersRoom
   pub targets : lent .targets ≤ targetsRoom
   pub table : lent .table ≤ tableRoom
   pub flipflops : lent .flipflops ≤ flipflopsRoom
+  pub journal : lent .journal ≤ journalRoom
 
 pub data StepFits : Step → Type 0 where
   next : {lent : Lent} → Fits lent → StepFits (Next lent)

@@ -53,6 +53,7 @@ fn new_table(table: &mut [u8], a: usize, lent: Lent) -> Step
         targets: lent.targets,
         table: a,
         flipflops: lent.flipflops,
+        journal: lent.journal,
     };
     next(written, lent)
 }
@@ -74,6 +75,7 @@ fn new_flipflops(flipflops: &mut [u8], a: usize, lent: Lent) -> Step
         targets: lent.targets,
         table: lent.table,
         flipflops: a,
+        journal: lent.journal,
     })
 }
 

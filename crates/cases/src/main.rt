@@ -20,19 +20,26 @@
 //      `  flipflops` with the area's bytes.
 //  10  a cycle: a input bytes follow, at most 264. Printed as `gates cycle: NUMBER PLACE COUNT`, then
 //      the line `  flipflops`.
+//  11  journal: a bytes follow, at most 1,024. Lent to the two calls below as they stand.
+//  12  journalled run of a cycles. Printed as `journal A: NUMBER PLACE COUNT`, then the areas, and a
+//      line `  journal` with the journal's bytes.
+//  13  step back by a cycles. Printed as `back A: NUMBER PLACE COUNT`, then the areas and the line
+//      `  journal`.
 //
 // Numbers that a kind does not use are not looked at. The areas are two lines, `  registers` and
 // `  targets`, each with its bytes as numbers. Before the first record that brings them, the image,
-// the areas, the gate table and the flip-flops are empty. A record that is cut off, too long or of
-// another kind is printed as `bad record` and is the last. So is record 65,536. Behind a write that
-// failed the program writes one line to standard error, and ends. A function that writes answers
-// whether all of it was written.
+// the areas, the gate table, the flip-flops and the journal are empty. A record that is cut off, too
+// long or of another kind is printed as `bad record` and is the last. So is record 65,536. Behind a
+// write that failed the program writes one line to standard error, and ends. A function that writes
+// answers whether all of it was written.
 mod gate_records;
+mod journal_records;
 
 use calls::numbers::number;
 use design::Design;
 use gate_records::FLIPFLOPS;
 use gate_records::TABLE;
+use journal_records::JOURNAL;
 use model::Answer;
 ghost use Prim.Native.Nat.{_+_, _*_, _≤_};
 ghost use mathlib.Core.Path.{_≡_};
@@ -65,6 +72,7 @@ struct Lent {
     targets: usize,
     table: usize,
     flipflops: usize,
+    journal: usize,
 }
 
 // What a record comes to: the next one, the end, or a write that failed.
@@ -252,6 +260,7 @@ fn new_image(image: &mut [u8], a: usize, lent: Lent) -> Step
         targets: lent.targets,
         table: lent.table,
         flipflops: lent.flipflops,
+        journal: lent.journal,
     };
     next(written, lent)
 }
@@ -285,6 +294,7 @@ fn new_areas(
         targets: b,
         table: lent.table,
         flipflops: lent.flipflops,
+        journal: lent.journal,
     })
 }
 
@@ -331,6 +341,7 @@ fn followed(
     targets: &mut [u8; TARGETS],
     table: &mut [u8; TABLE],
     flipflops: &mut [u8; FLIPFLOPS],
+    journal: &mut [u8; JOURNAL],
     head: Head,
     lent: Lent,
 ) -> Step
@@ -347,6 +358,7 @@ fn followed(
         3 | 4 | 5 => called(image, registers, targets, head, lent),
         6 => raised(image, a, (head.b % 256) as u8, lent),
         7 | 8 | 9 | 10 => gate_records::followed(table, flipflops, kind, a, lent),
+        11 | 12 | 13 => journal_records::followed(image, registers, targets, journal, head, lent),
         _ => bad(),
     }
 }
@@ -358,6 +370,7 @@ fn record(
     targets: &mut [u8; TARGETS],
     table: &mut [u8; TABLE],
     flipflops: &mut [u8; FLIPFLOPS],
+    journal: &mut [u8; JOURNAL],
     lent: Lent,
 ) -> Step
     requires { ⌜ Fits lent ⌝ }
@@ -375,7 +388,16 @@ fn record(
     let a = word(head[1], head[2], head[3], head[4]);
     let b = word(head[5], head[6], head[7], head[8]);
     let head = Head { kind, a, b };
-    followed(image, registers, targets, table, flipflops, head, lent)
+    followed(
+        image,
+        registers,
+        targets,
+        table,
+        flipflops,
+        journal,
+        head,
+        lent,
+    )
 }
 
 // Reads the records and does what they say.
@@ -385,12 +407,14 @@ fn records() -> bool {
     let mut targets = [0u8; TARGETS];
     let mut table = [0u8; TABLE];
     let mut flipflops = [0u8; FLIPFLOPS];
+    let mut journal = [0u8; JOURNAL];
     let mut lent = Lent {
         image: 0,
         registers: 0,
         targets: 0,
         table: 0,
         flipflops: 0,
+        journal: 0,
     };
     let mut left = RECORDS;
     while 0 < left {
@@ -400,6 +424,7 @@ fn records() -> bool {
             &mut targets,
             &mut table,
             &mut flipflops,
+            &mut journal,
             lent,
         );
         match step {

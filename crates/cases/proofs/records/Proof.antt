@@ -5,10 +5,10 @@ use Rattle.cases.proofs.records.Statement.{statement}
 use Rattle.cases.proofs.records.Tie as tie
 
 abbrev Inv-loop : tie.InvT-loop
-Inv-loop image₀ registers₀ targets₀ table₀ flipflops₀ lent₀ left₀ image registers targets table flipflops lent left = Fits lent
+Inv-loop image₀ registers₀ targets₀ table₀ flipflops₀ journal₀ lent₀ left₀ image registers targets table flipflops journal lent left = Fits lent
 
 abbrev μ-loop : tie.MeasureT-loop
-μ-loop image₀ registers₀ targets₀ table₀ flipflops₀ lent₀ left₀ image registers targets table flipflops lent left = left
+μ-loop image₀ registers₀ targets₀ table₀ flipflops₀ journal₀ lent₀ left₀ image registers targets table flipflops journal lent left = left
 
 loop-holds : tie.Need-loop-holds Inv-loop μ-loop
 loop-holds c = search (nothing-fits, needs)
