@@ -39,6 +39,31 @@ extern "C" {
 }
 
 extern "C" {
+    fn caisson_run_journalled(
+        image: *const u8,
+        image_len: usize,
+        registers: *mut u8,
+        registers_len: usize,
+        targets: *mut u8,
+        targets_len: usize,
+        journal: *mut u8,
+        journal_len: usize,
+        cycles: u32,
+    ) -> Answer;
+    fn caisson_step_back(
+        image: *const u8,
+        image_len: usize,
+        registers: *mut u8,
+        registers_len: usize,
+        targets: *mut u8,
+        targets_len: usize,
+        journal: *mut u8,
+        journal_len: usize,
+        cycles: u32,
+    ) -> Answer;
+}
+
+extern "C" {
     fn caisson_gates_check(table: *const u8, table_len: usize) -> Answer;
     fn caisson_gates_reset(
         table: *const u8,
@@ -117,6 +142,50 @@ pub fn run(image: &[u8], registers: &mut [u8], targets: &mut [u8], cycles: u32) 
             registers.len(),
             lend(targets),
             targets.len(),
+            cycles,
+        )
+    }
+}
+
+pub fn run_journalled(
+    image: &[u8],
+    registers: &mut [u8],
+    targets: &mut [u8],
+    journal: &mut [u8],
+    cycles: u32,
+) -> Answer {
+    unsafe {
+        caisson_run_journalled(
+            image.as_ptr(),
+            image.len(),
+            lend(registers),
+            registers.len(),
+            lend(targets),
+            targets.len(),
+            lend(journal),
+            journal.len(),
+            cycles,
+        )
+    }
+}
+
+pub fn step_back(
+    image: &[u8],
+    registers: &mut [u8],
+    targets: &mut [u8],
+    journal: &mut [u8],
+    cycles: u32,
+) -> Answer {
+    unsafe {
+        caisson_step_back(
+            image.as_ptr(),
+            image.len(),
+            lend(registers),
+            registers.len(),
+            lend(targets),
+            targets.len(),
+            lend(journal),
+            journal.len(),
             cycles,
         )
     }

@@ -6,6 +6,7 @@ mod subjects;
 
 pub mod check;
 pub mod gates;
+pub mod journals;
 pub mod raise;
 pub mod reset;
 pub mod run;

@@ -18,7 +18,7 @@ const LARGEST_SEED: u64 = 40;
 const PARAMETERS_SEED: u64 = 117;
 
 pub fn print() {
-    let largest = design(&mut Random::new(LARGEST_SEED), Size::LARGEST);
+    let largest = longest_cycles();
     let parameters = full_of_parameters(&mut Random::new(PARAMETERS_SEED), Size::LARGEST);
     println!("runs of 1,000,000 cycles: medians");
     println!("design        library cycles/s  reference cycles/s  library/reference time");
@@ -58,6 +58,11 @@ pub fn print() {
     }
 }
 
+/// A design of the largest size with long cycles.
+pub fn longest_cycles() -> Table {
+    design(&mut Random::new(LARGEST_SEED), Size::LARGEST)
+}
+
 /// Designs of the largest size, to be taken in turns.
 pub fn sixteen_largest() -> Vec<Table> {
     (1..=16)
@@ -78,14 +83,14 @@ fn time(tables: &[Table], cycles: u32, rounds: usize) -> (f64, f64) {
 type Run = fn(&[u8], &mut [u8], &mut [u8], u32) -> Answer;
 
 /// A design and its areas, as a host holds them.
-struct Site {
-    image: Vec<u8>,
-    registers: Vec<u8>,
-    targets: Vec<u8>,
+pub struct Site {
+    pub image: Vec<u8>,
+    pub registers: Vec<u8>,
+    pub targets: Vec<u8>,
 }
 
 impl Site {
-    fn reset(table: &Table) -> Self {
+    pub fn reset(table: &Table) -> Self {
         let image = accepted(table);
         let (registers, targets) = table.areas();
         let (mut registers, mut targets) = (vec![0; registers], vec![0; targets]);

@@ -58,9 +58,13 @@ fn compare_checks(arguments: &Arguments) -> bool {
 }
 
 fn compare_lists(arguments: &Arguments) -> bool {
-    // Not in the tallies below: random designs have to meet the operands by themselves.
+    // Not in the tallies below: random designs have to meet the operands and journals by themselves.
     if let Err(difference) = lists::operations(&mut lists::Tallies::default()) {
         difference.report("the operations");
+        return false;
+    }
+    if let Err(difference) = lists::longest_journals(&mut lists::Tallies::default()) {
+        difference.report("the longest journals");
         return false;
     }
     let mut tallies = lists::Tallies::default();

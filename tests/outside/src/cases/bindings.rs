@@ -165,9 +165,8 @@ fn bindings_are_met() {
         let size = Size::random(&mut random);
         let table = any_design(&mut random, size);
         let image = table.image();
-        let mut areas = areas::Areas::new(&table, &mut random);
-        let areas::Areas { registers, targets } = &mut areas;
-        reference::reset(&image, registers.whole(), targets.whole());
+        let mut areas = areas::Areas::new(&table, 0, &mut random);
+        REFERENCE.make(Call::Reset, &image, areas.whole());
         for _ in 0..30 {
             disturb(&mut areas, &table, &mut random);
             let call = any_call(&table, &mut random);
@@ -175,8 +174,7 @@ fn bindings_are_met() {
                 continue;
             }
             let mut before = areas.clone();
-            let areas::Areas { registers, targets } = &mut areas;
-            let answer = REFERENCE.make(call, &image, registers.whole(), targets.whole());
+            let answer = REFERENCE.make(call, &image, areas.whole());
             let mut values = table.registers.iter().zip(before.values());
             let fitting = values.all(|(register, value)| value <= register.most());
             if let (Call::Run { cycles }, true) = (call, fitting) {

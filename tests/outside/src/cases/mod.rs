@@ -6,6 +6,8 @@ mod examples;
 mod gates;
 mod generator;
 mod groups;
+mod journal_leaks;
+mod journals;
 mod lease;
 mod lengths;
 mod parameters;

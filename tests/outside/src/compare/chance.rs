@@ -1,7 +1,7 @@
 //! What chance puts into a list of calls: the calls, the lengths lent, and what the host writes
 //! between two calls.
 
-use super::areas::Areas;
+use super::areas::{Areas, Lengths};
 use super::calls::Call;
 use crate::generate::random::Random;
 use crate::reference::limits::MOST_PARAMETERS;
@@ -9,16 +9,10 @@ use crate::table::{Register, Table};
 
 /// What the host writes into the areas between two calls.
 pub fn disturb(areas: &mut Areas, table: &Table, random: &mut Random) {
-    let states = table.states.len();
     match random.below(20) {
-        // Sound targets everywhere: choices that the design may never have made.
-        0..=3 => {
-            let targets = any_sound_targets(table, random);
-            areas.targets.whole()[..states].copy_from_slice(&targets);
-            if random.percent(80) {
-                any_sound_bindings(areas, table, random);
-            }
-        }
+        // Choices that the design may never have made.
+        0..=2 => any_sound_choices(areas, table, random),
+        3 => any_sound_targets(areas, table, random),
         4 => any_target(areas, table, random),
         5 | 6 if !table.registers.is_empty() => {
             let register = random.below(table.registers.len());
@@ -46,6 +40,12 @@ pub fn disturb(areas: &mut Areas, table: &Table, random: &mut Random) {
         }
         _ => {}
     }
+}
+
+/// Sound targets everywhere, and sound bindings.
+pub fn any_sound_choices(areas: &mut Areas, table: &Table, random: &mut Random) {
+    any_sound_targets(areas, table, random);
+    any_sound_bindings(areas, table, random);
 }
 
 /// For each parameter a register that fits it, if there is one; elsewhere any, or 0.
@@ -113,15 +113,16 @@ fn too_large_values(areas: &mut Areas, table: &Table, random: &mut Random) {
     }
 }
 
-fn any_sound_targets(table: &Table, random: &mut Random) -> Vec<u8> {
-    let mut targets: Vec<u8> = (0..table.states.len() as u8).collect();
+fn any_sound_targets(areas: &mut Areas, table: &Table, random: &mut Random) {
+    let states = table.states.len();
+    let targets = &mut areas.targets.whole()[..states];
     for (state, target) in targets.iter_mut().enumerate() {
         let children = table.children(state);
-        if !children.is_empty() {
-            *target = *random.pick(&children);
-        }
+        *target = match children.is_empty() {
+            true => state as u8,
+            false => *random.pick(&children),
+        };
     }
-    targets
 }
 
 pub fn any_call(table: &Table, random: &mut Random) -> Call {
@@ -163,12 +164,15 @@ fn value_for(register: &Register, random: &mut Random) -> u32 {
 }
 
 /// Mostly the right lengths.
-pub fn any_lengths(areas: &Areas, random: &mut Random) -> (usize, usize) {
-    let mut lengths = [areas.registers.length(), areas.targets.length()];
+pub fn any_lengths(areas: &Areas, random: &mut Random) -> Lengths {
+    let mut lengths = areas.lengths();
     if random.percent(15) {
-        let length = random.pick(&[0, 1]).to_owned();
-        let right = lengths[length];
-        lengths[length] = match random.below(7) {
+        let length = match random.below(2) {
+            0 => &mut lengths.registers,
+            _ => &mut lengths.targets,
+        };
+        let right = *length;
+        *length = match random.below(7) {
             // Targets without bindings, or with one for each state.
             5 => right / 3,
             6 => right / 3 * 2,
@@ -179,5 +183,5 @@ pub fn any_lengths(areas: &Areas, random: &mut Random) -> (usize, usize) {
             _ => 0,
         };
     }
-    (lengths[0], lengths[1])
+    lengths
 }

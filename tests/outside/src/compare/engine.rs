@@ -1,5 +1,6 @@
 //! The two engines that can make calls.
 
+use super::areas::Lent;
 use super::calls::Call;
 use crate::answer::Answer;
 #[cfg(feature = "library")]
@@ -8,10 +9,15 @@ use crate::reference;
 
 pub struct Engine {
     pub check: fn(&[u8]) -> Answer,
-    reset: fn(&[u8], &mut [u8], &mut [u8]) -> Answer,
-    write_port: fn(&[u8], &mut [u8], u32, u32) -> Answer,
-    run: fn(&[u8], &mut [u8], &mut [u8], u32) -> Answer,
+    pub reset: fn(&[u8], &mut [u8], &mut [u8]) -> Answer,
+    pub write_port: fn(&[u8], &mut [u8], u32, u32) -> Answer,
+    pub run: fn(&[u8], &mut [u8], &mut [u8], u32) -> Answer,
+    pub run_journalled: Journalled,
+    pub step_back: Journalled,
 }
+
+/// The calls on journals.
+pub type Journalled = fn(&[u8], &mut [u8], &mut [u8], &mut [u8], u32) -> Answer;
 
 #[cfg(feature = "library")]
 pub const LIBRARY: Engine = Engine {
@@ -19,6 +25,8 @@ pub const LIBRARY: Engine = Engine {
     reset: library::reset,
     write_port: library::write_port,
     run: library::run,
+    run_journalled: library::run_journalled,
+    step_back: library::step_back,
 };
 
 pub const REFERENCE: Engine = Engine {
@@ -26,22 +34,29 @@ pub const REFERENCE: Engine = Engine {
     reset: reference::reset,
     write_port: reference::write_port,
     run: reference::run,
+    run_journalled: reference::run_journalled,
+    step_back: reference::step_back,
 };
 
 impl Engine {
-    pub fn make(
-        &self,
-        call: Call,
-        image: &[u8],
-        registers: &mut [u8],
-        targets: &mut [u8],
-    ) -> Answer {
+    pub fn make(&self, call: Call, image: &[u8], lent: Lent) -> Answer {
+        let Lent {
+            registers,
+            targets,
+            journal,
+        } = lent;
         match call {
             Call::Reset => (self.reset)(image, registers, targets),
             Call::WritePort { register, value } => {
                 (self.write_port)(image, registers, register, value)
             }
             Call::Run { cycles } => (self.run)(image, registers, targets, cycles),
+            Call::RunJournalled { cycles } => {
+                (self.run_journalled)(image, registers, targets, journal, cycles)
+            }
+            Call::StepBack { cycles } => {
+                (self.step_back)(image, registers, targets, journal, cycles)
+            }
         }
     }
 }

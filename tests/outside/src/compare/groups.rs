@@ -56,8 +56,8 @@ impl Groups {
         });
         let mut random = Random::new(seed);
         let mut areas = [
-            Areas::new(&self.two, &mut random),
-            Areas::new(&self.shared, &mut random),
+            Areas::new(&self.two, 0, &mut random),
+            Areas::new(&self.shared, 0, &mut random),
         ];
         let mut known = BTreeMap::new();
         let mut calls = vec![Call::Reset];

@@ -2,15 +2,18 @@
 
 use super::areas::Areas;
 use super::calls::Call;
+use super::chance::any_sound_choices;
 use super::children::low_children;
 use super::difference::Difference;
 use super::engine::Engine;
-use super::matching::{altered, common_list, dressed, is_too_large};
-use super::view::Stage;
+use super::matching::{
+    altered, common_list, dressed, is_too_large, refused_in_journal, unlike_in_journal, ROOM,
+};
+use super::view::{Seen, Stage};
 use crate::generate::random::Random;
 use crate::generate::{any_design as generated, faults, Size};
 use crate::reference::image::Image;
-use crate::reference::limits::{MOST_CYCLES, TARGET_BYTES};
+use crate::reference::limits::TARGET_BYTES;
 use crate::reference::machine::Machine;
 use crate::table::Table;
 use crate::{designs, reference};
@@ -44,6 +47,18 @@ pub struct Findings {
     pub bound_seen: u64,
     pub in_and_out_of_sight: u64,
     pub hidden_bindings: u64,
+    /// Matching lists that go back; how many end with journals that differ, so out of sight alone; and calls
+    /// on journals that were struck out.
+    pub going_back: u64,
+    pub hidden_saved: u64,
+    pub refused_in_journal: u64,
+    /// Lists made to journal another cycle or to go back by another number, and how many were seen to differ.
+    pub unlike: u64,
+    pub unlike_seen: u64,
+    /// Matching lists begun with a saved state of other targets and the same registers in sight, and how many
+    /// were seen to differ: why journals begin empty.
+    pub lent: u64,
+    pub lent_seen: u64,
 }
 
 impl Findings {
@@ -81,6 +96,27 @@ impl Findings {
              {} end with other bindings out of sight",
             self.parameters, self.bound_seen, self.in_and_out_of_sight, self.hidden_bindings
         );
+        println!(
+            "{} of the pairs go back, {} end with journals that differ out of sight; {} calls on journals \
+             were struck out",
+            self.going_back, self.hidden_saved, self.refused_in_journal
+        );
+        println!(
+            "  {} of {} that journal or go back unlike were seen to differ, {} of {} with a journal not begun \
+             empty",
+            self.unlike_seen, self.unlike, self.lent_seen, self.lent
+        );
+    }
+
+    /// Of matching lists and the areas after them.
+    fn note_journals(&mut self, common: &[Call], lists: &[Vec<Call>; 2], areas: &mut [Areas; 2]) {
+        let goes_back = |call: &Call| matches!(call, Call::StepBack { .. });
+        self.going_back += u64::from(common.iter().any(goes_back));
+        let [one, other] = areas;
+        self.hidden_saved += u64::from(one.all_saved() != other.all_saved());
+        for list in lists {
+            self.refused_in_journal += refused_in_journal(list);
+        }
     }
 
     /// The test would have found a difference.
@@ -96,6 +132,11 @@ impl Findings {
             self.bound_seen,
             self.in_and_out_of_sight,
             self.hidden_bindings,
+            self.going_back,
+            self.hidden_saved,
+            self.refused_in_journal,
+            self.unlike_seen,
+            self.lent_seen,
         ];
         !able.contains(&0)
     }
@@ -160,18 +201,38 @@ fn try_pair(stage: &Stage, random: &mut Random, findings: &mut Findings) -> Resu
         let turns = turns(stage, level, &lists[0], &starts[0]);
         findings.in_and_out_of_sight += u64::from(turns);
     }
-
-    // The same test where views may differ: it has to find that.
-    let changed = altered(&lists[1], table, level, random);
-    let changed = stage.watch(level, &changed, &mut starts[1].clone())?;
-    findings.altered += 1;
-    findings.altered_seen += u64::from(one != changed);
+    findings.note_journals(&common, &lists, &mut areas);
+    try_altered(stage, level, &one, &lists[1], &starts[1], random, findings)?;
+    begin_lent(stage, level, &lists, &starts, random, findings)?;
     let top = top(table);
     let one = stage.watch(top, &lists[0], &mut starts[0].clone())?;
     let other = stage.watch(top, &lists[1], &mut starts[1].clone())?;
     findings.from_top += 1;
     findings.from_top_seen += u64::from(one != other);
     enter_spare(stage, level, &lists, starts, findings)
+}
+
+/// The same test where views may differ: it has to find that.
+fn try_altered(
+    stage: &Stage,
+    level: u8,
+    seen: &Seen,
+    list: &[Call],
+    start: &Areas,
+    random: &mut Random,
+    findings: &mut Findings,
+) -> Result<(), Difference> {
+    let changed = altered(list, stage.table, level, random);
+    let changed = stage.watch(level, &changed, &mut start.clone())?;
+    findings.altered += 1;
+    findings.altered_seen += u64::from(*seen != changed);
+    let Some(unlike) = unlike_in_journal(list, random) else {
+        return Ok(());
+    };
+    let unlike = stage.watch(level, &unlike, &mut start.clone())?;
+    findings.unlike += 1;
+    findings.unlike_seen += u64::from(*seen != unlike);
+    Ok(())
 }
 
 fn bindings(areas: &mut Areas) -> Vec<u8> {
@@ -184,21 +245,47 @@ fn turns(stage: &Stage, level: u8, list: &[Call], start: &Areas) -> bool {
     let mut areas = start.clone();
     let mut met = vec![[false; 2]; stage.table.states.len()];
     for &call in list {
-        let Call::Run { cycles } = call else {
+        let Some(one) = call.of_one_cycle() else {
             stage.make(call, &mut areas);
             continue;
         };
         // A refused run has none.
-        let cycles = if cycles > MOST_CYCLES { 0 } else { cycles };
+        let cycles = stage.make(call, &mut areas.clone()).count;
         for _ in 0..cycles {
             for ran in stage.walk(&mut areas) {
                 let sees = stage.table.flows(ran.label, level);
                 met[usize::from(ran.state)][usize::from(sees)] = true;
             }
-            stage.make(Call::Run { cycles: 1 }, &mut areas);
+            stage.make(one, &mut areas);
         }
     }
     met.contains(&[true; 2])
+}
+
+/// The matching lists again, where views may differ: with a step back before them, to a saved state that no
+/// call has journalled. It has the registers of the start, and any sound targets and bindings.
+fn begin_lent(
+    stage: &Stage,
+    level: u8,
+    lists: &[Vec<Call>; 2],
+    starts: &[Areas; 2],
+    random: &mut Random,
+    findings: &mut Findings,
+) -> Result<(), Difference> {
+    let mut seen = Vec::new();
+    for (list, start) in lists.iter().zip(starts) {
+        let mut areas = start.clone();
+        let mut other = start.clone();
+        any_sound_choices(&mut other, stage.table, random);
+        let saved = [other.registers.whole(), other.targets.whole()].concat();
+        areas.saved(0).copy_from_slice(&saved);
+        areas.set_count(1);
+        let list = [&[Call::StepBack { cycles: 1 }][..], list].concat();
+        seen.push(stage.watch(level, &list, &mut areas)?);
+    }
+    findings.lent += 1;
+    findings.lent_seen += u64::from(seen[0] != seen[1]);
+    Ok(())
 }
 
 /// The matching lists again, where views may differ: from sound targets that no run from reset leaves,
@@ -278,10 +365,11 @@ fn small_design(random: &mut Random) -> Table {
 }
 
 /// Any areas, reset, and then any values within their widths in the registers not at or below the
-/// level.
+/// level; and an empty journal.
 fn start(stage: &Stage, level: u8, random: &mut Random) -> Areas {
-    let mut areas = Areas::new(stage.table, random);
+    let mut areas = Areas::new(stage.table, ROOM, random);
     stage.make(Call::Reset, &mut areas);
+    areas.set_count(0);
     for (register, record) in stage.table.registers.iter().enumerate() {
         if !stage.table.flows(record.label, level) {
             areas.set_value(register, random.fitting(record.width));

@@ -1,47 +1,85 @@
 //! Lists of calls that match at a level: the same remains when refused calls and port writes
-//! to registers not at or below the level are struck out.
+//! to registers not at or below the level are struck out. They begin with empty journals, journal the same
+//! cycles and go back by equal numbers at equal moments.
 
 use super::calls::Call;
 use crate::generate::random::Random;
 use crate::reference::image::{INNER, PORT};
-use crate::reference::limits::WIDEST;
+use crate::reference::limits::{MOST_CYCLES, WIDEST};
 use crate::table::Table;
+
+/// The most calls of a common list, and the most cycles of one of its runs.
+const CALLS: usize = 14;
+const CYCLES: usize = 7;
+
+/// A journal for so many cycles is never too short for a common list, and always for the longest run.
+pub const ROOM: usize = CALLS * CYCLES;
 
 /// What both lists have in common.
 pub fn common_list(table: &Table, level: u8, random: &mut Random) -> Vec<Call> {
     let low = ports(table, |label| table.flows(label, level));
-    (0..random.between(0, 12))
-        .map(|_| match random.below(10) {
+    let mut list = Vec::new();
+    let mut count = 0;
+    for _ in 0..random.between(0, CALLS) {
+        let call = match random.below(16) {
             0 => Call::Reset,
-            1..=3 if !low.is_empty() => write(table, &low, random),
-            _ => Call::Run {
-                cycles: random.below(8) as u32,
+            1..=4 if !low.is_empty() => write(table, &low, random),
+            5..=8 => Call::RunJournalled {
+                cycles: random.between(0, CYCLES) as u32,
             },
-        })
-        .collect()
+            9..=11 if count > 0 => Call::StepBack {
+                cycles: random.between(1, count as usize) as u32,
+            },
+            _ => Call::Run {
+                cycles: random.between(0, CYCLES) as u32,
+            },
+        };
+        count = saved_after(count, call);
+        list.push(call);
+    }
+    list
 }
 
-/// The common list with its runs cut anew and calls that will be struck out between them.
+/// The cycles that a journal has saved after an accepted call.
+fn saved_after(count: u32, call: Call) -> u32 {
+    match call {
+        Call::RunJournalled { cycles } => count + cycles,
+        Call::StepBack { cycles } => count - cycles,
+        _ => count,
+    }
+}
+
+/// The common list with its runs and steps back cut anew and calls that will be struck out between them.
 pub fn dressed(common: &[Call], table: &Table, level: u8, random: &mut Random) -> Vec<Call> {
     let mut list = Vec::new();
+    let mut count = 0;
     for &call in common {
-        add_struck(&mut list, table, level, random);
-        let mut rest = match call {
-            Call::Run { cycles } => cycles,
-            other => {
-                list.push(other);
-                continue;
-            }
-        };
-        while rest > 0 {
-            let cycles = random.between(0, rest as usize) as u32;
-            list.push(Call::Run { cycles });
-            rest -= cycles;
-            add_struck(&mut list, table, level, random);
+        add_struck(&mut list, count, table, level, random);
+        for part in cut(call, random) {
+            list.push(part);
+            count = saved_after(count, part);
+            add_struck(&mut list, count, table, level, random);
         }
     }
-    add_struck(&mut list, table, level, random);
+    add_struck(&mut list, count, table, level, random);
     list
+}
+
+/// Several calls that come to the same.
+fn cut(call: Call, random: &mut Random) -> Vec<Call> {
+    let (part, mut rest): (fn(u32) -> Call, u32) = match call {
+        Call::Run { cycles } => (|cycles| Call::Run { cycles }, cycles),
+        Call::RunJournalled { cycles } => (|cycles| Call::RunJournalled { cycles }, cycles),
+        Call::StepBack { cycles } => (|cycles| Call::StepBack { cycles }, cycles),
+        whole => return vec![whole],
+    };
+    let mut parts = Vec::new();
+    while rest > 0 {
+        let cycles = random.between(0, rest as usize) as u32;
+        parts.push(part(cycles));
+        rest -= cycles;
+    }
+    parts
 }
 
 /// A list of which something else remains: it has one low write or one cycle more.
@@ -57,6 +95,47 @@ pub fn altered(list: &[Call], table: &Table, level: u8, random: &mut Random) -> 
     list
 }
 
+/// A list that goes back by one less at some moment, or has one run that is not journalled; if it has any.
+pub fn unlike_in_journal(list: &[Call], random: &mut Random) -> Option<Vec<Call>> {
+    let other = |call: Call| match call {
+        Call::RunJournalled { cycles } if (1..MOST_CYCLES).contains(&cycles) => {
+            Some(Call::Run { cycles })
+        }
+        Call::StepBack { cycles } => Some(Call::StepBack {
+            cycles: cycles.checked_sub(1)?,
+        }),
+        _ => None,
+    };
+    let places = 0..list.len();
+    let places: Vec<usize> = places.filter(|&at| other(list[at]).is_some()).collect();
+    if places.is_empty() {
+        return None;
+    }
+    let at = *random.pick(&places);
+    let mut list = list.to_vec();
+    list[at] = other(list[at])?;
+    Some(list)
+}
+
+/// The calls of a dressed list that 15, 21 and 22 refuse for the journal or the steps.
+pub fn refused_in_journal(list: &[Call]) -> u64 {
+    let mut count = 0;
+    let mut refused = 0;
+    for &call in list {
+        let is_refused = match call {
+            Call::RunJournalled { cycles } => cycles >= MOST_CYCLES,
+            Call::StepBack { cycles } => cycles > count,
+            _ => false,
+        };
+        if is_refused {
+            refused += 1;
+        } else {
+            count = saved_after(count, call);
+        }
+    }
+    refused
+}
+
 /// A write that 17 refuses.
 pub fn is_too_large(call: &Call, table: &Table) -> bool {
     let Call::WritePort { register, value } = *call else {
@@ -66,14 +145,15 @@ pub fn is_too_large(call: &Call, table: &Table) -> bool {
     named.is_some_and(|port| port.kind == PORT && value > port.most())
 }
 
-fn add_struck(list: &mut Vec<Call>, table: &Table, level: u8, random: &mut Random) {
+/// The journal has saved so many cycles by then.
+fn add_struck(list: &mut Vec<Call>, count: u32, table: &Table, level: u8, random: &mut Random) {
     let high = ports(table, |label| !table.flows(label, level));
     let inner: Vec<u32> = table.of_kind(INNER).into_iter().map(u32::from).collect();
     // Low ones too: 17 refuses the call for all.
     let mut narrow = ports(table, |_| true);
     narrow.retain(|&register| table.registers[register as usize].width < WIDEST);
     for _ in 0..random.below(3) {
-        list.push(match random.below(6) {
+        list.push(match random.below(9) {
             0 => Call::Run {
                 cycles: *random.pick(&[1_000_001, u32::MAX]),
             },
@@ -83,6 +163,12 @@ fn add_struck(list: &mut Vec<Call>, table: &Table, level: u8, random: &mut Rando
             },
             2 if !inner.is_empty() => write(table, &inner, random),
             3 if !narrow.is_empty() => write_too_large(table, &narrow, random),
+            4 => Call::RunJournalled {
+                cycles: *random.pick(&[0, MOST_CYCLES, MOST_CYCLES + 1, u32::MAX]),
+            },
+            5 => Call::StepBack {
+                cycles: *random.pick(&[0, count + 1, count + 1, u32::MAX]),
+            },
             _ if !high.is_empty() => write(table, &high, random),
             _ => Call::Run { cycles: 0 },
         });

@@ -11,6 +11,8 @@ pub mod engine;
 pub mod gate_reasons;
 pub mod groups;
 pub mod independence;
+pub mod journal_chance;
+mod journal_reasons;
 pub mod kinds;
 pub mod listings;
 mod matching;

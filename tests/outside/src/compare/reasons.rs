@@ -4,6 +4,7 @@
 use super::bindings::{note_bindings, Before};
 use super::calls::Call;
 use super::children::note_walk;
+use super::journal_reasons::{note_run_journalled, note_step_back};
 use super::operands::note_operands;
 use super::tally::Tally;
 use crate::answer::Answer;
@@ -32,6 +33,7 @@ pub struct Lent<'a> {
     pub image: &'a [u8],
     pub registers: &'a [u8],
     pub targets: &'a [u8],
+    pub journal: &'a [u8],
 }
 
 /// What stood in the areas.
@@ -42,9 +44,9 @@ struct Contents {
     fitting: bool,
 }
 
-/// Refusals 13 to 17 and acceptances: the image itself was not refused.
+/// Refusals 13 to 17, 21 and 22, and acceptances: the image itself was not refused.
 pub fn note_call(tally: &mut Tally, call: Call, lent: &Lent, answer: Answer) {
-    if !matches!(answer.number, 0 | 13..=15 | 17) {
+    if !matches!(answer.number, 0 | 13..=15 | 17 | 21 | 22) {
         return;
     }
     let image = Image::open(lent.image).expect("an image that is not refused");
@@ -59,6 +61,8 @@ pub fn note_call(tally: &mut Tally, call: Call, lent: &Lent, answer: Answer) {
             note_write(tally, &image, lent, write, answer);
         }
         Call::Run { cycles } => note_run(tally, &image, lent, cycles, answer),
+        Call::RunJournalled { cycles } => note_run_journalled(tally, &image, lent, cycles, answer),
+        Call::StepBack { cycles } => note_step_back(tally, &image, lent, cycles, answer),
     }
 }
 

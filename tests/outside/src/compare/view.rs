@@ -39,8 +39,7 @@ impl Seen {
 
 impl Stage<'_> {
     pub fn make(&self, call: Call, areas: &mut Areas) -> Answer {
-        let Areas { registers, targets } = areas;
-        (self.engine).make(call, self.image, registers.whole(), targets.whole())
+        self.engine.make(call, self.image, areas.whole())
     }
 
     /// Makes every call of the list on the areas, and gives what is seen at the level.
@@ -49,9 +48,9 @@ impl Stage<'_> {
         for &call in list {
             let mut before = areas.clone();
             let answer = self.make(call, areas);
-            if let (Call::Run { cycles: count }, 0) = (call, answer.number) {
-                for _ in 0..count {
-                    cycles.push(self.cycle(level, &mut before));
+            if let (Some(one), 0) = (call.of_one_cycle(), answer.number) {
+                for _ in 0..answer.count {
+                    cycles.push(self.cycle(level, one, &mut before));
                 }
                 if before != *areas {
                     let what = format!("{call:?} is not so many runs of one cycle");
@@ -74,12 +73,12 @@ impl Stage<'_> {
         walk
     }
 
-    /// One cycle by the engine.
-    fn cycle(&self, level: u8, areas: &mut Areas) -> (Vec<u32>, Vec<Sight>) {
+    /// One cycle by the engine, with the journal or without.
+    fn cycle(&self, level: u8, call: Call, areas: &mut Areas) -> (Vec<u32>, Vec<Sight>) {
         let mut walk = self.walk(areas);
         walk.retain(|ran| self.table.flows(ran.label, level));
         let walk = walk.iter().map(|ran| (ran.state, ran.bound)).collect();
-        self.make(Call::Run { cycles: 1 }, areas);
+        self.make(call, areas);
         (self.low_values(level, areas), walk)
     }
 

@@ -115,23 +115,39 @@ fn try_run(
     targets: &mut [u8],
     cycles: u32,
 ) -> Result<usize, Refusal> {
-    let image = judge(bytes)?;
-    let machine = Machine::new(&image);
-    let mut now = judge_areas(&image, &machine, registers, targets)?;
-    if cycles > MOST_CYCLES {
-        return Err(Refusal::new(15, 0));
-    }
+    let (machine, mut now) = judge_run(bytes, registers, targets, cycles)?;
     for _ in 0..cycles {
         machine.cycle(&mut now, targets, &mut ());
     }
-    for (place, value) in registers.chunks_exact_mut(4).zip(now) {
-        place.copy_from_slice(&value.to_le_bytes());
-    }
+    store(&now, registers);
     Ok(cycles as usize)
 }
 
+/// The image checks, 14 and 15. Gives the machine and the registers' values.
+pub(super) fn judge_run(
+    bytes: &[u8],
+    registers: &[u8],
+    targets: &[u8],
+    cycles: u32,
+) -> Result<(Machine, Vec<u32>), Refusal> {
+    let image = judge(bytes)?;
+    let machine = Machine::new(&image);
+    let values = judge_areas(&image, &machine, registers, targets)?;
+    if cycles > MOST_CYCLES {
+        return Err(Refusal::new(15, 0));
+    }
+    Ok((machine, values))
+}
+
+/// Values become the bytes of their area.
+pub(super) fn store(values: &[u32], registers: &mut [u8]) {
+    for (place, value) in registers.chunks_exact_mut(4).zip(values) {
+        place.copy_from_slice(&value.to_le_bytes());
+    }
+}
+
 /// Refusal 14 in its order: lengths, contents, targets, bindings. Gives the registers' values.
-fn judge_areas(
+pub(super) fn judge_areas(
     image: &Image,
     machine: &Machine,
     registers: &[u8],
@@ -146,7 +162,11 @@ fn judge_areas(
 }
 
 /// Refusal 14, a wrong length: place 0.
-fn judge_lengths(image: &Image, registers: &[u8], targets: Option<&[u8]>) -> Result<(), Refusal> {
+pub(super) fn judge_lengths(
+    image: &Image,
+    registers: &[u8],
+    targets: Option<&[u8]>,
+) -> Result<(), Refusal> {
     let fitting = registers.len() == 4 * image.registers().len()
         && targets.is_none_or(|targets| targets.len() == TARGET_BYTES * image.states().len());
     if fitting {

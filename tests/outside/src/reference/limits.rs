@@ -23,6 +23,9 @@ pub const PARAMETER_LABEL: u8 = 16;
 /// A state in the target area: its target, and behind all targets its two bindings.
 pub const TARGET_BYTES: usize = 1 + MOST_PARAMETERS;
 
+/// The number of saved cycles at the start of a journal: request E9.
+pub const COUNT_BYTES: usize = 4;
+
 /// The bits of the widest register; the narrowest has one.
 pub const WIDEST: u8 = 32;
 

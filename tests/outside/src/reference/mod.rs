@@ -1,4 +1,4 @@
-//! Document 01 with requests E1 to E4, E6 to E8 and E13 of document 02, implemented for clarity: tables and passes
+//! Document 01 with requests E1 to E4, E6 to E9 and E13 of document 02, implemented for clarity: tables and passes
 //! over node numbers, no recursion in the checker, so that it shares as little as possible with the
 //! proved library.
 
@@ -7,6 +7,7 @@ mod directory;
 mod flow;
 pub mod gates;
 pub mod image;
+mod journals;
 pub mod labelings;
 pub mod labels;
 pub mod limits;
@@ -21,6 +22,7 @@ mod rules;
 pub mod scopes;
 
 pub use calls::{check, registers_length, reset, run, targets_length, walk, write_port};
+pub use journals::{run_journalled, step_back};
 pub use listing::listing;
 pub use raise::{raise, with_labels};
 pub use rules::{context_flows, flow_faults};

@@ -5,6 +5,7 @@ mod areas;
 mod gate_refusals;
 mod gates;
 mod images;
+mod journals;
 mod lease;
 mod parameters;
 mod ports;
@@ -46,5 +47,6 @@ fn records() -> Vec<Record> {
     parameters::add(&mut script);
     gates::add(&mut script);
     gate_refusals::add(&mut script);
+    journals::add(&mut script);
     script.end()
 }

@@ -20,6 +20,9 @@ pub enum Record {
     GatesReset,
     /// A cycle with these values of the inputs.
     GatesCycle(Vec<u8>),
+    Journal(Vec<u8>),
+    RunJournalled(u32),
+    StepBack(u32),
     /// A record of no kind.
     Bad,
 }
@@ -41,7 +44,10 @@ impl Record {
             Record::FlipFlops(area) => record(8, area.len() as u32, 0, &[area]),
             Record::GatesReset => record(9, 0, 0, &[]),
             Record::GatesCycle(inputs) => record(10, inputs.len() as u32, 0, &[inputs]),
-            Record::Bad => record(11, 0, 0, &[]),
+            Record::Journal(area) => record(11, area.len() as u32, 0, &[area]),
+            Record::RunJournalled(cycles) => record(12, *cycles, 0, &[]),
+            Record::StepBack(cycles) => record(13, *cycles, 0, &[]),
+            Record::Bad => record(14, 0, 0, &[]),
         }
     }
 }

@@ -94,6 +94,19 @@ impl Script {
         self.add(Record::GatesCycle(inputs.to_vec()))
     }
 
+    /// The journal as it is lent, of any length.
+    pub fn journal(&mut self, area: &[u8]) -> &mut Script {
+        self.add(Record::Journal(area.to_vec()))
+    }
+
+    pub fn run_journalled(&mut self, cycles: u32) -> &mut Script {
+        self.add(Record::RunJournalled(cycles))
+    }
+
+    pub fn step_back(&mut self, cycles: u32) -> &mut Script {
+        self.add(Record::StepBack(cycles))
+    }
+
     /// The design, and one cycle for each pair of values in the ports r1 and r2.
     pub fn pairs(&mut self, table: &Table, pairs: &[(u32, u32)]) {
         self.design(table).reset();

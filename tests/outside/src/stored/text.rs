@@ -2,6 +2,7 @@
 
 use super::record::Record;
 use crate::answer::Answer;
+use crate::compare::engine::Journalled;
 use crate::reference::{self, gates};
 
 #[derive(Default)]
@@ -11,6 +12,7 @@ struct Lent {
     targets: Vec<u8>,
     table: Vec<u8>,
     flipflops: Vec<u8>,
+    journal: Vec<u8>,
 }
 
 pub fn of(records: &[Record]) -> String {
@@ -67,8 +69,30 @@ impl Lent {
                 let answer = gates::cycle(&self.table, inputs, &mut self.flipflops);
                 answered("gates cycle", answer) + &line("flipflops", &self.flipflops)
             }
+            Record::Journal(area) => {
+                self.journal = area.clone();
+                String::new()
+            }
+            Record::RunJournalled(cycles) => {
+                self.journalled("journal", reference::run_journalled, *cycles)
+            }
+            Record::StepBack(cycles) => self.journalled("back", reference::step_back, *cycles),
             Record::Bad => "bad record\n".to_string(),
         }
+    }
+
+    fn journalled(&mut self, name: &str, call: Journalled, cycles: u32) -> String {
+        let Lent {
+            image,
+            registers,
+            targets,
+            journal,
+            ..
+        } = self;
+        let answer = call(image, registers, targets, journal, cycles);
+        answered(&format!("{name} {cycles}"), answer)
+            + &self.areas()
+            + &line("journal", &self.journal)
     }
 
     fn areas(&self) -> String {
