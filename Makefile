@@ -5,7 +5,7 @@ SOAK_SEED = 1
 SOAK_LEVEL =
 
 library = target/staticlib/libcaisson.a
-soak_sources = $(wildcard tests/soak/*.c) $(addprefix host/, box.c design.c numbers.c refusals.c say.c table.c)
+soak_sources = $(wildcard tests/soak/*.c) $(addprefix host/, box.c design.c journal.c numbers.c refusals.c say.c table.c)
 soak_build = gcc -std=c11 -O2 -Wall -Wextra -Werror -Iinclude -Ihost -Itests/soak
 
 .PHONY: test quick definitions bench stack run host tool soak library lister install clean
@@ -46,8 +46,8 @@ tool: library
 	CARGO_TARGET_DIR=$(CURDIR)/target/tools \
 		cargo build --quiet --release --offline --manifest-path tools/Cargo.toml
 
-# Two boxes side by side with unlike readings for one party, for SOAK_SECONDS: at each level in turn, or
-# at SOAK_LEVEL.
+# Two boxes side by side with unlike readings for one party, which also go back by equal numbers, for
+# SOAK_SECONDS: at each level in turn, or at SOAK_LEVEL.
 soak: library
 	$(MAKE) target/soak/soak
 	target/soak/soak $(SOAK_DESIGN) --seconds $(SOAK_SECONDS) --seed $(SOAK_SEED) \
@@ -58,9 +58,11 @@ target/soak/soak: $(soak_sources) $(wildcard tests/soak/*.h host/*.h) include/ca
 	mkdir -p target/soak
 	$(soak_build) $(soak_sources) $(library) -o $@
 
-# The same with a run that leaks, for the test of the soak.
+# The same with a run that leaks, and with a step back that does, for the test of the soak.
 target/soak/leaky: tests/soak/testdata/leaky_run.c target/soak/soak
 	$(soak_build) -Wl,--wrap=caisson_run $< $(soak_sources) $(library) -o $@
+target/soak/leaky_back: tests/soak/testdata/leaky_back.c target/soak/soak
+	$(soak_build) -Wl,--wrap=caisson_step_back $< $(soak_sources) $(library) -o $@
 
 # The library for a host; only what has changed is proved again.
 library:

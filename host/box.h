@@ -2,7 +2,7 @@
  * box.h: a design with the two areas that are its state.
  *
  * The areas are changed by the functions below and by nothing else. That is more than tidiness: the
- * promise that parties are kept apart is about areas that only reset, port write and run have
+ * promise that parties are kept apart is about areas that only reset, port write, run and going back have
  * changed.
  */
 #ifndef BOX_H
@@ -11,6 +11,7 @@
 #include <stdbool.h>
 
 #include "caisson.h"
+#include "journal.h"
 
 struct box {
     const uint8_t *image; /* must outlive the box */
@@ -19,7 +20,8 @@ struct box {
     size_t targets_length;
     uint8_t registers[CAISSON_REGISTERS * CAISSON_WORD];
     uint8_t targets[CAISSON_STATES * CAISSON_TARGET_LENGTH];
-    /* Of a design with parameters, the targets and bindings that the last cycle began with. */
+    /* Of a design with parameters, the targets and bindings that the last cycle began with; after a reset and
+       after going back, those that the next one begins with. */
     uint8_t targets_before[CAISSON_STATES * CAISSON_TARGET_LENGTH];
 };
 
@@ -35,6 +37,14 @@ caisson_answer box_write_port(struct box *box, uint32_t reg, uint32_t value);
 
 CAISSON_LOOK_AT_ANSWER
 caisson_answer box_run(struct box *box, uint32_t cycles);
+
+/* The same, and each cycle is saved in the journal. Where that is full, its oldest cycles are forgotten. */
+CAISSON_LOOK_AT_ANSWER
+caisson_answer box_run_journalled(struct box *box, struct journal *journal, uint32_t cycles);
+
+/* Back by so many cycles of the journal: the areas as they were before them, ports too. */
+CAISSON_LOOK_AT_ANSWER
+caisson_answer box_step_back(struct box *box, struct journal *journal, uint32_t cycles);
 
 /*
  * Of a design with parameters: the states along the targets that the last cycle began with, from the root on,

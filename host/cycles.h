@@ -7,6 +7,19 @@
 #include "status.h"
 #include "trace.h"
 
+/* A site and how far it has come. */
+struct site {
+    struct box *box;
+    struct journal *journal; /* NULL: none is kept */
+    const struct trace *trace;
+    const struct options *options; /* with at least one party, if the design has labels */
+    uint64_t done;                 /* cycles, without those gone back over */
+    size_t written;                /* readings of the trace, without those before cycles gone back over */
+};
+
+/* What the library refuses a port write by, and of a value too large what its port would take. */
+void reading_refused(const struct box *box, uint32_t reg, uint32_t value, caisson_answer answer);
+
 /*
  * Makes every port write of the trace on a copy of the box, so that a register that is no port is
  * found before the first cycle. STATUS_REFUSED, with a message that names file and line, at the first
@@ -16,10 +29,18 @@ CAISSON_LOOK_AT_ANSWER
 enum status cycles_rehearse(const struct box *box, const struct trace *trace, const char *path);
 
 /*
- * Before each cycle its readings, then the cycle, then its sample where one is due. Says at the end
- * what was done, with the late cycles.
+ * Before each cycle its readings, then the cycle, then its sample where one is due; as many cycles as the
+ * options say. Says at the end what was done, with the late cycles.
  */
 CAISSON_LOOK_AT_ANSWER
-enum status cycles_run(struct box *box, const struct trace *trace, const struct options *options);
+enum status cycles_run(struct site *site);
+
+/* So many cycles more, in the same way, as fast as possible. */
+CAISSON_LOOK_AT_ANSWER
+enum status cycles_step(struct site *site, uint64_t cycles);
+
+/* Back by so many cycles of the site's journal, and in the trace too. */
+CAISSON_LOOK_AT_ANSWER
+caisson_answer cycles_back(struct site *site, uint32_t cycles);
 
 #endif

@@ -1,9 +1,11 @@
 /*
  * outstation: checks a design, takes the readings of the undertakings at a site from a trace, runs
- * the design's cycles and writes each party's flow record. README.md describes it.
+ * the design's cycles and writes each party's flow record; then, where it is asked to, it takes commands.
+ * README.md describes it.
  */
 #include <stdio.h>
 
+#include "console.h"
 #include "cycles.h"
 #include "design.h"
 #include "record.h"
@@ -30,12 +32,39 @@ static struct options with_parties(const struct options *options, struct party e
     return chosen;
 }
 
+/* The cycles, and then the console. */
+static enum status site_run(struct site *site)
+{
+    enum status status = cycles_run(site);
+
+    return status == STATUS_DONE && site->options->console ? console_run(site) : status;
+}
+
+/* With a journal, where the options ask for one. */
+static enum status site_operate(struct site *site)
+{
+    const struct box *box = site->box;
+    struct journal journal;
+    enum status status;
+
+    if (site->options->journal == 0)
+        return site_run(site);
+    status = journal_start(&journal, (uint32_t)site->options->journal, box->registers_length + box->targets_length);
+    site->journal = &journal;
+    if (status == STATUS_DONE)
+        status = site_run(site);
+    journal_free(&journal);
+    site->journal = NULL;
+    return status;
+}
+
 /* Judges everything before the first cycle: the design, the parties' levels, all port writes. */
 static enum status operate(const struct options *options, const struct design *design, const struct trace *trace)
 {
     struct party each_label[CAISSON_LABELS];
     struct options chosen;
     struct box box;
+    struct site site = {.box = &box, .trace = trace, .options = &chosen};
     enum status status;
     caisson_answer answer = caisson_check(design->image, design->length);
 
@@ -49,7 +78,7 @@ static enum status operate(const struct options *options, const struct design *d
     if (answer.number != CAISSON_ACCEPTED)
         return refused(options->design, answer);
     status = cycles_rehearse(&box, trace, options->trace);
-    return status == STATUS_DONE ? cycles_run(&box, trace, &chosen) : status;
+    return status == STATUS_DONE ? site_operate(&site) : status;
 }
 
 static enum status help(void)
@@ -61,12 +90,13 @@ static enum status help(void)
 static enum status outstation(const struct options *options)
 {
     struct design design;
-    struct trace trace;
-    enum status status;
+    struct trace trace = {0};
+    enum status status = STATUS_DONE;
 
     if (options->help)
         return help();
-    status = trace_read(&trace, options->trace);
+    if (options->trace != NULL)
+        status = trace_read(&trace, options->trace);
     if (status == STATUS_DONE)
         status = design_load(&design, options->design);
     if (status == STATUS_DONE)

@@ -6,12 +6,19 @@
 #include "numbers.h"
 #include "say.h"
 
+#define LONGEST_JOURNAL 1000000u /* cycles */
+#define CONSOLE_JOURNAL 1000u    /* where a console has to do without --journal */
+
 const char options_usage[] =
-    "usage: outstation DESIGN TRACE [--fast] [--cycles N] [--every K] [--party NAME:LEVEL]...\n"
+    "usage: outstation DESIGN TRACE [--fast] [--cycles N] [--every K] [--party NAME:LEVEL]... [--journal N]\n"
+    "       outstation DESIGN [TRACE] --console [the same options]\n"
     "  --fast              run as fast as possible, not 100 cycles a second\n"
     "  --cycles N          stop after N cycles, not after the last cycle that the trace names\n"
     "  --every K           a sample after each K cycles, not after each cycle\n"
     "  --party NAME:LEVEL  a flow record at this label, not one for each label; may be repeated\n"
+    "  --journal N         keep a journal of the last N cycles at least, to go back to\n"
+    "  --console           take commands from standard input afterwards, with a journal of 1000 cycles if\n"
+    "                      none is asked for; `help` lists them\n"
     "A line of TRACE is CYCLE REGISTER VALUE. A VALUE below zero, as -40, is written to the port as its\n"
     "two's complement.\n";
 
@@ -46,6 +53,9 @@ static enum status valued_read(struct options *options, const char *name, const 
     } else if (strcmp(name, "--every") == 0) {
         if (!number_read_all(value, UINT64_MAX, &options->every) || options->every == 0)
             return wrong("--every takes a number of cycles from 1 on, not ", value);
+    } else if (strcmp(name, "--journal") == 0) {
+        if (!number_read_all(value, LONGEST_JOURNAL, &options->journal) || options->journal == 0)
+            return wrong("--journal takes a number of cycles from 1 to 1000000, not ", value);
     } else {
         return party_add(options, value);
     }
@@ -65,7 +75,22 @@ static enum status path_read(struct options *options, const char *path)
 
 static bool takes_value(const char *name)
 {
-    return strcmp(name, "--cycles") == 0 || strcmp(name, "--every") == 0 || strcmp(name, "--party") == 0;
+    return strcmp(name, "--cycles") == 0 || strcmp(name, "--every") == 0 || strcmp(name, "--party") == 0 ||
+           strcmp(name, "--journal") == 0;
+}
+
+/* An option without a value; false where it is none. */
+static bool flag_read(struct options *options, const char *name)
+{
+    if (strcmp(name, "--fast") == 0)
+        options->fast = true;
+    else if (strcmp(name, "--console") == 0)
+        options->console = true;
+    else if (strcmp(name, "--help") == 0)
+        options->help = true;
+    else
+        return false;
+    return true;
 }
 
 /* Reads the argument at `at`, with its value, and answers where the next one stands in `next`. */
@@ -76,14 +101,8 @@ static enum status argument_read(struct options *options, int argc, char **argv,
     *next = at + 1;
     if (argument[0] != '-')
         return path_read(options, argument);
-    if (strcmp(argument, "--fast") == 0) {
-        options->fast = true;
+    if (flag_read(options, argument))
         return STATUS_DONE;
-    }
-    if (strcmp(argument, "--help") == 0) {
-        options->help = true;
-        return STATUS_DONE;
-    }
     if (!takes_value(argument))
         return wrong("unknown option ", argument);
     if (*next >= argc)
@@ -105,8 +124,14 @@ enum status options_read(struct options *options, int argc, char **argv)
         if (status != STATUS_DONE)
             return status;
     }
-    if (options->trace == NULL && !options->help)
+    if (options->help)
+        return STATUS_DONE;
+    if (options->console && options->design == NULL)
+        return wrong("a design is needed", "");
+    if (options->trace == NULL && !options->console)
         return wrong("a design and a trace are needed", "");
+    if (options->console && options->journal == 0)
+        options->journal = CONSOLE_JOURNAL;
     return STATUS_DONE;
 }
 

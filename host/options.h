@@ -9,12 +9,14 @@
 
 struct options {
     const char *design; /* path of the design */
-    const char *trace;  /* path of the trace */
+    const char *trace;  /* path of the trace; NULL: there is none */
     bool help;          /* only say how the program is used */
     bool fast;          /* do not wait between cycles */
     bool limited;       /* `cycles` was given */
     uint64_t cycles;    /* how many to run */
     uint64_t every;     /* a sample after each so many cycles; at least 1 */
+    bool console;       /* take commands afterwards */
+    uint64_t journal;   /* keep a journal of so many cycles; 0: none */
     struct party *parties;
     size_t party_count; /* 0: one party for each label */
 };

@@ -2,6 +2,7 @@
 
 #include <errno.h>
 #include <inttypes.h>
+#include <stdarg.h>
 #include <stdbool.h>
 #include <stdio.h>
 #include <string.h>
@@ -65,6 +66,17 @@ enum status record_sample(const struct box *box, uint64_t cycle, const struct pa
             return not_written();
     }
     return STATUS_DONE;
+}
+
+enum status record_line(const char *format, ...)
+{
+    va_list arguments;
+    int written;
+
+    va_start(arguments, format);
+    written = vprintf(format, arguments);
+    va_end(arguments);
+    return written < 0 ? not_written() : STATUS_DONE;
 }
 
 enum status record_flush(void)

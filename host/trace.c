@@ -6,6 +6,7 @@
 #include <stdlib.h>
 #include <string.h>
 
+#include "lines.h"
 #include "numbers.h"
 #include "say.h"
 
@@ -15,27 +16,9 @@ struct text {
     const char *end;
 };
 
-enum line { LINE_READ, LINE_NONE, LINE_TOO_LONG, LINE_BROKEN };
-
-/* The characters of the next line; a last line may lack its line feed. */
-static enum line line_read(FILE *file, char characters[TRACE_LONGEST_LINE], size_t *length)
-{
-    int character;
-
-    *length = 0;
-    while ((character = getc(file)) != EOF && character != '\n') {
-        if (*length == TRACE_LONGEST_LINE)
-            return LINE_TOO_LONG;
-        characters[(*length)++] = (char)character;
-    }
-    if (ferror(file))
-        return LINE_BROKEN;
-    return character == EOF && *length == 0 ? LINE_NONE : LINE_READ;
-}
-
 static void skip_blanks(struct text *text)
 {
-    while (text->at < text->end && (*text->at == ' ' || *text->at == '\t' || *text->at == '\r'))
+    while (text->at < text->end && is_blank(*text->at))
         text->at++;
 }
 
@@ -130,7 +113,7 @@ static enum status lines_read(struct trace *trace, FILE *file, const char *path)
         size_t length;
 
         errno = 0;
-        switch (line_read(file, characters, &length)) {
+        switch (line_read(file, characters, sizeof characters, &length)) {
         case LINE_NONE:
             return STATUS_DONE;
         case LINE_READ:

@@ -25,8 +25,9 @@
  * It is the lowest that breaks the rule; of 10 to 12 it is the first in reading order that breaks one
  * of them, whatever its number. Whether that of 14 is a register or a state, its words below say. That of
  * 19 is a state where the record of one breaks the rule, else a node.
- * `count` is the cycles that were run or the length that was asked for, and 0 on every refusal. A
- * refusal changes no byte of the areas, nor of the one that caisson_raise writes.
+ * `count` is the cycles that were run or gone back or the length that was asked for, and 0 on every
+ * refusal. A refusal changes no byte of the areas, nor of a journal, nor of the area that caisson_raise
+ * writes.
  *
  * The state of a design is two areas that the host owns and lends to each call: registers,
  * CAISSON_WORD bytes each, least significant byte first; and targets, one byte for each state, with
@@ -51,23 +52,36 @@
  * bound to its own parameters as it ran. A state whose label is a parameter's is seen by the label that its
  * binding gave it then.
  *
- * The parties are kept apart from a reset on, while nothing but caisson_reset, caisson_write_port and
- * caisson_run changes the areas. So a host never restores them, be it from a saved copy, a file or
- * another box. A run refuses targets and bindings that are not sound and no others: some that are sound,
- * but that no run from reset comes to, can show a low party a high register. After a power failure, and
- * whenever anything else may have written an area, the host resets. No call goes back to an earlier cycle.
+ * A host may also lend a journal to its runs, a third area into which the library saves both others before
+ * each cycle, so that caisson_step_back can restore them later. Its bytes stand at caisson_run_journalled. A
+ * host that does not go back needs none.
+ *
+ * The parties are kept apart from a reset on, while nothing but caisson_reset, caisson_write_port,
+ * caisson_run, caisson_run_journalled and caisson_step_back changes the areas, and while the journal began
+ * empty, with a count of 0, and nothing but the last two has written it. So a host never restores areas in
+ * another way, be it from a saved copy, a file or another box, and never a journal. A run refuses targets
+ * and bindings that are not sound and no others, and so does going back of those that were saved: some that
+ * are sound, but that no run from reset comes to, can show a low party a high register. After a power
+ * failure, and whenever anything else may have written an area or a journal, the host resets, and begins
+ * with an empty journal.
+ *
+ * A party sees the same of two such hosts if their calls agree in all that it may see, and if both journal
+ * the same cycles and go back by equal numbers at equal moments. So nothing hidden may decide when a host
+ * journals, or when and how far it goes back. A journal has the registers of all levels in it: it is shown
+ * to nobody who may not see them all.
  *
  * Each register has a width of 1 to CAISSON_WIDTH bits and holds values below 2 to the power of it. In
  * the area it takes CAISSON_WORD bytes all the same, with zeros above its width. An assignment stores
- * its value modulo 2 to the power of the width. A reset, an accepted port write and an accepted run
- * leave every register within its width. So 14 is answered for contents only where a register area
- * was not reset, or where the host has filled or changed it by itself.
+ * its value modulo 2 to the power of the width. A reset, an accepted port write, an accepted run and going
+ * back, where it restores a state, leave every register within its width. So 14 is answered for contents
+ * only where a register area was not reset, or where the host has filled or changed it, or a journal, by
+ * itself.
  *
  * A value has 32 bits, and some operations of a design read them as signed, in two's complement. So a
  * host hands a reading of -40 over as (uint32_t)-40, to a port of width CAISSON_WIDTH: no narrower
  * register holds a value below zero.
  *
- * Two calls at the same time are safe if they are lent no area in common.
+ * Two calls at the same time are safe if they are lent no area and no journal in common.
  */
 #ifndef CAISSON_H
 #define CAISSON_H
@@ -81,7 +95,7 @@ extern "C" {
 
 /* The version of the library and the number of the image's format. CHANGELOG.md says when each moves;
    docs/FORMAT.md has the format byte by byte. */
-#define CAISSON_VERSION "3.0.0"
+#define CAISSON_VERSION "3.1.0"
 #define CAISSON_FORMAT 3
 
 /* Limits of a design table. */
@@ -114,6 +128,9 @@ extern "C" {
 #define CAISSON_WORD 4u                /* bytes of a register in its area */
 #define CAISSON_CYCLES 1000000u        /* most cycles of one run */
 
+/* Bytes of the count that a journal begins with. */
+#define CAISSON_JOURNAL_COUNT_LENGTH 4u
+
 /* Limits of a gate table; each count may be 0. */
 #define CAISSON_GATES_INPUTS 256u    /* most inputs */
 #define CAISSON_GATES_FLIPFLOPS 256u /* most flip-flops */
@@ -131,8 +148,8 @@ extern "C" {
 #define CAISSON_UNTRUSTED 1u
 
 /* What is wrong, and where `place` points. 1 to 12, 16 and 19 are about the image: they are the image
-   checks. 25 and 26 are about gate tables. caisson_refusals.def has the same words for a program to
-   show. */
+   checks. 21 and 22 are about journals, 25 and 26 about gate tables. caisson_refusals.def has the same
+   words for a program to show. */
 enum caisson_refusal {
     CAISSON_ACCEPTED = 0,
     /* The directory, a count of records or the length of a section is wrong. The directory is five
@@ -199,19 +216,22 @@ enum caisson_refusal {
        Place: the register number given. */
     CAISSON_NO_PORT = 13,
     /* An area has the wrong length, a register holds a value that is too large for its width, or a
-       run finds a target or a binding that is not sound. They are judged in this order: lengths by
-       every call that takes an area, values by a port write and a run, targets and then bindings by
-       a run. So where the lengths are right, the place is a register if some register holds a value
-       too large, and a state if none does. The target of a state with children is one of its
-       children, that of any other state is its own number. A binding byte is 0 or the number of a
-       register. Of the states along the current targets, from the root to a state without children,
-       each parameter is bound to a register that the design has, that is no port and whose label
-       lies within the bounds. The area for a raised image is exactly as long as the image. A gate
-       table is lent one byte for each input and two for each flip-flop; only their lengths are
-       judged by 14. Place: 0 for a length; the lowest register for a value; the lowest state for a
-       target or a binding. */
+       run or going back finds a target or a binding that is not sound. They are judged in this
+       order: lengths by every call that takes an area, values by a port write and a run, targets
+       and then bindings by a run. So where the lengths are right, the place is a register if some
+       register holds a value too large, and a state if none does. The target of a state with
+       children is one of its children, that of any other state is its own number. A binding byte is
+       0 or the number of a register. Of the states along the current targets, from the root to a
+       state without children, each parameter is bound to a register that the design has, that is no
+       port and whose label lies within the bounds. The area for a raised image is exactly as long
+       as the image. A journalled run judges what a run does. Going back judges the lengths of both
+       areas before 21, and after 22 values, targets and bindings as a run does, not those of the
+       areas but those of the saved state that it is to restore. A gate table is lent one byte for
+       each input and two for each flip-flop; only their lengths are judged by 14. Place: 0 for a
+       length; the lowest register for a value; the lowest state for a target or a binding. */
     CAISSON_AREA = 14,
-    /* A run asks for more than 1,000,000 cycles. Place: 0. */
+    /* A run asks for more than 1,000,000 cycles. It refuses a journalled run too. Going back has no
+       such limit. Place: 0. */
     CAISSON_CYCLE_COUNT = 15,
     /* An assignment names a port, or a goto has a port as an argument. Ports belong to the host:
        only a reset and a port write change them. Any expression may read them. The arguments of a
@@ -241,6 +261,16 @@ enum caisson_refusal {
     /* An image to be raised has a state with parameters. Raising is for designs without parameters.
        It is judged after the image checks up to 9, 16 and 19 included, and before 14. Place: 0. */
     CAISSON_RAISE_PARAMETERS = 20,
+    /* A journal has less than 4 bytes, is too short for its count and the cycles to run, or would
+       count more than 32 bits hold. The first 4 bytes of a journal are the count of its saved
+       states, and each of these takes as many bytes as both areas together. A journalled run needs
+       room for those counted and one more for each cycle to run, going back for those counted. It
+       is judged after 15, by a journalled run of 0 cycles too; in going back it is judged after the
+       lengths of both areas. Place: 0. */
+    CAISSON_JOURNAL_AREA = 21,
+    /* Going back asks for more cycles than the journal counts. It is judged after 21, and before 14
+       of the saved state that is to be restored. Place: 0. */
+    CAISSON_STEPS_BACK = 22,
     /* The directory of a gate table, a count of records or the length of a section is wrong. The
        directory is three pairs of 16-bit offset and length, sorted: the first offset is 12, each
        later one the sum of the pair before it, and the last section ends at the table's end. The
@@ -259,8 +289,9 @@ enum caisson_refusal {
 typedef struct {
     uint32_t number; /* 0: accepted; otherwise a caisson_refusal */
     size_t place;    /* where; 0 on acceptance */
-    size_t count;    /* accepted: of a run its cycles, of a length call the length in bytes, of every
-                        other call 0; refused: 0 */
+    size_t count;    /* accepted: of a run its cycles, with a journal or without, of going back the cycles
+                        gone back, of a length call the length in bytes, of every other call 0;
+                        refused: 0 */
 } caisson_answer;
 
 #if defined(__GNUC__) || defined(__clang__)
@@ -335,6 +366,64 @@ caisson_answer caisson_run(const uint8_t *image, size_t image_len,
                            uint32_t cycles); /* how many */
 
 /*
+ * A run that can be gone back over: it does to both areas what caisson_run does, and also saves them into a
+ * journal before every cycle.
+ *
+ * A journal begins with CAISSON_JOURNAL_COUNT_LENGTH bytes that count the cycles saved in it, least
+ * significant byte first. Behind the count stand the saved states, the oldest first and without gaps, each
+ * registers_len + targets_len bytes: the register area and then the target area, as they were before the
+ * cycle. So a journal for n cycles has at least
+ * CAISSON_JOURNAL_COUNT_LENGTH + n * (registers_len + targets_len) bytes; it may be longer. The host begins
+ * a journal by setting its count to 0, and what its other bytes hold then does not matter. A journal belongs
+ * to one design: for another, begin a new one.
+ *
+ * On acceptance the journal counts `cycles` more, and behind the saved states that it counted stands one for
+ * each of these cycles. Its other bytes keep their values, those behind the last saved state too. The areas
+ * and `count` are those that caisson_run gives. A run of 0 changes nothing, and judges the same. Two such
+ * runs, one after the other, leave what one of all their cycles leaves. No other call but caisson_step_back
+ * is lent the journal: port writes, resets and runs by caisson_run leave it as it is, and the cycles of
+ * those runs are not counted.
+ *
+ * The bytes of the journal are taken as lent: of the saved states that it counts already, nothing is judged
+ * here. Refusals: those of caisson_run in their order, then 21 with place 0: the journal has less than
+ * CAISSON_JOURNAL_COUNT_LENGTH bytes, or is too short for its count and `cycles` more, or its new count
+ * would be above UINT32_MAX. A full journal is never written over: the host lends a longer one, goes back,
+ * begins a new one or runs without.
+ */
+CAISSON_LOOK_AT_ANSWER
+caisson_answer caisson_run_journalled(const uint8_t *image, size_t image_len,
+                                      uint8_t *registers, size_t registers_len,
+                                      uint8_t *targets, size_t targets_len,
+                                      uint8_t *journal, size_t journal_len, /* count and saved states */
+                                      uint32_t cycles);                     /* how many to run */
+
+/*
+ * Goes back: restores both areas, every byte of them, ports too, as the journal saved them before the
+ * k-th last of the cycles that it counts, where k is `cycles`, and answers k as `count`. By 1 it goes to
+ * before the last cycle in the journal, by as many as the journal counts to before the first. In the journal only
+ * the count changes, which is lowered by `cycles`. The saved states that it no longer counts stay where they
+ * were until a later journalled run writes there: no call goes forward to them again.
+ *
+ * Only cycles in the journal are counted. Whatever happened since the state was saved is undone: cycles,
+ * port writes, runs without the journal, and resets. So a host can go back over a reset, to before it.
+ * With 0 nothing changes, also where runs without the journal or port writes came last. 15 does not limit
+ * `cycles`.
+ *
+ * What the areas hold does not matter, since they are overwritten whole: only their lengths are judged. The
+ * saved state is taken as the journal is lent, and judged as a run would judge an area with these bytes.
+ * Refusals: the image checks, then 14 for the length of an area, with place 0, then 21 with place 0 for a
+ * journal that has less than CAISSON_JOURNAL_COUNT_LENGTH bytes or is too short for its own count, then 22
+ * with place 0 where `cycles` is above the count, then, unless `cycles` is 0, 14 for a value too large in
+ * the saved state, 14 for an unsound target in it, 14 for an unsound binding in it.
+ */
+CAISSON_LOOK_AT_ANSWER
+caisson_answer caisson_step_back(const uint8_t *image, size_t image_len,
+                                 uint8_t *registers, size_t registers_len,
+                                 uint8_t *targets, size_t targets_len,
+                                 uint8_t *journal, size_t journal_len, /* count and saved states */
+                                 uint32_t cycles);                     /* how many to go back */
+
+/*
  * Writes the same image with labels of inner registers raised, never lowered, so that the whole is
  * accepted: for a designer who knows the labels of ports and states and leaves the rest to the library.
  *
@@ -350,7 +439,7 @@ caisson_answer caisson_run(const uint8_t *image, size_t image_len,
  * image and does not overlap it. What it held before does not matter: on acceptance every byte of it is
  * written, on a refusal none. The call goes over the bodies at most CAISSON_REGISTERS * CAISSON_LABELS =
  * 1,024 times, again only where some label has risen, which on most designs is a few times. It takes
- * about as much stack as caisson_check, measured: 7,864 bytes on the lease design and 31,784 on the
+ * about as much stack as caisson_check, measured: 7,880 bytes on the lease design and 31,784 on the
  * deepest one. Refusals: the image checks 1 to 8, 16, 19 and 9, then 20, then 14 for the length of `out`,
  * then 18, all three with place 0.
  */

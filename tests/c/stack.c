@@ -14,6 +14,7 @@ enum { CYCLES = 1000, STACK = 1 << 20, PAGE = 4096, PAINT = 0xA5 };
 /* One byte more than the largest image has, so that a longer file is refused. */
 static uint8_t image[CAISSON_LARGEST_IMAGE + 1u], raised[CAISSON_LARGEST_IMAGE + 1u];
 static uint8_t registers[CAISSON_REGISTERS * CAISSON_WORD], targets[CAISSON_STATES * CAISSON_TARGET_LENGTH];
+static uint8_t journal[CAISSON_JOURNAL_COUNT_LENGTH + CYCLES * (sizeof registers + sizeof targets)];
 static size_t image_len, registers_len, targets_len;
 static uint32_t port;
 static uint8_t gates[CAISSON_GATES_LARGEST_TABLE], inputs[CAISSON_GATES_INPUTS];
@@ -49,6 +50,21 @@ static void *write_port(void *unused) {
 
 static void *run(void *unused) {
     answer = caisson_run(image, image_len, registers, registers_len, targets, targets_len, CYCLES);
+    return unused;
+}
+
+/* Into an empty journal, whatever the one before has left. */
+static void *run_journalled(void *unused) {
+    memset(journal, 0, CAISSON_JOURNAL_COUNT_LENGTH);
+    answer = caisson_run_journalled(image, image_len, registers, registers_len, targets, targets_len, journal,
+                                    sizeof journal, CYCLES);
+    return unused;
+}
+
+/* It comes behind a journalled run. */
+static void *step_back(void *unused) {
+    answer = caisson_step_back(image, image_len, registers, registers_len, targets, targets_len, journal,
+                               sizeof journal, CYCLES);
     return unused;
 }
 
@@ -176,6 +192,8 @@ int main(int count, char **paths) {
                                                  {"reset", reset},
                                                  {"write_port", write_port},
                                                  {"run", run},
+                                                 {"run_journalled", run_journalled},
+                                                 {"step_back", step_back},
                                                  {"raise", raise_labels}};
     static const struct measured of_gates[] = {
         {"gates_check", gates_check}, {"gates_reset", gates_reset}, {"gates_cycle", gates_cycle}};

@@ -11,6 +11,8 @@
 #define WRITES 4u         /* port writes between two samples, at most */
 #define RESETS 1024u      /* one sample in so many is followed by a reset */
 #define ATTEMPTS 1024u    /* at a difference made on purpose */
+#define JOURNAL 256u      /* cycles that a journal keeps at least */
+#define STEPS_BACK 4u     /* one sample in so many comes behind a step back, not behind cycles */
 
 /* splitmix64 */
 static uint64_t random_next(struct pair *pair)
@@ -97,9 +99,10 @@ static bool write_port(struct pair *pair, int box, uint32_t reg, uint32_t value)
     return accepted("port write", box_write_port(&pair->boxes[box], reg, value), &pair->boxes[box]);
 }
 
-static bool run(struct pair *pair, int box, uint32_t cycles)
+static bool run(struct pair *pair, int box, uint32_t cycles, bool journalled)
 {
-    caisson_answer answer = box_run(&pair->boxes[box], cycles);
+    caisson_answer answer = journalled ? box_run_journalled(&pair->boxes[box], &pair->journals[box], cycles)
+                                       : box_run(&pair->boxes[box], cycles);
 
     if (!accepted("run", answer, &pair->boxes[box]))
         return false;
@@ -144,24 +147,42 @@ static bool random_writes(struct pair *pair)
 }
 
 /*
- * The same number of cycles in both boxes; the second makes them in two runs, with a high write
- * between, which must not show either.
+ * The same number of cycles in both boxes, with a journal in both or in none; the second makes them in two
+ * runs, with a high write between, which must not show either.
  */
 static bool random_cycles(struct pair *pair)
 {
     uint32_t cycles = 1 + random_below(pair, LONGEST_RUN);
     uint32_t before = random_below(pair, cycles + 1);
+    bool journalled = random_below(pair, 2) == 0;
 
     pair->cycles += cycles;
-    return run(pair, 0, cycles) && run(pair, 1, before) && (pair->high_count == 0 || high_write(pair, 1)) &&
-           run(pair, 1, cycles - before);
+    if (journalled)
+        pair->journalled += cycles;
+    return run(pair, 0, cycles, journalled) && run(pair, 1, before, journalled) &&
+           (pair->high_count == 0 || high_write(pair, 1)) && run(pair, 1, cycles - before, journalled);
+}
+
+/* Both go back by one number, also over cycles that were not journalled, port writes and resets. */
+static bool random_back(struct pair *pair)
+{
+    uint32_t cycles = random_below(pair, (uint32_t)journal_reach(&pair->journals[0]) + 1);
+
+    pair->steps_back += cycles > 0;
+    pair->gone_back += cycles;
+    for (int box = 0; box < 2; box++) {
+        if (!accepted("going back", box_step_back(&pair->boxes[box], &pair->journals[box], cycles), NULL))
+            return false;
+    }
+    return true;
 }
 
 static bool sample(struct pair *pair)
 {
     if (!low_equal(pair)) {
-        say("the boxes differ at level %zu after %" PRIu64 " cycles, at sample %" PRIu64 "\n", pair->level,
-            pair->cycles, pair->samples);
+        say("the boxes differ at level %zu after %" PRIu64 " cycles and %" PRIu64 " steps back, at sample %" PRIu64
+            "\n",
+            pair->level, pair->cycles, pair->steps_back, pair->samples);
         return false;
     }
     pair->samples++;
@@ -193,7 +214,19 @@ bool pair_start(struct pair *pair, const uint8_t *image, size_t length, size_t l
         !accepted("reset", box_start(&pair->boxes[1], image, length), NULL))
         return false;
     sort_registers(pair);
+    for (int box = 0; box < 2; box++) {
+        size_t saved_length = pair->boxes[box].registers_length + pair->boxes[box].targets_length;
+
+        if (journal_start(&pair->journals[box], JOURNAL, saved_length) != STATUS_DONE)
+            return false;
+    }
     return true;
+}
+
+void pair_end(struct pair *pair)
+{
+    journal_free(&pair->journals[0]);
+    journal_free(&pair->journals[1]);
 }
 
 /* A low write, or in turns with it one cycle more, in the first box alone. */
@@ -204,14 +237,14 @@ static bool first_alone(struct pair *pair, uint32_t attempt)
 
         return write_port(pair, 0, reg, random_value(pair, reg));
     }
-    return run(pair, 0, 1);
+    return run(pair, 0, 1, false);
 }
 
 bool pair_can_differ(struct pair *pair, bool *can)
 {
     *can = false;
     for (uint32_t attempt = 0; attempt < ATTEMPTS && !*can; attempt++) {
-        if (!first_alone(pair, attempt) || !run(pair, 0, 1) || !run(pair, 1, 1))
+        if (!first_alone(pair, attempt) || !run(pair, 0, 1, false) || !run(pair, 1, 1, false))
             return false;
         *can = !low_equal(pair);
     }
@@ -223,5 +256,7 @@ bool pair_round(struct pair *pair)
 {
     if (random_below(pair, RESETS) == 0 && !both_reset(pair))
         return false;
-    return random_writes(pair) && random_cycles(pair) && sample(pair);
+    if (!random_writes(pair))
+        return false;
+    return (random_below(pair, STEPS_BACK) == 0 ? random_back(pair) : random_cycles(pair)) && sample(pair);
 }

@@ -1,7 +1,8 @@
 /*
  * pair.h: two boxes with one design. Ports at or below a level are written alike in both, the others
- * each as chance has it; the registers at or below the level must stay the same, and of a design with
- * parameters the states that the level sees, with the registers bound to them.
+ * each as chance has it; the same cycles are journalled, and both go back by equal numbers at equal
+ * moments. The registers at or below the level must stay the same, and of a design with parameters the
+ * states that the level sees, with the registers bound to them.
  */
 #ifndef PAIR_H
 #define PAIR_H
@@ -12,6 +13,7 @@
 
 struct pair {
     struct box boxes[2];
+    struct journal journals[2];
     const uint8_t *image;
     size_t level;
     uint64_t random;
@@ -23,11 +25,15 @@ struct pair {
     uint64_t cycles;       /* of each box */
     uint64_t samples;
     uint64_t writes;
+    uint64_t journalled;   /* of the cycles */
+    uint64_t steps_back;   /* how often both went back, by one cycle or more */
+    uint64_t gone_back;    /* cycles */
     uint64_t high_differs; /* samples at which registers out of sight differ */
 };
 
 /* Takes an image that caisson_check has accepted, which must outlive the pair. False, with a message,
-   where a call is refused, here and below. */
+   where a call is refused, here and below, or where there is no memory. In either case pair_end is to be
+   called. */
 CAISSON_LOOK_AT_ANSWER
 bool pair_start(struct pair *pair, const uint8_t *image, size_t length, size_t level, uint64_t seed);
 
@@ -38,8 +44,10 @@ bool pair_start(struct pair *pair, const uint8_t *image, size_t length, size_t l
 CAISSON_LOOK_AT_ANSWER
 bool pair_can_differ(struct pair *pair, bool *can);
 
-/* Writes, cycles and a sample. False also where the boxes differ at the level. */
+/* Writes, cycles or a step back, and a sample. False also where the boxes differ at the level. */
 CAISSON_LOOK_AT_ANSWER
 bool pair_round(struct pair *pair);
+
+void pair_end(struct pair *pair);
 
 #endif

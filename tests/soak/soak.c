@@ -83,6 +83,8 @@ static bool summary_print(const struct pair *pair, double seconds)
                   " samples: equal\n",
                   pair->level, pair->cycles, pair->writes, pair->samples) >= 0 &&
            printf("  at %" PRIu64 " of the samples registers out of sight differed\n", pair->high_differs) >= 0 &&
+           printf("  %" PRIu64 " of the cycles journalled, %" PRIu64 " steps back over %" PRIu64 " cycles\n",
+                  pair->journalled, pair->steps_back, pair->gone_back) >= 0 &&
            printf("  %.0f cycles a second in each box\n", (double)pair->cycles / seconds) >= 0 &&
            printf("  %.4f years of operation at 100 cycles a second\n",
                   (double)pair->cycles / CYCLES_A_SECOND / SECONDS_A_YEAR) >= 0 &&
@@ -181,6 +183,12 @@ static int finish(enum ending ending)
     return ending == ENDING_DIFFERENT ? ENDING_DIFFERENT : ENDING_INPUT;
 }
 
+static void soak_end(struct soak *soak)
+{
+    for (size_t at = 0; at < CAISSON_LABELS; at++)
+        pair_end(&soak->levels[at].pair);
+}
+
 int main(int argc, char **argv)
 {
     static struct soak soak;
@@ -199,5 +207,6 @@ int main(int argc, char **argv)
     ending = soak_start(&soak);
     if (ending == ENDING_EQUAL)
         ending = soak_run(&soak);
+    soak_end(&soak);
     return finish(ending);
 }

@@ -65,10 +65,13 @@ mod tests {
             );
             assert!(!words.starts_with("The tool has no words"), "{number}");
         }
-        for none in [0, 27] {
+        for none in [0, 23, 27] {
             assert_eq!(rule(none), "The tool has no words for this number.");
         }
-        assert_eq!(rule(15), "A run asks for more than 1,000,000 cycles.");
+        assert_eq!(
+            rule(6),
+            "A node is not used exactly once, by a state or as one part of another node."
+        );
     }
 
     #[test]
@@ -86,7 +89,7 @@ mod tests {
         assert_eq!(place(16, 1_023), Some(Place::Command(1_023)));
         assert_eq!(place(5, 1_024), Some(Place::Expression(0)));
         assert_eq!(place(19, 1_023), Some(Place::Command(1_023)));
-        for nothing in [0, 1, 18, 20, 25, 26, 99] {
+        for nothing in [0, 1, 18, 20, 21, 22, 25, 26, 99] {
             assert_eq!(place(nothing, 0), None, "{nothing}");
         }
     }
