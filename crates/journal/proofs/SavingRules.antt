@@ -9,15 +9,16 @@ use lib.Seq.{append-snoc}
 use mir.Syntax.{w32, w64}
 use mir.Val.{Fits}
 use Rattle.model.specs.Image.{Design as Table, AreBytes, designOf}
-use Rattle.model.specs.Machine.{Cycle, Areas, cycle, cycles, afterCycles}
+use Rattle.model.specs.Machine.{Areas, cycle, cycles, afterCycles}
+use Rattle.model.proofs.Laws.Cycles.{after-first, after-none}
 use Rattle.model.specs.Calls.{Lent, lentOf}
 use Rattle.design.specs.declared.Design.{Design}
 use Rattle.design.specs.Describes.{Describes}
 use Rattle.design.specs.Words.{putWord}
 use Rattle.design.specs.Resets.{lends}
 use Rattle.design.proofs.Laws.{registers-count, states-count}
-use Rattle.machine.specs.Cycles.{Running, Cycled, areasIn}
-use Rattle.machine.proofs.CycleRules.{RunSo, run-begins, run-walk, run-fits, run-room, run-more, run-done}
+use Rattle.machine.specs.Cycles.{Running, areasIn}
+use Rattle.machine.proofs.CycleRules.{RanSo, ran-begins, ran-fits, ran-more, ran-done}
 use Rattle.calls.proofs.CallRules.{bytes-left}
 use Rattle.journal_model.specs.Journals.{countLength, countIn, savedLength, savedBytes, allSavedBytes, journalWith, savedIn, savedBefore}
 use Rattle.journal_model.specs.Rules.{RoomKeeps}
@@ -45,17 +46,19 @@ module _ {image : List ℕ} {x : Design} {table scopes registers targets : List 
   pub state-room : (at : ℕ) (journal : List ℕ) → at + savedLength (designOf image) ≤ length journal → at + (length registers + length targets) ≤ length journal
   state-room at journal l = let long = state-long in omega arith
 
-pub cycle-saved : {image : List ℕ} {x : Design} {table scopes registers targets before walk old journal : List ℕ} {c : Cycle} {lent : Lent} {n at : ℕ} → AreBytes registers → Running image x table scopes registers targets
-    → Cycled c (areasIn (designOf image) registers targets) before walk n
+pub cycle-saved : {image : List ℕ} {x : Design} {table scopes registers targets old journal : List ℕ} (areas : Areas) {lent : Lent} {at : ℕ} → AreBytes registers → Running image x table scopes registers targets
+    → areasIn (designOf image) registers targets ≡ afterCycles (designOf image) 1 areas
     → journal ≡ overwrittenAt at (savedBytes lent) old
-    → CycleSaved c lent at old (lends registers targets) journal
-cycle-saved {registers = registers} {targets = targets} bytes running cycled e =
-    record { bytes = bytes-left registers targets bytes running (cycled .after); saved = e }
+    → CycleSaved (cycle (designOf image) areas) lent at old (areasIn (designOf image) registers targets) (lends registers targets) journal
+cycle-saved {image} {registers = registers} {targets = targets} areas bytes running ran e =
+    let d = designOf image in
+    let after = ran ∙ after-first d 0 areas ∙ after-none d (cycle d areas .after) in
+    record { after = after; bytes = bytes-left registers targets bytes running after; saved = e }
 
 -- ---- so many cycles
 -- i cycles ran and are saved, and the others go on from here
-pub record SavedSo (image : List ℕ) (x : Design) (table scopes : List ℕ) (count : ℕ) (registers₀ targets₀ journal₀ : List ℕ) (place i : ℕ) (registers targets walk journal : List ℕ) (at : ℕ) : Type 0 where
-  pub run : RunSo image x table scopes count registers₀ targets₀ i registers targets walk
+pub record SavedSo (image : List ℕ) (x : Design) (table scopes : List ℕ) (count : ℕ) (registers₀ targets₀ journal₀ : List ℕ) (place i : ℕ) (registers targets journal : List ℕ) (at : ℕ) : Type 0 where
+  pub run : RanSo image x table scopes count registers₀ targets₀ i registers targets
   pub done : List Lent
   pub rest : savedBefore (lends registers₀ targets₀) (cycles (designOf image) count (areasIn (designOf image) registers₀ targets₀))
       ≡ done ++ savedBefore (lends registers targets) (cycles (designOf image) (run .left) (areasIn (designOf image) registers targets))
@@ -83,12 +86,12 @@ saved-none d lent areas done e = rw e (append-nil done)
 pub one-inside : (each i m : ℕ) {n : ℕ} → n ≡ i + 1 + m → each * i + each ≤ each * n
 one-inside each i m e = let outer = mul-add each (i + 1) m in let inner = mul-add each i 1 in rw e (omega arith)
 
-pub saved-begins : {image : List ℕ} {x : Design} {table scopes registers targets walk : List ℕ} (count : ℕ) (journal : List ℕ) (place : ℕ) → Running image x table scopes registers targets → length walk ≡ 64
+pub saved-begins : {image : List ℕ} {x : Design} {table scopes registers targets : List ℕ} (count : ℕ) (journal : List ℕ) (place : ℕ) → Running image x table scopes registers targets
     → place + savedLength (designOf image) * count ≤ length journal
     → length journal < 2 ^ 64
-    → SavedSo image x table scopes count registers targets journal place 0 registers targets walk journal place
-saved-begins {image} {registers = registers} {targets = targets} {walk = walk} count journal place running long room short =
-    let run = run-begins {walk = walk} count running long in
+    → SavedSo image x table scopes count registers targets journal place 0 registers targets journal place
+saved-begins {image} {registers = registers} {targets = targets} count journal place running room short =
+    let run = ran-begins count running in
     let d = designOf image in
     let begins = run .rest in
     let whole : run .left ≡ count = omega arith in
@@ -104,7 +107,7 @@ saved-begins {image} {registers = registers} {targets = targets} {walk = walk} c
       short = short;
     }
 
-module _ {image : List ℕ} {x : Design} {count i place at : ℕ} {table scopes registers₀ targets₀ journal₀ registers targets walk journal : List ℕ} (so : SavedSo image x table scopes count registers₀ targets₀ journal₀ place i registers targets walk journal at) where
+module _ {image : List ℕ} {x : Design} {count i place at : ℕ} {table scopes registers₀ targets₀ journal₀ registers targets journal : List ℕ} (so : SavedSo image x table scopes count registers₀ targets₀ journal₀ place i registers targets journal at) where
   pub saved-room : i < count → at + savedLength (designOf image) ≤ length journal
   saved-room l =
       let rest = so .run .rest in
@@ -115,20 +118,19 @@ module _ {image : List ℕ} {x : Design} {count i place at : ℕ} {table scopes 
       let sum = one-inside (savedLength (designOf image)) i (so .run .left - 1) left in
       omega arith
 
-  pub saved-more : {after gone before written journal′ : List ℕ} {each n : ℕ} → i < count → Cycled (cycle (designOf image) (areasIn (designOf image) registers targets)) (areasIn (designOf image) after gone) before written n
-      → CycleSaved (cycle (designOf image) (areasIn (designOf image) registers targets)) (lends registers targets) at journal (lends after gone) journal′
+  pub saved-more : {after gone journal′ : List ℕ} {each : ℕ} → i < count
+      → CycleSaved (cycle (designOf image) (areasIn (designOf image) registers targets)) (lends registers targets) at journal (areasIn (designOf image) after gone) (lends after gone) journal′
       → Running image x table scopes after gone
       → each ≡ 4 * x .registers + 3 * x .states
       → length after ≡ length registers
       → length gone ≡ length targets
-      → length written ≡ length walk
       → length journal′ ≡ length journal
-      → SavedSo image x table scopes count registers₀ targets₀ journal₀ place (i + 1) after gone written journal′ (at + each)
-  saved-more {after} {gone} {journal′ = journal′} {each} l cycled saved running e same same′ long long′ =
+      → SavedSo image x table scopes count registers₀ targets₀ journal₀ place (i + 1) after gone journal′ (at + each)
+  saved-more {after} {gone} {journal′ = journal′} {each} l saved running e same same′ long′ =
       let d = designOf image in
       let now = lends registers targets in
       let areas = areasIn d registers targets in
-      let run = run-more (so .run) l cycled running same same′ long in
+      let run = ran-more (so .run) l (saved .after) running same same′ in
       let rest = so .run .rest in
       let rest′ = run .rest in
       let one : so .run .left ≡ suc (run .left) = omega arith in
@@ -143,7 +145,7 @@ module _ {image : List ℕ} {x : Design} {count i place at : ℕ} {table scopes 
         rest =
             so .rest
             ∙ ap (λ (n : ℕ). so .done ++ savedBefore now (cycles d n areas)) one
-            ∙ ap (λ (more : List Lent). so .done ++ more) (saved-next d areas (cycled .after) (saved .bytes) (run .left))
+            ∙ ap (λ (more : List Lent). so .done ++ more) (saved-next d areas (saved .after) (saved .bytes) (run .left))
             ∙ sym (append-snoc (so .done) now (savedBefore (lends after gone) (cycles d (run .left) (areasIn d after gone))));
         size = ap (λ (bytes : List ℕ). length bytes) (one-more (so .done) now) ∙ rw (length-append (allSavedBytes (so .done)) (savedBytes now), length-append registers targets) (omega arith);
         written =
@@ -167,13 +169,7 @@ module _ {image : List ℕ} {x : Design} {count i place at : ℕ} {table scopes 
       record { fits = omega arith }
 
   pub saved-fits : i < count → Fits w32 count → Fits w32 (i + 1)
-  saved-fits = run-fits (so .run)
-
-  pub saved-walk : 64 ≡ length walk
-  saved-walk = run-walk (so .run)
-
-  pub saved-walk-room : x .states ≤ length walk
-  saved-walk-room = run-room (so .run)
+  saved-fits = ran-fits (so .run)
 
   pub saved-running : Running image x table scopes registers targets
   saved-running = so .run .running
@@ -188,7 +184,7 @@ module _ {image : List ℕ} {x : Design} {count i place at : ℕ} {table scopes 
   saved-journal-long = so .long
 
   pub saved-areas : count ≤ i → areasIn (designOf image) registers targets ≡ afterCycles (designOf image) count (areasIn (designOf image) registers₀ targets₀)
-  saved-areas = run-done (so .run)
+  saved-areas = ran-done (so .run)
 
   pub saved-done : count ≤ i → journal ≡ overwrittenAt place (allSavedBytes (savedBefore (lends registers₀ targets₀) (cycles (designOf image) count (areasIn (designOf image) registers₀ targets₀)))) journal₀
   saved-done l =

@@ -6,7 +6,7 @@ use lib.ListN.{length}
 use Rattle.model.specs.Limits.{wordLength, targetLength}
 use Rattle.model.specs.Image.{designOf}
 use Rattle.model.specs.Rules.{Keeps}
-use Rattle.model.specs.Machine.{Cycle}
+use Rattle.model.specs.Machine.{Areas, Cycle}
 use Rattle.model.specs.Calls.{Lent, lentOf}
 use Rattle.design.specs.declared.Design.{Design}
 use Rattle.design.specs.Describes.{Describes}
@@ -14,8 +14,9 @@ use Rattle.journal_model.specs.Journals.{countIn, savedBytes}
 use Rattle.journal_model.specs.Rules.{RoomKeeps}
 use Rattle.journal.specs.Bytes.{overwrittenAt}
 
--- a cycle from lent areas, saved at a place: the bytes of the areas that it leaves, and those that were lent over the bytes of the journal
-pub record CycleSaved (c : Cycle) (lent : Lent) (at : ℕ) (old : List ℕ) (left : Lent) (journal : List ℕ) : Type 0 where
+-- a cycle from lent areas, saved at a place: the areas that it leaves, their bytes, and those that were lent over the bytes of the journal
+pub record CycleSaved (c : Cycle) (lent : Lent) (at : ℕ) (old : List ℕ) (areas : Areas) (left : Lent) (journal : List ℕ) : Type 0 where
+  pub after : areas ≡ c .after
   pub bytes : left ≡ lentOf (c .after)
   pub saved : journal ≡ overwrittenAt at (savedBytes lent) old
 

@@ -6,7 +6,6 @@ use crate::room::saved_length;
 use crate::room::saved_place;
 use design::Design;
 use design::words::put_word;
-use machine::cycle::cycle;
 ghost use Prim.Native.Nat.{_+_, _*_, _≤_};
 ghost use mathlib.Core.Path.{_≡_};
 ghost use mathlib.Core.List.{_++_};
@@ -14,7 +13,7 @@ ghost use lib.ListN.{length};
 ghost use Rattle.model.specs.Image.{designOf};
 ghost use Rattle.model.specs.Machine.{cycle as cycleOf, cycles as cyclesOf, afterCycles};
 ghost use Rattle.design.specs.Resets.{lends};
-ghost use Rattle.machine.specs.Cycles.{Running, Cycled, areasIn};
+ghost use Rattle.machine.specs.Cycles.{Running, areasIn};
 ghost use Rattle.journal_model.specs.Journals.{savedLength, savedBytes, allSavedBytes, journalWith, savedIn, savedBefore};
 ghost use Rattle.journal_model.specs.Rules.{RoomKeeps};
 ghost use Rattle.journal.specs.Bytes.{overwrittenAt};
@@ -30,7 +29,8 @@ fn save(registers: &[u8], targets: &[u8], journal: &mut [u8], at: usize)
     put(targets, journal, behind);
 }
 
-// The areas are saved at a place, and then a cycle runs as `cycle` does.
+// The areas are saved at a place, and then a cycle runs, as a run of one: so `cycle` has one caller, and
+// plain runs keep it in their loop.
 fn saved_cycle(
     image: &[u8],
     design: Design,
@@ -40,15 +40,13 @@ fn saved_cycle(
     targets: &mut [u8],
     journal: &mut [u8],
     at: usize,
-    walk: &mut [u8],
-) -> usize
-    requires { ⌜ Running (now image) design (now defaults) (now scopes) (now registers) (now targets) × (design .states ≤ length (now walk)) × (at + savedLength (designOf (now image)) ≤ length (now journal)) ⌝ }
-    ensures { λ n. ⌜ Cycled (cycleOf (designOf (now (image .entry))) (areasIn (designOf (now (image .entry))) (now (registers .entry)) (now (targets .entry)))) (areasIn (designOf (now (image .entry))) (now (registers .exit)) (now (targets .exit))) (now (walk .entry)) (now (walk .exit)) n ⌝ }
-    ensures { λ _. ⌜ CycleSaved (cycleOf (designOf (now (image .entry))) (areasIn (designOf (now (image .entry))) (now (registers .entry)) (now (targets .entry)))) (lends (now (registers .entry)) (now (targets .entry))) at (now (journal .entry)) (lends (now (registers .exit)) (now (targets .exit))) (now (journal .exit)) ⌝ }
+)
+    requires { ⌜ Running (now image) design (now defaults) (now scopes) (now registers) (now targets) × (at + savedLength (designOf (now image)) ≤ length (now journal)) ⌝ }
+    ensures { λ _. ⌜ CycleSaved (cycleOf (designOf (now (image .entry))) (areasIn (designOf (now (image .entry))) (now (registers .entry)) (now (targets .entry)))) (lends (now (registers .entry)) (now (targets .entry))) at (now (journal .entry)) (areasIn (designOf (now (image .entry))) (now (registers .exit)) (now (targets .exit))) (lends (now (registers .exit)) (now (targets .exit))) (now (journal .exit)) ⌝ }
     ensures { λ _. ⌜ Running (now (image .entry)) design (now (defaults .entry)) (now (scopes .entry)) (now (registers .exit)) (now (targets .exit)) ⌝ }
 {
     save(registers, targets, journal, at);
-    cycle(image, design, defaults, scopes, registers, targets, walk)
+    machine::cycle::cycles(image, design, defaults, scopes, registers, targets, 1);
 }
 
 // So many cycles, saved one behind the other from a place on.
@@ -69,7 +67,6 @@ fn saved_cycles(
     ensures { λ _. ⌜ Running (now (image .entry)) design (now (defaults .entry)) (now (scopes .entry)) (now (registers .exit)) (now (targets .exit)) ⌝ }
 {
     let each = saved_length(design);
-    let mut walk = [0u8; Design::STATES];
     let mut at = place;
     let mut i = 0;
     while i < count {
@@ -82,7 +79,6 @@ fn saved_cycles(
             targets,
             journal,
             at,
-            &mut walk,
         );
         at += each;
         i += 1;

@@ -321,28 +321,66 @@ arguments-fit ends e t a b h k = ends .arguments t a b (h ∙ ap Transferred k)
 
 -- ---- so many cycles
 -- i cycles ran, and the others go on from here
-pub record RunSo (image : List ℕ) (x : Design) (table scopes : List ℕ) (count : ℕ) (registers₀ area₀ : List ℕ) (i : ℕ) (registers area walk : List ℕ) : Type 0 where
+pub record RanSo (image : List ℕ) (x : Design) (table scopes : List ℕ) (count : ℕ) (registers₀ area₀ : List ℕ) (i : ℕ) (registers area : List ℕ) : Type 0 where
   pub left : ℕ
   pub rest : i + left ≡ count
   pub same : afterCycles (designOf image) left (areasIn (designOf image) registers area) ≡ afterCycles (designOf image) count (areasIn (designOf image) registers₀ area₀)
   pub running : Running image x table scopes registers area
   pub registers-long : length registers ≡ length registers₀
   pub area-long : length area ≡ length area₀
+
+pub ran-begins : {image : List ℕ} {x : Design} {table scopes registers area : List ℕ} (count : ℕ) → Running image x table scopes registers area → RanSo image x table scopes count registers area 0 registers area
+ran-begins count running = record { left = count; rest = omega arith; same = refl; running = running; registers-long = refl; area-long = refl }
+
+module _ {image : List ℕ} {x : Design} {count i : ℕ} {table scopes registers₀ area₀ registers area : List ℕ} (so : RanSo image x table scopes count registers₀ area₀ i registers area) where
+  pub ran-fits : i < count → Fits w32 count → Fits w32 (i + 1)
+  ran-fits l fits = let below = fits .fits in record { fits = omega arith }
+
+  pub ran-more : {after gone : List ℕ} → i < count → areasIn (designOf image) after gone ≡ cycle (designOf image) (areasIn (designOf image) registers area) .after
+      → Running image x table scopes after gone
+      → length after ≡ length registers
+      → length gone ≡ length area
+      → RanSo image x table scopes count registers₀ area₀ (i + 1) after gone
+  ran-more {after} {gone} l cycled running same same′ =
+      let d = designOf image in
+      let rest = so .rest in
+      let one : so .left ≡ suc (so .left - 1) = omega arith in
+      record {
+        left = so .left - 1;
+        rest = omega arith;
+        same = ap (afterCycles d (so .left - 1)) cycled
+            ∙ sym (after-first d (so .left - 1) (areasIn d registers area))
+            ∙ ap (λ (n : ℕ). afterCycles d n (areasIn d registers area)) (sym one)
+            ∙ so .same;
+        running = running;
+        registers-long = same ∙ so .registers-long;
+        area-long = same′ ∙ so .area-long;
+      }
+
+  pub ran-done : count ≤ i → areasIn (designOf image) registers area ≡ afterCycles (designOf image) count (areasIn (designOf image) registers₀ area₀)
+  unfolding afterCycles cycles afterLast
+  ran-done l =
+      let rest = so .rest in
+      let none : so .left ≡ 0 = omega arith in
+      rw none at (so .same)
+
+-- the same with the table of the walk, whose length stays
+pub record RunSo (image : List ℕ) (x : Design) (table scopes : List ℕ) (count : ℕ) (registers₀ area₀ : List ℕ) (i : ℕ) (registers area walk : List ℕ) : Type 0 where
+  pub ran : RanSo image x table scopes count registers₀ area₀ i registers area
   pub walk-long : length walk ≡ 64
 
 pub run-begins : {image : List ℕ} {x : Design} {table scopes registers area walk : List ℕ} (count : ℕ) → Running image x table scopes registers area → length walk ≡ 64 → RunSo image x table scopes count registers area 0 registers area walk
-run-begins count running long =
-    record { left = count; rest = omega arith; same = refl; running = running; registers-long = refl; area-long = refl; walk-long = long }
+run-begins count running long = record { ran = ran-begins count running; walk-long = long }
 
 module _ {image : List ℕ} {x : Design} {count i : ℕ} {table scopes registers₀ area₀ registers area walk : List ℕ} (so : RunSo image x table scopes count registers₀ area₀ i registers area walk) where
   pub run-walk : 64 ≡ length walk
   run-walk = sym (so .walk-long)
 
   pub run-fits : i < count → Fits w32 count → Fits w32 (i + 1)
-  run-fits l fits = let below = fits .fits in record { fits = omega arith }
+  run-fits = ran-fits (so .ran)
 
   pub run-room : x .states ≤ length walk
-  run-room = let few = states-few (so .running .known .describes) in let long = so .walk-long in omega arith
+  run-room = let few = states-few (so .ran .running .known .describes) in let long = so .walk-long in omega arith
 
   pub run-more : {after gone before written : List ℕ} {n : ℕ} → i < count → Cycled (cycle (designOf image) (areasIn (designOf image) registers area)) (areasIn (designOf image) after gone) before written n
       → Running image x table scopes after gone
@@ -350,26 +388,7 @@ module _ {image : List ℕ} {x : Design} {count i : ℕ} {table scopes registers
       → length gone ≡ length area
       → length written ≡ length walk
       → RunSo image x table scopes count registers₀ area₀ (i + 1) after gone written
-  run-more {after} {gone} l cycled running same same′ long =
-      let d = designOf image in
-      let rest = so .rest in
-      let one : so .left ≡ suc (so .left - 1) = omega arith in
-      record {
-        left = so .left - 1;
-        rest = omega arith;
-        same = ap (afterCycles d (so .left - 1)) (cycled .after)
-            ∙ sym (after-first d (so .left - 1) (areasIn d registers area))
-            ∙ ap (λ (n : ℕ). afterCycles d n (areasIn d registers area)) (sym one)
-            ∙ so .same;
-        running = running;
-        registers-long = same ∙ so .registers-long;
-        area-long = same′ ∙ so .area-long;
-        walk-long = long ∙ so .walk-long;
-      }
+  run-more l cycled running same same′ long = record { ran = ran-more (so .ran) l (cycled .after) running same same′; walk-long = long ∙ so .walk-long }
 
   pub run-done : count ≤ i → areasIn (designOf image) registers area ≡ afterCycles (designOf image) count (areasIn (designOf image) registers₀ area₀)
-  unfolding afterCycles cycles afterLast
-  run-done l =
-      let rest = so .rest in
-      let none : so .left ≡ 0 = omega arith in
-      rw none at (so .same)
+  run-done = ran-done (so .ran)

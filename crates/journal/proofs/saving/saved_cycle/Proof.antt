@@ -8,8 +8,8 @@ use Rattle.journal.proofs.saving.saved_cycle.Tie as tie
 save-requires : tie.Need-save-requires
 save-requires c κs = search (state-room, needs)
 
-cycle-requires : tie.Need-cycle-requires
-cycle-requires c κs = search needs
+cycles-requires : tie.Need-cycles-requires
+cycles-requires c κs = search needs
 
 same-length : tie.Need-same-length
 same-length c = search needs
@@ -20,16 +20,13 @@ same-length-2 c = search needs
 same-length-3 : tie.Need-same-length-3
 same-length-3 c = search needs
 
-same-length-4 : tie.Need-same-length-4
-same-length-4 c = search needs
-
 returns : tie.Need-returns
 returns c =
-    let registers = c .before .before .before .before .before .before .cycle .last .1 .1 .1 .1 .0 in
-    let bytes : AreBytes registers = are-bytes registers (c .before .before .before .before .slice-known6 .given) in
-    (search needs, (search (cycle-saved, needs), search needs))
+    let registers = c .before .before .before .before .cycles .last .1 .1 .1 .1 .0 in
+    let bytes : AreBytes registers = are-bytes registers (c .before .before .slice-known5 .given) in
+    (search (cycle-saved, needs), search needs)
 
 pub saved-cycle-spec : {M : Type 1} → statement M
 saved-cycle-spec =
     tie.close
-    (tie.spec save-requires cycle-requires same-length same-length-2 same-length-3 same-length-4 returns)
+    (tie.spec save-requires cycles-requires same-length same-length-2 same-length-3 returns)

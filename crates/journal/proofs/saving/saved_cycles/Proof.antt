@@ -2,17 +2,17 @@ use Prim.Native.Nat.{_-_}
 use native.Mathlib.Omega.{arith}
 use Rattle.design.proofs.ResetRules.{states-few}
 use Rattle.calls.proofs.CallRules.{registers-few}
-use Rattle.journal.proofs.SavingRules.{SavedSo, saved-begins, saved-walk, saved-walk-room, saved-running, saved-room, saved-at-fits, saved-fits, saved-more, saved-registers-long, saved-targets-long, saved-journal-long, saved-areas, saved-done}
+use Rattle.journal.proofs.SavingRules.{SavedSo, saved-begins, saved-running, saved-room, saved-at-fits, saved-fits, saved-more, saved-registers-long, saved-targets-long, saved-journal-long, saved-areas, saved-done}
 use borrow.Author.Needs.{needs}
 use Rattle.journal.proofs.saving.saved_cycles.Statement.{statement}
 use Rattle.journal.proofs.saving.saved_cycles.Tie as tie
 
 abbrev Inv-loop : tie.InvT-loop
-Inv-loop image design defaults scopes registers₀ targets₀ journal₀ place count each walk₀ at₀ i₀ registers targets journal walk at i =
-    SavedSo image design defaults scopes count registers₀ targets₀ journal₀ place i registers targets walk journal at
+Inv-loop image design defaults scopes registers₀ targets₀ journal₀ place count each at₀ i₀ registers targets journal at i =
+    SavedSo image design defaults scopes count registers₀ targets₀ journal₀ place i registers targets journal at
 
 abbrev μ-loop : tie.MeasureT-loop
-μ-loop image design defaults scopes registers₀ targets₀ journal₀ place count each walk₀ at₀ i₀ registers targets journal walk at i = count - i
+μ-loop image design defaults scopes registers₀ targets₀ journal₀ place count each at₀ i₀ registers targets journal at i = count - i
 
 saved-length-requires : tie.Need-saved-length-requires Inv-loop μ-loop
 saved-length-requires c κs = (search (registers-few, needs), search (states-few, needs))
@@ -20,11 +20,8 @@ saved-length-requires c κs = (search (registers-few, needs), search (states-few
 loop-holds : tie.Need-loop-holds Inv-loop μ-loop
 loop-holds c = search (saved-begins, needs)
 
-slice-aggregate-saved-cycle : tie.Need-slice-aggregate-saved-cycle Inv-loop μ-loop
-slice-aggregate-saved-cycle c = search (saved-walk, needs)
-
 saved-cycle-requires : tie.Need-saved-cycle-requires Inv-loop μ-loop
-saved-cycle-requires c κs = (search (saved-running, needs), search (saved-walk-room, needs), search (saved-room, needs))
+saved-cycle-requires c κs = (search (saved-running, needs), search (saved-room, needs))
 
 add-at : tie.Need-add-at Inv-loop μ-loop
 add-at c = search (saved-at-fits, needs)
@@ -58,7 +55,6 @@ saved-cycles-spec =
     μ-loop
     saved-length-requires
     loop-holds
-    slice-aggregate-saved-cycle
     saved-cycle-requires
     add-at
     add-i
