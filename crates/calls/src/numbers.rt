@@ -30,6 +30,7 @@ pub fn number(refusal: Refusal) -> u32
         Refusal::RaiseParameters => 20,
         Refusal::JournalArea => 21,
         Refusal::StepsBack => 22,
+        Refusal::TraceCycle => 23,
         Refusal::GateDirectory => 25,
         Refusal::GateWire => 26,
     }

@@ -43,6 +43,7 @@ pub enum Refusal {
     RaiseParameters,
     JournalArea,
     StepsBack,
+    TraceCycle,
     GateDirectory,
     GateWire,
 }
