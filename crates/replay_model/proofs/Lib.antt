@@ -1,0 +1,16 @@
+-- The theorems about replays. `Promises` restates those that a reader looks for; the proved cases stand last.
+pub mod Laws
+pub mod Superseded
+pub mod Cursors
+pub mod Exact
+pub mod Unchanged
+pub mod Accepted
+pub mod Divided
+pub mod ByHand
+pub mod Independence
+pub mod Areas
+pub mod Latest
+pub mod Promises
+pub mod Opened
+pub mod Cases
+pub mod Boundaries
