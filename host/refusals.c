@@ -11,6 +11,7 @@ enum place {
     PLACE_NODE, /* a command, or from CAISSON_EXPRESSION_PLACE on an expression */
     PLACE_AREA, /* 0 for a length, else a register or a state */
     PLACE_PARAMETER, /* a state, else a node */
+    PLACE_RECORD, /* of a port trace, which no call takes yet */
     PLACE_WIRE  /* of a gate table, which this host does not run */
 };
 
@@ -72,6 +73,9 @@ static void place_say(enum place place, size_t number)
             say(" at state %zu or command %zu", number, number);
         else
             node_say(number);
+        break;
+    case PLACE_RECORD:
+        say(" at record %zu", number);
         break;
     case PLACE_WIRE:
         say(" at wire %zu", number);

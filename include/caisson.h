@@ -148,8 +148,8 @@ extern "C" {
 #define CAISSON_UNTRUSTED 1u
 
 /* What is wrong, and where `place` points. 1 to 12, 16 and 19 are about the image: they are the image
-   checks. 21 and 22 are about journals, 25 and 26 about gate tables. caisson_refusals.def has the same
-   words for a program to show. */
+   checks. 21 and 22 are about journals, 23 about port traces, 25 and 26 about gate tables.
+   caisson_refusals.def has the same words for a program to show. */
 enum caisson_refusal {
     CAISSON_ACCEPTED = 0,
     /* The directory, a count of records or the length of a section is wrong. The directory is five
@@ -271,6 +271,11 @@ enum caisson_refusal {
     /* Going back asks for more cycles than the journal counts. It is judged after 21, and before 14
        of the saved state that is to be restored. Place: 0. */
     CAISSON_STEPS_BACK = 22,
+    /* The cycle of a record of a port trace is below that of the record before it, or not below the
+       number of cycles to replay. It is judged after 15. No call answers it yet: the replay of a
+       port trace comes with request E10. Place: the lowest such record of the trace, numbered from
+       0. */
+    CAISSON_TRACE_CYCLE = 23,
     /* The directory of a gate table, a count of records or the length of a section is wrong. The
        directory is three pairs of 16-bit offset and length, sorted: the first offset is 12, each
        later one the sum of the pair before it, and the last section ends at the table's end. The

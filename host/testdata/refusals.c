@@ -15,7 +15,7 @@ static void each_number(void)
 
     for (uint32_t i = 0; i < count; i++)
         refusal_say((caisson_answer){numbers[i], 5, 0}, NULL);
-    refusal_say((caisson_answer){CAISSON_STEPS_BACK + 1, 5, 0}, NULL);
+    refusal_say((caisson_answer){CAISSON_TRACE_CYCLE + 1, 5, 0}, NULL);
     refusal_say((caisson_answer){numbers[count - 1] + 1, 5, 0}, NULL);
     refusal_say((caisson_answer){CAISSON_NODE_RECORD, CAISSON_EXPRESSION_PLACE - 1, 0}, NULL);
     refusal_say((caisson_answer){CAISSON_NODE_RECORD, CAISSON_EXPRESSION_PLACE, 0}, NULL);
