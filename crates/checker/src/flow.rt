@@ -22,8 +22,8 @@ fn declared_faults(image: &[u8], design: Design, labels: &[u8]) -> Answer
     checker_bodies::flow::faults(image, design, labels, &scopes)
 }
 
-// The first flow fault, with a fresh table of the labels in the registers' records. Without parameters
-// the table of scopes has only zeros.
+// The first flow fault, with a fresh table of the labels in the registers' records. Designs without
+// parameters are spared the table of scopes.
 pub fn flow_faults(image: &[u8], design: Design) -> Answer
     requires { ⌜ RecordsKept (now image) design × ParametersKept (designOf (now image)) × BodiesKept (designOf (now image)) ⌝ }
     ensures { λ a. ⌜ a ≡ flowAnswer (designOf (now (image .entry))) ⌝ }
@@ -33,6 +33,5 @@ pub fn flow_faults(image: &[u8], design: Design) -> Answer
     if has_parameters(image, design) {
         return declared_faults(image, design, &labels);
     }
-    let scopes = [0u8; SCOPES];
-    checker_bodies::flow::faults(image, design, &labels, &scopes)
+    checker_bodies::flow::plain_faults(image, design, &labels)
 }

@@ -411,13 +411,13 @@ module _ {image : List ℕ} {x : Design} (known : RecordsKept image x) where
     body-tree fn = ap (cmdOf (designOf image)) (body-is (known .describes) l fn)
 
     pub state-flowing :
-        {labels masks : List ℕ} {n h : ℕ}
+        {labels masks : List ℕ} {n own : ℕ}
         → LabelsKept (designOf image) labels
         → BodiesKept (designOf image)
         → Masks (designOf image) s masks
         → n ≡ stateIn image (x .«states_at») s .command
-        → h ≡ length (inheritedScope (designOf image) s)
-        → Flowing image labels masks (x .«states_at») (x .«commands_at») (x .«expressions_at») s (16 + h) n
+        → own ≡ 16 + length (inheritedScope (designOf image) s)
+        → Flowing image labels masks (x .«states_at») (x .«commands_at») (x .«expressions_at») s own n
     state-flowing labelling bodies table e above =
         record {
           design = x;
@@ -426,7 +426,7 @@ module _ {image : List ℕ} {x : Design} (known : RecordsKept image x) where
           parameters = parameters;
           table = table;
           state = l;
-          own-from = ap (λ (n : ℕ). 16 + n) above;
+          own-from = above;
           command = command-at (known .describes) (known .commands) (body-below (known .describes) l e (known .states)) refl;
           scoped = record { shaped = rw (body-tree e) (bodies .shaped s (state-count l)); scoped = rw (body-tree e) (bodies .scoped s (state-count l)) };
           states-begin = refl;

@@ -3,7 +3,7 @@
 use Prim.Native.Nat.{ℕ, zero, suc, _+_, _*_, _-_, _/_, _%_, _^_, _≤_, _<_}
 use mathlib.Core.Path.{_≡_, refl, sym, _∙_, ap}
 use mathlib.Core.Logic.{_⊎_, inl, inr}
-use mathlib.Core.Bool.{Bool, true, false, _&&_, _||_}
+use mathlib.Core.Bool.{Bool, true, false, _&&_, _||_, cond}
 use mathlib.Core.List.{List, [], _∷_}
 use native.Mathlib.Omega.{arith}
 use native.Mathlib.Decide.{ℕ-discrete}
@@ -17,15 +17,17 @@ use borrow.Author.Tests.{leb-true, le-leb, eqb-true, eq-eqb}
 use Rattle.model.specs.Limits.{parametersMax, parameterLabel}
 use Rattle.model.specs.Image.{Labels, Design as Table, designOf}
 use Rattle.model.specs.Lattice.{flowsTo}
+use Rattle.model.specs.States.{parent}
 use Rattle.model.specs.Parameters.{scopeOf, lowerBound, upperBound}
 use Rattle.model.proofs.Laws.Booleans.{and-first, and-second, and-both, or-second, false-unless-true}
 use Rattle.model.proofs.Laws.Indices.{extend, nothing-below-zero}
 use Rattle.model.proofs.Laws.Bounds.{BoundsKept, least-label, least-parameter, most-label, most-parameter}
+use Rattle.model.proofs.Laws.Plain.{plain-scope}
 use Rattle.model.specs.Parameters.{boundedFlow, leastLabel, mostLabel}
 use Rattle.design.specs.declared.Design.{Design}
 use Rattle.design.specs.Records.{rowIn}
 use Rattle.design.specs.Kept.{RecordsKept, ParametersKept}
-use Rattle.design.specs.Scopes.{LabelByte, Scopes}
+use Rattle.design.specs.Scopes.{inheritedScope, LabelByte, Scopes, NoParameters}
 use Rattle.design.proofs.Laws.{labels-count, labels-most, states-count, row-in}
 use Rattle.design.proofs.BoundRules.{scopes-short, parameter-number, labels-few, bounds-of, pair-in-scope}
 use Rattle.checker_bodies.specs.Masks.{MaskOf, Masks, Rows, widened, Widened, withOwn, OwnPut, LowerOf, UpperOf}
@@ -304,6 +306,10 @@ module _ {image : List ℕ} {x : Design} (known : RecordsKept image x) where
           (λ k. absurd (omega arith))
       go l byte (inr (high, inside)) = absurd (omega arith)
 
+  -- in a design without parameters it is that of every state
+  pub plain-masks : {s : ℕ} {masks : List ℕ} → Rows (designOf image) masks → ParametersKept (designOf image) → NoParameters (designOf image) → s < x .states → Masks (designOf image) s masks
+  plain-masks {s} rows parameters plain state = rows-masks rows parameters state (ap length (plain-scope (designOf image) (plain .none) s))
+
   -- ---- entries of the table of scopes
   module _ {scopes : List ℕ} {s : ℕ} (table : Scopes (designOf image) scopes) (state : s < x .states) where
     state-below : s < length (designOf image .states)
@@ -359,5 +365,17 @@ module _ {image : List ℕ} {x : Design} (known : RecordsKept image x) where
 
   pub upper-small : {s i b : ℕ} → UpperOf (designOf image) s i b → b < 16
   upper-small low = let below = low .below in let few = labels-few (known .describes) in omega arith
+
+-- ---- where the label bytes of own parameters begin
+pub own-above : (d : Table) (s : ℕ) {n : ℕ} → n ≡ length (inheritedScope d s) → 16 + n ≡ 16 + length (inheritedScope d s)
+own-above d s e = ap (λ (n : ℕ). 16 + n) e
+
+pub own-plain : {d : Table} (s : ℕ) → NoParameters d → 16 ≡ 16 + length (inheritedScope d s)
+unfolding inheritedScope
+own-plain {d} s plain = go (eqb s 0)
+  where
+    go : (root : Bool) → 16 ≡ 16 + length (cond root [] (scopeOf d (parent d s)))
+    go true = refl
+    go false = rw (plain-scope d (plain .none) (parent d s)) refl
 
 pub ruleset bounds-laws = (scope-inside, scope-parameter-inside, lower-none, upper-none, parameter-below, lower-some, upper-some)

@@ -16,16 +16,17 @@ use design::scopes::inherited;
 use design::wide;
 use model::Answer;
 use model::Refusal;
-ghost use Prim.Native.Nat.{_<_};
+ghost use Prim.Native.Nat.{_+_, _<_};
 ghost use mathlib.Core.Path.{_≡_};
-ghost use lib.ListN.{getD};
+ghost use lib.ListN.{length, getD};
+ghost use Rattle.model.specs.Limits.{parameterLabel};
 ghost use Rattle.model.specs.Image.{designOf, commandAt};
 ghost use Rattle.model.specs.Labelling.{relabelled};
 ghost use Rattle.model.specs.Flow.{namedLabel, stateFlowFaults, flowAnswer};
 ghost use Rattle.design.specs.Describes.{Describes};
 ghost use Rattle.design.specs.Kept.{RecordsKept, ParametersKept};
 ghost use Rattle.design.specs.Labels.{LabelsKept};
-ghost use Rattle.design.specs.Scopes.{Scopes};
+ghost use Rattle.design.specs.Scopes.{inheritedScope, Scopes, NoParameters};
 ghost use Rattle.checker_bodies.specs.Masks.{masksLength, Masks};
 ghost use Rattle.checker_bodies.specs.Flows.{BodiesKept, Entered, labelIn, ReadsMask, FirstFault, AssignFault, Gathering, Assigning, Flowing, Going, answerAmong, FirstAt};
 
@@ -229,22 +230,22 @@ fn flow(
     }
 }
 
-// The place of the first flow fault of state s, whose context is its label.
+// The place of the first flow fault of state s, whose context is its label. The label bytes from own_from
+// on are a named state's own parameters.
 fn state_flow(
     image: &[u8],
     design: Design,
     labels: &[u8],
-    scopes: &[u8],
     masks: &[usize; MASKS],
     s: usize,
+    own_from: usize,
 ) -> usize
-    requires { ⌜ RecordsKept (now image) design × ParametersKept (designOf (now image)) × Scopes (designOf (now image)) (now scopes) × LabelsKept (designOf (now image)) (now labels) × BodiesKept (designOf (now image)) × Masks (designOf (now image)) s (now masks) × (s < design .states) ⌝ }
+    requires { ⌜ RecordsKept (now image) design × ParametersKept (designOf (now image)) × LabelsKept (designOf (now image)) (now labels) × BodiesKept (designOf (now image)) × Masks (designOf (now image)) s (now masks) × (s < design .states) × («own_from» ≡ parameterLabel + length (inheritedScope (designOf (now image)) s)) ⌝ }
     ensures { λ p. ⌜ FirstAt (designOf (now (image .entry))) p (stateFlowFaults (relabelled (designOf (now (image .entry))) (now (labels .entry))) s) ⌝ }
 {
     let at = design.states_at;
     let label = Design::state_label(image, at, s);
     let n = Design::state_command(image, at, s);
-    let own_from = Design::PARAMETER_LABEL + inherited(image, design, scopes, s);
     let context = masks[label];
     flow(
         image,
@@ -285,7 +286,26 @@ pub fn faults(image: &[u8], design: Design, labels: &[u8], scopes: &[u8]) -> Ans
     let mut s = 0;
     while s < design.states {
         scope_masks(image, design, scopes, &mut masks, s);
-        let place = state_flow(image, design, labels, scopes, &masks, s);
+        let own_from = Design::PARAMETER_LABEL + inherited(image, design, scopes, s);
+        let place = state_flow(image, design, labels, &masks, s, own_from);
+        if place < NOWHERE {
+            return answer(image, design, place);
+        }
+        s += 1;
+    }
+    Answer::Accepted(0)
+}
+
+// The same in a design without parameters, in which one table of masks serves all states.
+pub fn plain_faults(image: &[u8], design: Design, labels: &[u8]) -> Answer
+    requires { ⌜ RecordsKept (now image) design × ParametersKept (designOf (now image)) × NoParameters (designOf (now image)) × LabelsKept (designOf (now image)) (now labels) × BodiesKept (designOf (now image)) ⌝ }
+    ensures { λ a. ⌜ a ≡ flowAnswer (relabelled (designOf (now (image .entry))) (now (labels .entry))) ⌝ }
+{
+    let mut masks = [0usize; MASKS];
+    label_rows(image, design, &mut masks);
+    let mut s = 0;
+    while s < design.states {
+        let place = state_flow(image, design, labels, &masks, s, Design::PARAMETER_LABEL);
         if place < NOWHERE {
             return answer(image, design, place);
         }

@@ -1,5 +1,5 @@
 use Rattle.design.proofs.LabelRules.{registers-few, own-labels-kept}
-use Rattle.design.proofs.ScopeRules.{empty-scopes, no-parameters}
+use Rattle.design.proofs.ScopeRules.{no-parameters}
 use Rattle.checker.proofs.OwnLabels.{own-flow}
 use borrow.Author.Needs.{needs}
 use Rattle.checker.proofs.flow.flow_faults.Statement.{statement}
@@ -23,15 +23,12 @@ declared-faults-requires c κs = (search needs, search needs, search (own-labels
 returns : tie.Need-returns
 returns c = search (own-flow, needs)
 
-slice-aggregate-faults : tie.Need-slice-aggregate-faults
-slice-aggregate-faults c = search needs
+slice-aggregate-plain-faults : tie.Need-slice-aggregate-plain-faults
+slice-aggregate-plain-faults c = search needs
 
-slice-aggregate-faults-2 : tie.Need-slice-aggregate-faults-2
-slice-aggregate-faults-2 c = search needs
-
-faults-requires : tie.Need-faults-requires
-faults-requires c κs =
-    (search needs, search needs, search (empty-scopes, no-parameters, needs), search (own-labels-kept, registers-few, needs), search needs)
+plain-faults-requires : tie.Need-plain-faults-requires
+plain-faults-requires c κs =
+    (search needs, search needs, search (no-parameters, needs), search (own-labels-kept, registers-few, needs), search needs)
 
 returns-2 : tie.Need-returns-2
 returns-2 c = search (own-flow, needs)
@@ -46,7 +43,6 @@ flow-faults-spec =
     slice-aggregate-declared-faults
     declared-faults-requires
     returns
-    slice-aggregate-faults
-    slice-aggregate-faults-2
-    faults-requires
+    slice-aggregate-plain-faults
+    plain-faults-requires
     returns-2)

@@ -2,7 +2,8 @@ use Prim.Native.Nat.{_-_, _≤_}
 use borrow.Author.Needs.{needs}
 use Rattle.model.specs.Image.{designOf}
 use Rattle.checker_bodies.specs.Masks.{Rows}
-use Rattle.checker_bodies.proofs.FlowKinds.{NoneSo, faults-laws}
+use Rattle.checker_bodies.proofs.FlowKinds.{NoneSo, scopes-below, faults-laws}
+use Rattle.checker_bodies.proofs.TableRules.{own-above}
 use Rattle.checker_bodies.proofs.flow.faults.Statement.{statement}
 use Rattle.checker_bodies.proofs.flow.faults.Tie as tie
 
@@ -27,8 +28,14 @@ slice-aggregate-scope-masks c = search needs
 scope-masks-requires : tie.Need-scope-masks-requires Inv-loop μ-loop
 scope-masks-requires c κs = search needs
 
+inherited-requires : tie.Need-inherited-requires Inv-loop μ-loop
+inherited-requires c κs = search (scopes-below, needs)
+
+add-own-from : tie.Need-add-own-from Inv-loop μ-loop
+add-own-from c = search needs
+
 state-flow-requires : tie.Need-state-flow-requires Inv-loop μ-loop
-state-flow-requires c κs = search needs
+state-flow-requires c κs = search (own-above, needs)
 
 answer-requires : tie.Need-answer-requires Inv-loop μ-loop
 answer-requires c κs = search needs
@@ -59,6 +66,8 @@ faults-spec =
     loop-holds
     slice-aggregate-scope-masks
     scope-masks-requires
+    inherited-requires
+    add-own-from
     state-flow-requires
     answer-requires
     returns

@@ -1,5 +1,5 @@
 use Rattle.design.proofs.Laws.{state-inside}
-use Rattle.checker_bodies.proofs.FlowKinds.{scopes-below, state-mask-inside, state-flowing, state-flow-rule}
+use Rattle.checker_bodies.proofs.FlowKinds.{state-mask-inside, state-flowing, state-flow-rule}
 use borrow.Author.Needs.{needs}
 use Rattle.checker_bodies.proofs.flow.state_flow.Statement.{statement}
 use Rattle.checker_bodies.proofs.flow.state_flow.Tie as tie
@@ -9,12 +9,6 @@ state-label-requires c κs = search (state-inside, needs)
 
 state-command-requires : tie.Need-state-command-requires
 state-command-requires c κs = search (state-inside, needs)
-
-inherited-requires : tie.Need-inherited-requires
-inherited-requires c κs = search (scopes-below, needs)
-
-add-own-from : tie.Need-add-own-from
-add-own-from c = search needs
 
 mul-context : tie.Need-mul-context
 mul-context c = search needs
@@ -34,8 +28,6 @@ state-flow-spec =
     (tie.spec
     state-label-requires
     state-command-requires
-    inherited-requires
-    add-own-from
     mul-context
     element-copy-out-context
     flow-requires
