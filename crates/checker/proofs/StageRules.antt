@@ -40,6 +40,8 @@ use Rattle.design.specs.Resets.{withDefaults}
 use Rattle.design.proofs.ResetRules.{fresh-defaults, states-few}
 use Rattle.checker_records.specs.ParameterTests.{ParametersPassed}
 use Rattle.checker_bodies.specs.Shapes.{ShapeKnown, ShapesPassed}
+use Rattle.checker_bodies.specs.Plain.{plainDesign}
+use Rattle.checker_bodies.proofs.PlainRules.{plain-ports, plain-parameters, plain-scopes}
 use Rattle.checker.specs.Stages.{ChildrenTold, fromChildren, fromScopes, fromParameters, fromPorts, fromShape, fromDepths, fromUses, fromNodes, fromStates, fromRegisters, fromLabels}
 
 -- ---- a pass, and all that follow
@@ -159,6 +161,11 @@ known-parameters {d} h passed = record { kept = failing-none (parametersKept d) 
 
 pub scopes-told : {d : Table} {f : Found} {table : List ℕ} → f ≡ Nowhere → ParametersPassed d f table → Scopes d table
 scopes-told h passed = passed .scopes h
+
+-- a plain design goes on to refusal 9
+pub plain-passes : {image : List ℕ} {x : Design} {b : Bool} {a : Answer} → RecordsKept image x → b ≡ plainDesign (designOf image) → b ≡ true → a ≡ fromChildren (designOf image) → a ≡ fromPorts (designOf image)
+unfolding fromPorts fromParameters fromScopes refusedAt _before_
+plain-passes known e h k = k ∙ rw (plain-ports known e h, plain-parameters known e h, plain-scopes known e h)
 
 -- a fresh table of scopes has an entry for each state
 pub scopes-fit : {image : List ℕ} {x : Design} → Describes image x → 3 * x .states ≤ 192

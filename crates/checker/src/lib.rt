@@ -17,7 +17,7 @@ ghost use Rattle.model.specs.Nodes.{commandUsedOnce, expressionUsedOnce, comman
 ghost use Rattle.model.specs.Verdict.{commandsFirst, lowestNode, structure as structureOf, verdict as verdictOf};
 ghost use Rattle.design.specs.Describes.{Describes};
 ghost use Rattle.design.specs.Kept.{LatticeKept, RegistersKept, StatesKept, ParametersKept, RecordsKept};
-ghost use Rattle.design.specs.Scopes.{Scopes};
+ghost use Rattle.design.specs.Scopes.{Scopes, NoParameters};
 ghost use Rattle.checker_nodes.specs.Tables.{NodesPassed, OnceWhere, ShallowWhere, NodesTold};
 ghost use Rattle.checker.specs.Stages.{ChildrenTold, fromChildren, fromScopes, fromParameters, fromPorts, fromShape, fromDepths, fromUses, fromNodes, fromStates, fromRegisters, fromLabels};
 
@@ -137,7 +137,7 @@ fn from_parameters(image: &[u8], design: Design, defaults: &[u8], falls: &[u8]) 
     }
 }
 
-// Refusal 16, and on.
+// Refusal 16, and on, by a pass for each.
 fn from_ports(image: &[u8], design: Design, defaults: &[u8], falls: &[u8]) -> Answer
     requires { ⌜ RecordsKept (now image) design × ChildrenTold (designOf (now image)) (now defaults) (now falls) ⌝ }
     ensures { λ a. ⌜ a ≡ fromPorts (designOf (now (image .entry))) ⌝ }
@@ -147,6 +147,27 @@ fn from_ports(image: &[u8], design: Design, defaults: &[u8], falls: &[u8]) -> An
         Found::At(place) => Answer::Refused(Refusal::PortAssigned, place),
         Found::Nowhere => from_parameters(image, design, defaults, falls),
     }
+}
+
+// Refusal 9 in a design without parameters, whose table of scopes has only zeros.
+fn from_plain(image: &[u8], design: Design, defaults: &[u8], falls: &[u8]) -> Answer
+    requires { ⌜ RecordsKept (now image) design × ParametersKept (designOf (now image)) × NoParameters (designOf (now image)) × ChildrenTold (designOf (now image)) (now defaults) (now falls) ⌝ }
+    ensures { λ a. ⌜ a ≡ fromChildren (designOf (now (image .entry))) ⌝ }
+{
+    let scopes = [0u8; SCOPES];
+    from_children(image, design, defaults, falls, &scopes)
+}
+
+// Refusal 16, and on. In a plain design 16 and 19 find nothing.
+fn from_names(image: &[u8], design: Design, defaults: &[u8], falls: &[u8]) -> Answer
+    requires { ⌜ RecordsKept (now image) design × ChildrenTold (designOf (now image)) (now defaults) (now falls) ⌝ }
+    ensures { λ a. ⌜ a ≡ fromPorts (designOf (now (image .entry))) ⌝ }
+{
+    let plain = checker_bodies::plain::plain(image, design);
+    if plain {
+        return from_plain(image, design, defaults, falls);
+    }
+    from_ports(image, design, defaults, falls)
 }
 
 // Refusal 8, and on. Which states hold a fall, and their default children, are kept for 19 and 9.
@@ -160,7 +181,7 @@ fn from_shape(image: &[u8], design: Design) -> Answer
     let found = checker_bodies::shape::shapes(image, design, &defaults, &mut falls);
     match found {
         Found::At(place) => Answer::Refused(Refusal::Shape, place),
-        Found::Nowhere => from_ports(image, design, &defaults, &falls),
+        Found::Nowhere => from_names(image, design, &defaults, &falls),
     }
 }
 

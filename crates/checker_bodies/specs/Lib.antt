@@ -2,5 +2,6 @@
 pub mod Places
 pub mod Shapes
 pub mod Scoping
+pub mod Plain
 pub mod Masks
 pub mod Flows

@@ -6,11 +6,11 @@ use mathlib.Core.List.{List, [], _++_}
 use lib.Dec.{ltb, eqb}
 use lib.ListN.{length}
 use Rattle.model.specs.Limits.{expressionPlace, expressionsMax, parameterRegister, bindingLength}
-use Rattle.model.specs.Image.{Design as Table, designOf, commandAt, expressionAt}
-use Rattle.model.specs.Indices.{lowestOf, allBelow}
+use Rattle.model.specs.Image.{Design as Table, designOf}
+use Rattle.model.specs.Indices.{lowestOf}
 use Rattle.model.specs.Trees.{Expr, constant, register, binary, exprOf, cmdOf}
 use Rattle.model.specs.Shape.{chargedUnless}
-use Rattle.model.specs.Parameters.{scopeOf, hasParameters, lowerBound, upperBound}
+use Rattle.model.specs.Parameters.{scopeOf, lowerBound, upperBound}
 use Rattle.model.specs.Scopes.{isArgument, scopeFaults, stateScopeFaults}
 use Rattle.design.specs.declared.Design.{Design}
 use Rattle.design.specs.Kept.{ExpressionsKept, ParametersKept, RecordsKept}
@@ -84,16 +84,3 @@ pub record Scoping (image scopes : List ℕ) (registersAt statesAt commandsAt ex
   pub arguing : Arguing image scopes registersAt statesAt s
   pub command : CommandAt image (arguing .design) commandsAt n
   pub expressions-begin : expressionsAt ≡ arguing .design .«expressions_at»
-
--- ---- a design that names no parameter: no node can be at fault. A byte that names no register is below the names of parameters by its rule
-module _ (d : Table) where
-  unfoldable pub plainCommand : ℕ → Bool
-  plainCommand n =
-      ltb (commandAt d n .item) parameterRegister
-      && (not (eqb (commandAt d n .kind) 4) || (eqb (commandAt d n .a) 0 && eqb (commandAt d n .b) 0))
-
-  unfoldable pub plainExpression : ℕ → Bool
-  plainExpression e = ltb (expressionAt d e .item) parameterRegister
-
-  unfoldable pub plainDesign : Bool
-  plainDesign = not (hasParameters d) && (allBelow plainCommand (length (d .commands)) && allBelow plainExpression (length (d .expressions)))

@@ -3,5 +3,6 @@
 pub mod flow;
 pub mod masks;
 mod places;
+pub mod plain;
 pub mod scope;
 pub mod shape;

@@ -7,7 +7,6 @@ use design::Design;
 use design::rows::flows;
 use design::scopes::SCOPE_LENGTH;
 use design::scopes::count;
-use design::scopes::has_parameters;
 use design::wide;
 use model::Found;
 ghost use Prim.Native.Nat.{_<_};
@@ -17,12 +16,11 @@ ghost use lib.Dec.{leb, ltb};
 ghost use lib.ListN.{length};
 ghost use Rattle.model.specs.Limits.{parameterRegister, bindingLength};
 ghost use Rattle.model.specs.Image.{designOf};
-ghost use Rattle.model.specs.Indices.{allBelow};
 ghost use Rattle.model.specs.Parameters.{lowerBound, upperBound, labelByte, leastLabel, mostLabel};
 ghost use Rattle.model.specs.Scopes.{argumentKept, fieldKept, argumentsKept, scopeFault};
 ghost use Rattle.design.specs.Kept.{RecordsKept, ParametersKept};
 ghost use Rattle.design.specs.Scopes.{Scopes};
-ghost use Rattle.checker_bodies.specs.Scoping.{nodeUnless, Bounding, Given, Argument, Arguing, Counting, Reading, Scoping, ReadsAt, ScopedAt, StateScopedAt, plainCommand, plainExpression, plainDesign};
+ghost use Rattle.checker_bodies.specs.Scoping.{nodeUnless, Bounding, Given, Argument, Arguing, Counting, Reading, Scoping, ReadsAt, ScopedAt, StateScopedAt};
 
 // No place: it is past every command and every expression.
 const NODES: usize = Design::EXPRESSION_PLACE + Design::EXPRESSIONS;
@@ -359,82 +357,11 @@ fn state_scope(image: &[u8], design: Design, scopes: &[u8], s: usize) -> usize
     )
 }
 
-// Command n names no parameter, and gives none. Where a byte names no register, its rule keeps it below
-// the names of parameters.
-fn plain_command(image: &[u8], design: Design, n: usize) -> bool
-    requires { ⌜ RecordsKept (now image) design × (n < design .commands) ⌝ }
-    ensures { λ b. ⌜ b ≡ plainCommand (designOf (now (image .entry))) n ⌝ }
-{
-    let at = design.commands_at;
-    let kind = Design::kind(image, at, n);
-    let item = Design::item(image, at, n);
-    let a = Design::part_a(image, at, n);
-    let b = Design::part_b(image, at, n);
-    (item < Design::PARAMETER_REGISTER) & ((kind != 4) | ((a == 0) & (b == 0)))
-}
-
-// Expression e names no parameter.
-fn plain_expression(image: &[u8], design: Design, e: usize) -> bool
-    requires { ⌜ RecordsKept (now image) design × (e < design .expressions) ⌝ }
-    ensures { λ b. ⌜ b ≡ plainExpression (designOf (now (image .entry))) e ⌝ }
-{
-    Design::item(image, design.expressions_at, e) < Design::PARAMETER_REGISTER
-}
-
-fn plain_commands(image: &[u8], design: Design) -> bool
-    requires { ⌜ RecordsKept (now image) design ⌝ }
-    ensures { λ b. ⌜ b ≡ allBelow (plainCommand (designOf (now (image .entry)))) (length (designOf (now (image .entry)) .commands)) ⌝ }
-{
-    let mut n = 0;
-    while n < design.commands {
-        if !plain_command(image, design, n) {
-            return false;
-        }
-        n += 1;
-    }
-    true
-}
-
-fn plain_expressions(image: &[u8], design: Design) -> bool
-    requires { ⌜ RecordsKept (now image) design ⌝ }
-    ensures { λ b. ⌜ b ≡ allBelow (plainExpression (designOf (now (image .entry)))) (length (designOf (now (image .entry)) .expressions)) ⌝ }
-{
-    let mut e = 0;
-    while e < design.expressions {
-        if !plain_expression(image, design, e) {
-            return false;
-        }
-        e += 1;
-    }
-    true
-}
-
-// The design has no parameter and names none, so that no node can be at fault. It spares most designs
-// the recursion over all bodies.
-fn plain(image: &[u8], design: Design) -> bool
-    requires { ⌜ RecordsKept (now image) design ⌝ }
-    ensures { λ b. ⌜ b ≡ plainDesign (designOf (now (image .entry))) ⌝ }
-{
-    let some = has_parameters(image, design);
-    if some {
-        return false;
-    }
-    let commands = plain_commands(image, design);
-    if !commands {
-        return false;
-    }
-    let expressions = plain_expressions(image, design);
-    expressions
-}
-
 // Refusal 19, at the lowest node, where it finds no state.
 pub fn scope_faults(image: &[u8], design: Design, scopes: &[u8]) -> Found
     requires { ⌜ RecordsKept (now image) design × ParametersKept (designOf (now image)) × Scopes (designOf (now image)) (now scopes) ⌝ }
     ensures { λ f. ⌜ f ≡ scopeFault (designOf (now (image .entry))) ⌝ }
 {
-    if plain(image, design) {
-        return Found::Nowhere;
-    }
     let mut place = NODES;
     let mut s = 0;
     while s < design.states {

@@ -1,25 +1,22 @@
 -- The rules of a state's parameters, tested on the fields that the accessors read and on the scopes of the states below it, are the meaning's.
 use Prim.Native.Nat.{ℕ, suc, _+_, _*_, _-_, _≤_, _<_}
 use mathlib.Core.Path.{_≡_, refl, sym, _∙_, ap}
-use mathlib.Core.Bool.{Bool, true, false, _&&_, _||_, not, or-true, or-false, false≢true}
+use mathlib.Core.Bool.{Bool, true, false, _&&_, _||_, not, false≢true}
 use mathlib.Core.List.{List}
 use native.Mathlib.Omega.{arith}
 use native.Mathlib.Numerals.{add-one}
 use lib.Dec.{leb, ltb, eqb}
-use lib.ListN.{length, getD, replicate, length-replicate}
+use lib.ListN.{length, getD}
 use borrow.Author.Tests.{lt-ltb, le-ltb, eq-eqb, ne-eqb}
-use Rattle.model.specs.declared.Found.{Found}
 use Rattle.model.specs.declared.Found.the-variants.{At, Nowhere}
-use Rattle.model.specs.Indices.{lowestFailing}
 use Rattle.model.specs.Limits.{parameterLabel}
 use Rattle.model.specs.Image as Image
 use Rattle.model.specs.Image.{State, designOf, stateAt}
 use Rattle.model.specs.Lattice.{flowsTo}
 use Rattle.model.specs.States.{parent, defaultTarget}
-use Rattle.model.specs.Parameters.{scopeOf, pairKept, isDefaultChild, takesParameters, labelInScope, hasParameters, parametersKept}
+use Rattle.model.specs.Parameters.{scopeOf, pairKept, isDefaultChild, takesParameters, labelInScope, parametersKept}
 use Rattle.model.proofs.Laws.Booleans.{not-true, not-false}
 use Rattle.model.proofs.Laws.Passes.{Passed, passed-more, passed-fails, passed-all}
-use Rattle.model.proofs.Laws.Plain.{plain-scope}
 use Rattle.model.proofs.Laws.States.{is-child}
 use Rattle.model.proofs.Exact.Parameters.{parameters-iff}
 use Rattle.design.specs.declared.Design.{Design}
@@ -27,11 +24,11 @@ use Rattle.design.specs.Records.{stateIn}
 use Rattle.design.specs.Describes.{Describes}
 use Rattle.design.specs.Kept.{StatesKept}
 use Rattle.design.specs.Resets.{Defaults}
-use Rattle.design.specs.Scopes.{inheritedScope, ScopesBelow, NoParameters}
+use Rattle.design.specs.Scopes.{inheritedScope, ScopesBelow}
 use Rattle.design.proofs.Laws.{labels-count, states-count, state-in}
-use Rattle.design.proofs.ResetRules.{parent-is, parent-inside, state-fits, states-few}
+use Rattle.design.proofs.ResetRules.{parent-is, parent-inside, state-fits}
 use Rattle.design.proofs.RowRules.{comparing}
-use Rattle.design.proofs.ScopeRules.{count-is, scopes-all, empty-scopes, no-parameters}
+use Rattle.design.proofs.ScopeRules.{count-is, scopes-all}
 use Rattle.checker_records.specs.ParameterTests.{firstPairKept, secondPairKept, Entered, ParametersPassed}
 
 -- a test that a part fails
@@ -133,40 +130,6 @@ module _ {image : List ℕ} {x : Design} (d : Describes image x) where
   parameters-rule t first second k q o l kept so =
       rw (count-is d kept so l q o, t, first, second, k, o ∙ ap (λ (y : State). y .parameters) (state-in d l))
 
-  -- ---- all rules of a state in a design without parameters
-  module _ {s : ℕ} (plain : NoParameters (designOf image)) (here : s < x .states) where
-    label-unscoped : labelInScope (designOf image) s ≡ ltb (stateAt (designOf image) s .label) 16
-    unfolding labelInScope
-    label-unscoped =
-        let label = stateAt (designOf image) s .label in
-        ap (λ (scope : List ℕ). ltb label 16 || ltb (label - 16) (length scope)) (plain-scope (designOf image) (plain .none) s)
-        ∙ ap (λ (t : Bool). ltb label 16 || t) (le-ltb (label - 16) 0 (omega arith))
-        ∙ or-false (ltb label 16)
-
-    pub plain-rule :
-        {a b c e l : ℕ}
-        → a ≡ stateIn image (x .«states_at») s .firstLower
-        → b ≡ stateIn image (x .«states_at») s .firstUpper
-        → c ≡ stateIn image (x .«states_at») s .secondLower
-        → e ≡ stateIn image (x .«states_at») s .secondUpper
-        → l ≡ stateIn image (x .«states_at») s .label
-        → ((eqb a 0 && eqb b 0) && (eqb c 0 && eqb e 0) && ltb l 16) ≡ parametersKept (designOf image) s
-    unfolding parametersKept pairKept
-    plain-rule p q r t u =
-        let same = state-in d here in
-        let count = states-count d in
-        rw (
-          p ∙ ap (λ (y : State). y .firstLower) same,
-          q ∙ ap (λ (y : State). y .firstUpper) same,
-          r ∙ ap (λ (y : State). y .secondLower) same,
-          t ∙ ap (λ (y : State). y .secondUpper) same,
-          u ∙ ap (λ (y : State). y .label) same,
-          plain .none s (omega arith),
-          plain-scope (designOf image) (plain .none) s,
-          or-true (takesParameters (designOf image) s),
-          label-unscoped,
-        )
-
   -- ---- the pass
   pub short-kept : (s : ℕ) {b : Bool} → b ≡ parametersKept (designOf image) s → not b ≡ false → length (scopeOf (designOf image) s) ≤ 2
   short-kept s {b} e h = parameters-iff (designOf image) s .0 (sym e ∙ not-false b h) .scope
@@ -189,13 +152,6 @@ module _ {image : List ℕ} {x : Design} (d : Describes image x) where
 
   pub parameters-pass : {table : List ℕ} {i : ℕ} → Passed (parametersKept (designOf image)) i → ScopesBelow (designOf image) table i → x .states ≤ i → ParametersPassed (designOf image) Nowhere table
   parameters-pass p so l = record { is = passed-all p l (states-count d); scopes = λ z. scopes-all d so l }
-
-  -- ---- on a fresh table
-  pub fresh-long : {table : List ℕ} → table ≡ replicate {A = ℕ} 192 0 → 3 * x .states ≤ length table
-  fresh-long e = let few = states-few d in let long = ap length e ∙ length-replicate {A = ℕ} 192 0 in omega arith
-
-  pub plain-pass : {table : List ℕ} {f : Found} {b : Bool} → table ≡ replicate {A = ℕ} 192 0 → b ≡ hasParameters (designOf image) → b ≡ false → f ≡ lowestFailing (parametersKept (designOf image)) (length (designOf image .states)) → ParametersPassed (designOf image) f table
-  plain-pass e is h found = record { is = found; scopes = λ z. rw e (empty-scopes d (no-parameters (designOf image) h is)) }
 
 -- the laws of a state's parameters, for `search`
 pub ruleset pair-laws = (pair-unused, pair-no-lower, pair-no-upper, pair-flows, comparing)

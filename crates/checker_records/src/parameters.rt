@@ -2,21 +2,19 @@
 // from the root on, which fills the table of scopes as it goes.
 use design::Design;
 use design::rows::flows;
-use design::scopes::has_parameters;
 use design::scopes::inherited;
 use design::scopes::put_scope;
 use model::Found;
 ghost use Prim.Native.Nat.{_*_, _≤_, _<_};
 ghost use mathlib.Core.Path.{_≡_};
-ghost use lib.ListN.{length, replicate};
-ghost use Rattle.model.specs.Limits.{statesMax};
+ghost use lib.ListN.{length};
 ghost use Rattle.model.specs.Indices.{lowestFailing};
 ghost use Rattle.model.specs.Image.{designOf};
 ghost use Rattle.model.specs.Parameters.{scopeOf, pairKept, takesParameters, labelInScope, parametersKept};
 ghost use Rattle.design.specs.Describes.{Describes};
 ghost use Rattle.design.specs.Kept.{StatesKept};
 ghost use Rattle.design.specs.Resets.{Defaults};
-ghost use Rattle.design.specs.Scopes.{scopeLength, ScopesBelow, NoParameters};
+ghost use Rattle.design.specs.Scopes.{scopeLength, ScopesBelow};
 ghost use Rattle.checker_records.specs.ParameterTests.{firstPairKept, secondPairKept, Entered, ParametersPassed};
 
 // A pair of bounds: two labels, the lower flowing to the upper, where it is used, else zero.
@@ -100,37 +98,6 @@ fn parameters_kept(image: &[u8], design: Design, defaults: &[u8], scopes: &[u8],
         & label_in_scope(image, design, s, count)
 }
 
-// The same in a design without parameters: no bounds, and a label byte that is a label's.
-fn plain_kept(image: &[u8], design: Design, s: usize) -> bool
-    requires { ⌜ Describes (now image) design × NoParameters (designOf (now image)) × (s < design .states) ⌝ }
-    ensures { λ x. ⌜ x ≡ parametersKept (designOf (now (image .entry))) s ⌝ }
-{
-    let at = design.states_at;
-    let first_lower = Design::first_lower(image, at, s);
-    let first_upper = Design::first_upper(image, at, s);
-    let second_lower = Design::second_lower(image, at, s);
-    let second_upper = Design::second_upper(image, at, s);
-    let label = Design::state_label(image, at, s);
-    ((first_lower == 0) & (first_upper == 0))
-        & ((second_lower == 0) & (second_upper == 0))
-        & (label < Design::PARAMETER_LABEL)
-}
-
-// Refusal 19, at the lowest state of a design without parameters.
-fn plain_parameters(image: &[u8], design: Design) -> Found
-    requires { ⌜ Describes (now image) design × NoParameters (designOf (now image)) ⌝ }
-    ensures { λ f. ⌜ f ≡ lowestFailing (parametersKept (designOf (now (image .entry)))) (length (designOf (now (image .entry)) .states)) ⌝ }
-{
-    let mut s = 0;
-    while s < design.states {
-        if !plain_kept(image, design, s) {
-            return Found::At(s);
-        }
-        s += 1;
-    }
-    Found::Nowhere
-}
-
 // State s is judged; where it keeps its rules, its scope is entered in the table.
 fn enter(image: &[u8], design: Design, defaults: &[u8], scopes: &mut [u8], s: usize) -> bool
     requires { ⌜ Describes (now image) design × StatesKept (designOf (now image)) × (s < design .states) ⌝ }
@@ -144,9 +111,9 @@ fn enter(image: &[u8], design: Design, defaults: &[u8], scopes: &mut [u8], s: us
     true
 }
 
-// Refusal 19, at the lowest state of any design. Where there is none, the table has the scopes of all
+// Refusal 19, at the lowest state. Where there is none, the table has the scopes of all
 // states.
-fn declared_parameters(image: &[u8], design: Design, defaults: &[u8], scopes: &mut [u8]) -> Found
+pub fn parameters(image: &[u8], design: Design, defaults: &[u8], scopes: &mut [u8]) -> Found
     requires { ⌜ Describes (now image) design × StatesKept (designOf (now image)) ⌝ }
     requires { ⌜ Defaults (designOf (now image)) (now defaults) × (scopeLength * design .states ≤ length (now scopes)) ⌝ }
     ensures { λ f. ⌜ ParametersPassed (designOf (now (image .entry))) f (now (scopes .exit)) ⌝ }
@@ -159,17 +126,4 @@ fn declared_parameters(image: &[u8], design: Design, defaults: &[u8], scopes: &m
         s += 1;
     }
     Found::Nowhere
-}
-
-// The same on a fresh table. It spares most designs the filling of it: without parameters it has only
-// zeros.
-pub fn parameters(image: &[u8], design: Design, defaults: &[u8], scopes: &mut [u8]) -> Found
-    requires { ⌜ Describes (now image) design × StatesKept (designOf (now image)) ⌝ }
-    requires { ⌜ Defaults (designOf (now image)) (now defaults) × (now scopes ≡ replicate (scopeLength * statesMax) 0) ⌝ }
-    ensures { λ f. ⌜ ParametersPassed (designOf (now (image .entry))) f (now (scopes .exit)) ⌝ }
-{
-    if has_parameters(image, design) {
-        return declared_parameters(image, design, defaults, scopes);
-    }
-    plain_parameters(image, design)
 }

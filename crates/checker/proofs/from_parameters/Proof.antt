@@ -1,5 +1,5 @@
 use Rattle.checker.specs.Stages.{fromParameters}
-use Rattle.checker.proofs.StageRules.{stage-refuses, stage-passes, known-parameters, scopes-told}
+use Rattle.checker.proofs.StageRules.{stage-refuses, stage-passes, known-parameters, scopes-told, scopes-fit}
 use borrow.Author.Needs.{needs}
 use Rattle.checker.proofs.from_parameters.Statement.{statement}
 use Rattle.checker.proofs.from_parameters.Tie as tie
@@ -8,7 +8,7 @@ slice-aggregate-parameters : tie.Need-slice-aggregate-parameters
 slice-aggregate-parameters c = search needs
 
 parameters-requires : tie.Need-parameters-requires
-parameters-requires c κs = search needs
+parameters-requires c κs = search (scopes-fit, needs)
 
 enum-known-found : tie.Need-enum-known-found
 enum-known-found c = search needs

@@ -31,14 +31,14 @@ enum-known-found c = search needs
 enum-told : tie.Need-enum-told
 enum-told c = search needs
 
-slice-aggregate-from-ports : tie.Need-slice-aggregate-from-ports
-slice-aggregate-from-ports c = search needs
+slice-aggregate-from-names : tie.Need-slice-aggregate-from-names
+slice-aggregate-from-names c = search needs
 
-slice-aggregate-from-ports-2 : tie.Need-slice-aggregate-from-ports-2
-slice-aggregate-from-ports-2 c = search needs
+slice-aggregate-from-names-2 : tie.Need-slice-aggregate-from-names-2
+slice-aggregate-from-names-2 c = search needs
 
-from-ports-requires : tie.Need-from-ports-requires
-from-ports-requires c κs = (search needs, search children-told)
+from-names-requires : tie.Need-from-names-requires
+from-names-requires c κs = (search needs, search children-told)
 
 returns : tie.Need-returns
 unfolding fromShape
@@ -59,8 +59,8 @@ from-shape-spec =
     shapes-requires
     enum-known-found
     enum-told
-    slice-aggregate-from-ports
-    slice-aggregate-from-ports-2
-    from-ports-requires
+    slice-aggregate-from-names
+    slice-aggregate-from-names-2
+    from-names-requires
     returns
     returns-2)

@@ -1,7 +1,6 @@
 use Prim.Native.Nat.{_-_, _≤_}
 use Rattle.model.specs.Image.{designOf}
 use Rattle.checker_bodies.proofs.ScopeRules.{ScopedSo, scopes-laws}
-use Rattle.checker_bodies.proofs.PlainRules.{plain-nowhere}
 use borrow.Author.Needs.{needs}
 use Rattle.checker_bodies.proofs.scope.scope_faults.Statement.{statement}
 use Rattle.checker_bodies.proofs.scope.scope_faults.Tie as tie
@@ -11,12 +10,6 @@ Inv-loop image design scopes place₀ s₀ place s = ScopedSo (designOf image) s
 
 abbrev μ-loop : tie.MeasureT-loop
 μ-loop image design scopes place₀ s₀ place s = design .states - s
-
-plain-requires : tie.Need-plain-requires Inv-loop μ-loop
-plain-requires c κs = search needs
-
-returns : tie.Need-returns Inv-loop μ-loop
-returns c = search (plain-nowhere, scopes-laws, needs)
 
 loop-holds : tie.Need-loop-holds Inv-loop μ-loop
 loop-holds c = search (scopes-laws, needs)
@@ -34,13 +27,13 @@ loop-less : tie.Need-loop-less Inv-loop μ-loop
 loop-less c = search needs
 
 loop-again : tie.Need-loop-again Inv-loop μ-loop
-loop-again c = search (plain-nowhere, scopes-laws, needs)
+loop-again c = search (scopes-laws, needs)
 
 found-requires : tie.Need-found-requires Inv-loop μ-loop
 found-requires c κs = search needs
 
-returns-2 : tie.Need-returns-2 Inv-loop μ-loop
-returns-2 c = search (scopes-laws, needs)
+returns : tie.Need-returns Inv-loop μ-loop
+returns c = search (scopes-laws, needs)
 
 pub scope-faults-spec : {M : Type 1} → statement M
 scope-faults-spec =
@@ -48,8 +41,6 @@ scope-faults-spec =
     (tie.spec
     Inv-loop
     μ-loop
-    plain-requires
-    returns
     loop-holds
     state-scope-requires
     lower-requires
@@ -57,4 +48,4 @@ scope-faults-spec =
     loop-less
     loop-again
     found-requires
-    returns-2)
+    returns)

@@ -1,34 +1,61 @@
-use Rattle.design.proofs.ScopeRules.{no-parameters}
-use Rattle.checker_records.proofs.ParameterRules.{fresh-long, plain-pass}
+use Prim.Native.Nat.{_-_}
+use mathlib.Core.Path.{_≡_}
+use lib.ListN.{length}
+use Rattle.model.specs.Image.{designOf}
+use Rattle.model.specs.Parameters.{parametersKept}
+use Rattle.model.proofs.Laws.Passes.{passed-none, Passed}
+use Rattle.design.specs.Scopes.{ScopesBelow}
+use Rattle.design.proofs.ScopeRules.{scopes-none}
+use Rattle.checker_records.proofs.ParameterRules.{entering-laws}
 use borrow.Author.Needs.{needs}
 use Rattle.checker_records.proofs.parameters.parameters.Statement.{statement}
 use Rattle.checker_records.proofs.parameters.parameters.Tie as tie
 
-has-parameters-requires : tie.Need-has-parameters-requires
-has-parameters-requires c κs = search needs
+abbrev Inv-loop : tie.InvT-loop
+Inv-loop image design defaults scopes₀ s₀ scopes s = Passed (parametersKept (designOf image)) s × ScopesBelow (designOf image) scopes s × (length scopes ≡ length scopes₀)
 
-declared-parameters-requires : tie.Need-declared-parameters-requires
-declared-parameters-requires c κs = search (fresh-long, needs)
+abbrev μ-loop : tie.MeasureT-loop
+μ-loop image design defaults scopes₀ s₀ scopes s = design .states - s
 
-same-length : tie.Need-same-length
-same-length c = search needs
+loop-holds : tie.Need-loop-holds Inv-loop μ-loop
+loop-holds c = search (passed-none, scopes-none, entering-laws, needs)
 
-returns : tie.Need-returns
-returns c = search needs
+enter-requires : tie.Need-enter-requires Inv-loop μ-loop
+enter-requires c κs = search (passed-none, scopes-none, entering-laws, needs)
 
-plain-parameters-requires : tie.Need-plain-parameters-requires
-plain-parameters-requires c κs = search (no-parameters, needs)
+same-length : tie.Need-same-length Inv-loop μ-loop
+same-length c = search (passed-none, scopes-none, entering-laws, needs)
 
-returns-2 : tie.Need-returns-2
-returns-2 c = search (plain-pass, needs)
+returns : tie.Need-returns Inv-loop μ-loop
+returns c = search (passed-none, scopes-none, entering-laws, needs)
+
+add-s : tie.Need-add-s Inv-loop μ-loop
+add-s c = search (passed-none, scopes-none, entering-laws, needs)
+
+loop-less : tie.Need-loop-less Inv-loop μ-loop
+loop-less c = search (passed-none, scopes-none, entering-laws, needs)
+
+loop-again : tie.Need-loop-again Inv-loop μ-loop
+loop-again c = search (passed-none, scopes-none, entering-laws, needs)
+
+same-length-2 : tie.Need-same-length-2 Inv-loop μ-loop
+same-length-2 c = search (passed-none, scopes-none, entering-laws, needs)
+
+returns-2 : tie.Need-returns-2 Inv-loop μ-loop
+returns-2 c = search (passed-none, scopes-none, entering-laws, needs)
 
 pub parameters-spec : {M : Type 1} → statement M
 parameters-spec =
     tie.close
     (tie.spec
-    has-parameters-requires
-    declared-parameters-requires
+    Inv-loop
+    μ-loop
+    loop-holds
+    enter-requires
     same-length
     returns
-    plain-parameters-requires
+    add-s
+    loop-less
+    loop-again
+    same-length-2
     returns-2)

@@ -2,10 +2,10 @@ use Prim.Native.Nat.{_-_}
 use Rattle.model.specs.Image.{designOf}
 use Rattle.model.proofs.Laws.Passes.{Passed, pass-laws}
 use Rattle.design.proofs.Laws.{commands-count}
-use Rattle.checker_bodies.specs.Scoping.{plainCommand}
+use Rattle.checker_bodies.specs.Plain.{plainCommand}
 use borrow.Author.Needs.{needs}
-use Rattle.checker_bodies.proofs.scope.plain_commands.Statement.{statement}
-use Rattle.checker_bodies.proofs.scope.plain_commands.Tie as tie
+use Rattle.checker_bodies.proofs.plain.plain_commands.Statement.{statement}
+use Rattle.checker_bodies.proofs.plain.plain_commands.Tie as tie
 
 abbrev Inv-loop : tie.InvT-loop
 Inv-loop image design n₀ n = Passed (plainCommand (designOf image)) n

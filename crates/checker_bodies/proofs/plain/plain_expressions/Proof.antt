@@ -2,10 +2,10 @@ use Prim.Native.Nat.{_-_}
 use Rattle.model.specs.Image.{designOf}
 use Rattle.model.proofs.Laws.Passes.{Passed, pass-laws}
 use Rattle.design.proofs.Laws.{expressions-count}
-use Rattle.checker_bodies.specs.Scoping.{plainExpression}
+use Rattle.checker_bodies.specs.Plain.{plainExpression}
 use borrow.Author.Needs.{needs}
-use Rattle.checker_bodies.proofs.scope.plain_expressions.Statement.{statement}
-use Rattle.checker_bodies.proofs.scope.plain_expressions.Tie as tie
+use Rattle.checker_bodies.proofs.plain.plain_expressions.Statement.{statement}
+use Rattle.checker_bodies.proofs.plain.plain_expressions.Tie as tie
 
 abbrev Inv-loop : tie.InvT-loop
 Inv-loop image design e₀ e = Passed (plainExpression (designOf image)) e

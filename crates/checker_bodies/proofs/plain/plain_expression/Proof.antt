@@ -1,7 +1,7 @@
 use Rattle.checker_bodies.proofs.PlainRules.{plain-expression-rule}
 use borrow.Author.Needs.{needs}
-use Rattle.checker_bodies.proofs.scope.plain_expression.Statement.{statement}
-use Rattle.checker_bodies.proofs.scope.plain_expression.Tie as tie
+use Rattle.checker_bodies.proofs.plain.plain_expression.Statement.{statement}
+use Rattle.checker_bodies.proofs.plain.plain_expression.Tie as tie
 
 item-requires : tie.Need-item-requires
 item-requires c κs = search needs

@@ -1,14 +1,14 @@
 use Prim.Native.Nat.{_-_}
 use Rattle.model.specs.Image.{designOf}
-use Rattle.model.specs.Parameters.{parametersKept}
 use Rattle.model.proofs.Laws.Passes.{Passed, pass-laws}
 use Rattle.design.proofs.Laws.{states-count}
+use Rattle.checker_bodies.specs.Plain.{plainState}
 use borrow.Author.Needs.{needs}
-use Rattle.checker_records.proofs.parameters.plain_parameters.Statement.{statement}
-use Rattle.checker_records.proofs.parameters.plain_parameters.Tie as tie
+use Rattle.checker_bodies.proofs.plain.plain_states.Statement.{statement}
+use Rattle.checker_bodies.proofs.plain.plain_states.Tie as tie
 
 abbrev Inv-loop : tie.InvT-loop
-Inv-loop image design s₀ s = Passed (parametersKept (designOf image)) s
+Inv-loop image design s₀ s = Passed (plainState (designOf image)) s
 
 abbrev μ-loop : tie.MeasureT-loop
 μ-loop image design s₀ s = design .states - s
@@ -16,8 +16,8 @@ abbrev μ-loop : tie.MeasureT-loop
 loop-holds : tie.Need-loop-holds Inv-loop μ-loop
 loop-holds c = search (pass-laws, needs)
 
-plain-kept-requires : tie.Need-plain-kept-requires Inv-loop μ-loop
-plain-kept-requires c κs = search needs
+plain-state-requires : tie.Need-plain-state-requires Inv-loop μ-loop
+plain-state-requires c κs = search (pass-laws, needs)
 
 returns : tie.Need-returns Inv-loop μ-loop
 returns c = search (pass-laws, states-count, needs)
@@ -34,14 +34,14 @@ loop-again c = search (pass-laws, needs)
 returns-2 : tie.Need-returns-2 Inv-loop μ-loop
 returns-2 c = search (pass-laws, states-count, needs)
 
-pub plain-parameters-spec : {M : Type 1} → statement M
-plain-parameters-spec =
+pub plain-states-spec : {M : Type 1} → statement M
+plain-states-spec =
     tie.close
     (tie.spec
     Inv-loop
     μ-loop
     loop-holds
-    plain-kept-requires
+    plain-state-requires
     returns
     add-s
     loop-less
