@@ -6,7 +6,7 @@ use mathlib.Core.Bool.{Bool, true, false, not, _&&_}
 use mathlib.Core.List.{List}
 use native.Mathlib.Omega.{arith}
 use lib.Dec.{eqb, leb, ltb}
-use lib.ListN.{length, getD, set, take, take-append-drop}
+use lib.ListN.{length, getD, set, take, take-append-drop, replicate, length-replicate}
 use borrow.Author.Tests.{eq-eqb, eqb-true, ltb-true, lt-ltb, le-ltb}
 use mir.Syntax.{w8, w64}
 use mir.Val.{Fits}
@@ -20,6 +20,7 @@ use Rattle.model.specs.Limits.{cyclesMax, wordLength, targetLength}
 use Rattle.model.specs.Indices.{lowestFailing}
 use Rattle.model.specs.Image.{Design as Table, Registers, Register, AreBytes, word32At, designOf, registerAt}
 use Rattle.model.specs.States.{isPort}
+use Rattle.model.specs.Parameters.{hasParameters}
 use Rattle.model.specs.Rules.{Keeps}
 use Rattle.model.specs.Answers.{numberOf}
 use Rattle.model.specs.Verdict.{verdict, refusedAt, _before_}
@@ -43,6 +44,7 @@ use Rattle.design.specs.Resets.{Defaults, lends}
 use Rattle.design.specs.Scopes.{Scopes}
 use Rattle.design.proofs.Laws.{registers-count, states-count, register-inside, register-in}
 use Rattle.design.proofs.ResetRules.{states-few}
+use Rattle.design.proofs.ScopeRules.{empty-scopes, no-parameters}
 use Rattle.design.proofs.WordRules.{words-at, words-put, length-put}
 use Rattle.design.proofs.WidthRules.{width-is}
 use Rattle.machine.specs.Bindings.{TargetsSound}
@@ -237,6 +239,14 @@ module _ {image : List ℕ} {x : Design} (known : RecordsKept image x) (r : ℕ)
 -- a table of scopes for the most states
 pub scopes-room : {image : List ℕ} {x : Design} → Describes image x → 3 * x .states ≤ 192
 scopes-room d = let few = states-few d in omega arith
+
+-- a fresh one has room for those of the design, and tells them where it has no parameters
+module _ {image table : List ℕ} {x : Design} (d : Describes image x) (fresh : table ≡ replicate {A = ℕ} 192 0) where
+  pub fresh-room : 3 * x .states ≤ length table
+  fresh-room = let room = scopes-room d in let long = ap length fresh ∙ length-replicate {A = ℕ} 192 0 in omega arith
+
+  pub scopes-fresh : {b : Bool} → b ≡ hasParameters (designOf image) → not b ≡ true → Scopes (designOf image) table
+  scopes-fresh {b} is h = rw fresh (empty-scopes d (no-parameters (designOf image) (not-true b h) is))
 
 -- the targets stand in front in their area
 pub front-inside : {n : ℕ} (area : List ℕ) → length area ≡ 3 * n → n ≤ length area

@@ -4,6 +4,7 @@ use crate::soundness::judge;
 use design::Design;
 use design::reset::default_targets;
 use design::scopes::SCOPES;
+use design::scopes::has_parameters;
 use design::scopes::scopes;
 use machine::cycle::cycles;
 use model::Answer;
@@ -11,13 +12,13 @@ use model::Refusal;
 ghost use Prim.Native.Nat.{_*_};
 ghost use mathlib.Core.Path.{_≡_};
 ghost use lib.Dec.{leb};
-ghost use lib.ListN.{length};
-ghost use Rattle.model.specs.Limits.{cyclesMax, wordLength, targetLength};
+ghost use lib.ListN.{length, replicate};
+ghost use Rattle.model.specs.Limits.{cyclesMax, wordLength, targetLength, statesMax};
 ghost use Rattle.model.specs.Image.{designOf};
 ghost use Rattle.model.specs.Rules.{Keeps};
 ghost use Rattle.design.specs.Describes.{Describes};
 ghost use Rattle.design.specs.Resets.{Defaults, lends};
-ghost use Rattle.design.specs.Scopes.{Scopes};
+ghost use Rattle.design.specs.Scopes.{scopeLength, Scopes};
 ghost use Rattle.machine.specs.Cycles.{Running};
 ghost use Rattle.calls.specs.Stages.{leftAs, runOn, runSound};
 
@@ -79,6 +80,17 @@ fn run_on(
     }
 }
 
+// What is in scope of each state, in a fresh table. Without parameters it has only zeros, and stays.
+fn fill_scopes(image: &[u8], design: Design, table: &mut [u8])
+    requires { ⌜ Keeps (now image) × Describes (now image) design × (now table ≡ replicate (scopeLength * statesMax) 0) ⌝ }
+    ensures { λ _. ⌜ Scopes (designOf (now (image .entry))) (now (table .exit)) ⌝ }
+{
+    if !has_parameters(image, design) {
+        return;
+    }
+    scopes(image, design, table);
+}
+
 // The same, with fresh tables of the default targets and of what is in scope of each state.
 fn with_tables(
     image: &[u8],
@@ -93,7 +105,7 @@ fn with_tables(
     let mut defaults = [0u8; Design::STATES];
     default_targets(image, design, &mut defaults);
     let mut in_scope = [0u8; SCOPES];
-    scopes(image, design, &mut in_scope);
+    fill_scopes(image, design, &mut in_scope);
     run_on(
         image,
         design,

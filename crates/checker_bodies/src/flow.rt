@@ -305,9 +305,9 @@ pub fn plain_faults(image: &[u8], design: Design, labels: &[u8]) -> Answer
     label_rows(image, design, &mut masks);
     let mut s = 0;
     while s < design.states {
-        let place = state_flow(image, design, labels, &masks, s, Design::PARAMETER_LABEL);
-        if place < NOWHERE {
-            return answer(image, design, place);
+        let first = state_flow(image, design, labels, &masks, s, Design::PARAMETER_LABEL);
+        if first < NOWHERE {
+            return answer(image, design, first);
         }
         s += 1;
     }

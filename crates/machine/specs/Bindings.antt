@@ -3,8 +3,9 @@ use Prim.Native.Nat.{ℕ, _+_, _*_, _/_, _%_, _<_}
 use mathlib.Core.Path.{_≡_}
 use mathlib.Core.Bool.{Bool, true, _&&_, not, cond}
 use mathlib.Core.List.{List}
-use lib.Dec.{ltb}
+use lib.Dec.{ltb, eqb}
 use lib.ListN.{length, getD}
+use Rattle.model.specs.Limits.{bindingLength}
 use Rattle.model.specs.Image.{Design as Table, designOf, stateAt}
 use Rattle.model.specs.Lattice.{registerLabel}
 use Rattle.model.specs.States.{isPort}
@@ -54,6 +55,12 @@ pub record Packable (scopes : List ℕ) (states : ℕ) (area : List ℕ) (s : �
 pub record Packed (scopes : List ℕ) (states : ℕ) (area : List ℕ) (s packed : ℕ) : Type 0 where
   pub first : packed % 256 ≡ firstBound scopes states area s
   pub second : packed / 256 ≡ secondBound scopes states area s
+
+-- state s has no parameter, and both its bytes are 0
+unfoldable pub isFree : Table → List ℕ → ℕ → Bool
+isFree d area s =
+    eqb (stateAt d s .parameters) 0
+    && (eqb (getD (bindingsIn d area) (bindingLength * s) 0) 0 && eqb (getD (bindingsIn d area) (bindingLength * s + 1) 0) 0)
 
 -- every target is sound
 pub record TargetsSound (d : Table) (area : List ℕ) : Type 0 where

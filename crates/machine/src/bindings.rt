@@ -13,7 +13,7 @@ ghost use mathlib.Core.Bool.{_||_, cond};
 ghost use lib.Dec.{eqb, ltb};
 ghost use lib.ListN.{length, getD};
 ghost use Rattle.model.specs.Limits.{bindingLength, targetLength};
-ghost use Rattle.model.specs.Indices.{lowestFailing};
+ghost use Rattle.model.specs.Indices.{allBelow, lowestFailing};
 ghost use Rattle.model.specs.Image.{designOf};
 ghost use Rattle.model.specs.Lattice.{registerLabel};
 ghost use Rattle.model.specs.Parameters.{allOf, ownParameters, withinBounds};
@@ -21,7 +21,7 @@ ghost use Rattle.model.specs.Bindings.{onPath, boundSound, bindingSound};
 ghost use Rattle.model.specs.Calls.{targetsIn, bindingsIn};
 ghost use Rattle.design.specs.Describes.{Describes};
 ghost use Rattle.design.specs.Kept.{RecordsKept, ParametersKept};
-ghost use Rattle.machine.specs.Bindings.{ArgumentsFit, Bound, Packable, Packed, TargetsSound, mayBind};
+ghost use Rattle.machine.specs.Bindings.{ArgumentsFit, Bound, Packable, Packed, TargetsSound, isFree, mayBind};
 
 // A goto to t binds its arguments, registers a and b. With one parameter the second byte stays.
 pub fn bind(image: &[u8], design: Design, area: &mut [u8], t: usize, a: usize, b: usize)
@@ -130,12 +130,42 @@ fn next_behind(area: &[u8], s: usize, next: usize) -> usize
     next
 }
 
+// State s has no parameter, and both its bytes are 0.
+fn free(image: &[u8], design: Design, area: &[u8], s: usize) -> bool
+    requires { ⌜ Describes (now image) design × (length (now area) ≡ targetLength * design .states) × (s < design .states) ⌝ }
+    ensures { λ x. ⌜ x ≡ isFree (designOf (now (image .entry))) (now (area .entry)) s ⌝ }
+{
+    let own = Design::parameters(image, design.states_at, s);
+    let at = design.states + Design::BINDING_LENGTH * s;
+    let first = wide(area[at]);
+    let second = wide(area[at + 1]);
+    (own == 0) & ((first == 0) & (second == 0))
+}
+
+// So it is with every state. It spares most designs the way along the targets.
+fn all_free(image: &[u8], design: Design, area: &[u8]) -> bool
+    requires { ⌜ Describes (now image) design × (length (now area) ≡ targetLength * design .states) ⌝ }
+    ensures { λ x. ⌜ x ≡ allBelow (isFree (designOf (now (image .entry))) (now (area .entry))) (length (designOf (now (image .entry)) .states)) ⌝ }
+{
+    let mut s = 0;
+    while s < design.states {
+        if !free(image, design, area, s) {
+            return false;
+        }
+        s += 1;
+    }
+    true
+}
+
 // The lowest state whose bindings are not sound. A target has a higher number than its state, so one pass
 // upwards meets the states along the targets in their order.
 pub fn unbound(image: &[u8], design: Design, area: &[u8]) -> Found
     requires { ⌜ RecordsKept (now image) design × ParametersKept (designOf (now image)) × (length (now area) ≡ targetLength * design .states) × TargetsSound (designOf (now image)) (now area) ⌝ }
     ensures { λ r. ⌜ r ≡ lowestFailing (bindingSound (designOf (now (image .entry))) (targetsIn (designOf (now (image .entry))) (now (area .entry))) (bindingsIn (designOf (now (image .entry))) (now (area .entry)))) (length (designOf (now (image .entry)) .states)) ⌝ }
 {
+    if all_free(image, design, area) {
+        return Found::Nowhere;
+    }
     let mut s = 0;
     let mut next = 0;
     while s < design.states {

@@ -1,6 +1,5 @@
 use Rattle.design.proofs.ResetRules.{states-few, fresh-defaults}
-use Rattle.checker.proofs.Accepted.{accepted-scopes}
-use Rattle.calls.proofs.CallRules.{states-kept, scopes-room}
+use Rattle.calls.proofs.CallRules.{states-kept}
 use borrow.Author.Needs.{needs}
 use Rattle.calls.proofs.runs.with_tables.Statement.{statement}
 use Rattle.calls.proofs.runs.with_tables.Tie as tie
@@ -11,11 +10,11 @@ slice-aggregate-default-targets c = search needs
 default-targets-requires : tie.Need-default-targets-requires
 default-targets-requires c κs = (search needs, search (states-kept, needs), search (states-few, needs))
 
-slice-aggregate-scopes : tie.Need-slice-aggregate-scopes
-slice-aggregate-scopes c = search needs
+slice-aggregate-fill-scopes : tie.Need-slice-aggregate-fill-scopes
+slice-aggregate-fill-scopes c = search needs
 
-scopes-requires : tie.Need-scopes-requires
-scopes-requires c κs = (search needs, search (states-kept, needs), search (accepted-scopes, needs), search (scopes-room, needs))
+fill-scopes-requires : tie.Need-fill-scopes-requires
+fill-scopes-requires c κs = search needs
 
 slice-aggregate-run-on : tie.Need-slice-aggregate-run-on
 slice-aggregate-run-on c = search needs
@@ -41,8 +40,8 @@ with-tables-spec =
     (tie.spec
     slice-aggregate-default-targets
     default-targets-requires
-    slice-aggregate-scopes
-    scopes-requires
+    slice-aggregate-fill-scopes
+    fill-scopes-requires
     slice-aggregate-run-on
     slice-aggregate-run-on-2
     run-on-requires
