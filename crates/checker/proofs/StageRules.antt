@@ -1,10 +1,12 @@
 -- The verdict from a pass on: what the pass found, before what follows; and what is known once a pass has found nothing.
 use Prim.Native.Nat.{ℕ, _+_, _*_, _≤_, _<_}
 use mathlib.Core.Path.{_≡_, refl, sym, _∙_, ap}
-use mathlib.Core.Bool.{Bool, true, false, not}
+use mathlib.Core.Bool.{Bool, true, false, not, _&&_}
 use mathlib.Core.List.{List}
 use native.Mathlib.Omega.{arith}
-use lib.ListN.{length, replicate, length-replicate}
+use lib.Dec.{leb}
+use lib.ListN.{length, replicate}
+use borrow.Author.Tests.{leb-true}
 use mir.Syntax.{w64}
 use mir.Val.{Fits}
 use Rattle.model.specs.declared.Found.{Found}
@@ -14,7 +16,7 @@ use Rattle.model.specs.declared.Refusal.the-variants.{Directory}
 use Rattle.model.specs.declared.Answer.{Answer}
 use Rattle.model.specs.declared.Answer.the-variants.{Accepted, Refused}
 use Rattle.model.specs.Indices.{lowestFailing, joinBelow}
-use Rattle.model.specs.Limits.{commandsMax, expressionsMax}
+use Rattle.model.specs.Limits.{expressionsMax}
 use Rattle.model.specs.Image.{Design as Table, directoryKept, designOf}
 use Rattle.model.specs.Lattice.{labelKept}
 use Rattle.model.specs.States.{registerKept, stateKept}
@@ -22,7 +24,7 @@ use Rattle.model.specs.Kinds.{commandKept, expressionKept}
 use Rattle.model.specs.Flow.{flowAnswer}
 use Rattle.model.specs.Rules.{DirectoryKeeps}
 use Rattle.model.specs.Verdict.{_before_, refusedAt, commandsFirst, lowestNode, designStructure, structure, verdict}
-use Rattle.model.proofs.Laws.Booleans.{not-true, not-false}
+use Rattle.model.proofs.Laws.Booleans.{and-first, and-second, not-true, not-false}
 use Rattle.model.proofs.Laws.Indices.{failing-none, lowest-failing-below}
 use Rattle.model.specs.Parameters.{parametersKept}
 use Rattle.model.proofs.Exact.Directories.{directory-iff}
@@ -32,7 +34,7 @@ use Rattle.design.specs.Describes.{Describes}
 use Rattle.design.proofs.Laws.{expressions-count, expressions-most}
 use Rattle.design.specs.Kept.{LatticeKept, RegistersKept, StatesKept, ParametersKept, RecordsKept}
 use Rattle.design.specs.Scopes.{Scopes}
-use Rattle.checker_nodes.specs.Tables.{commandOf, countUses, CommandsPassed, ExpressionsPassed, NodesPassed, NodesTold}
+use Rattle.checker_nodes.specs.Tables.{commandOf, countUses, CommandsPassed, ExpressionsPassed, NodesPassed, NodesFresh, NodesTold}
 use Rattle.checker_nodes.proofs.CountRules.{count-append}
 use Rattle.checker_nodes.proofs.UseRules.{command-uses-told, expression-uses-told}
 use Rattle.checker_nodes.proofs.DepthRules.{command-depths-told, expression-depths-told}
@@ -42,7 +44,7 @@ use Rattle.checker_records.specs.ParameterTests.{ParametersPassed}
 use Rattle.checker_bodies.specs.Shapes.{ShapeKnown, ShapesPassed}
 use Rattle.checker_bodies.specs.Plain.{plainDesign}
 use Rattle.checker_bodies.proofs.PlainRules.{plain-ports, plain-parameters, plain-scopes}
-use Rattle.checker.specs.Stages.{ChildrenTold, fromChildren, fromScopes, fromParameters, fromPorts, fromShape, fromDepths, fromUses, fromNodes, fromStates, fromRegisters, fromLabels}
+use Rattle.checker.specs.Stages.{fewNodes, ChildrenTold, fromChildren, fromScopes, fromParameters, fromPorts, fromShape, fromDepths, fromUses, fromNodes, fromStates, fromRegisters, fromLabels}
 
 -- ---- a pass, and all that follow
 pub stage-refuses : (r : Refusal) (g : Found) (rest : Answer) {f : Found} {p : ℕ} → f ≡ g → f ≡ At p → Refused r p ≡ (refusedAt r g before rest)
@@ -97,27 +99,37 @@ node-none Nowhere (At n) e = absurd (let z : _≡_ {A = ℕ} 0 1 = cc in omega a
 node-none Nowhere Nowhere e = (refl, refl)
 
 -- ---- both loops over the nodes, and what is known and told where they found nothing
-pub fresh-length : {t : List ℕ} {limit : ℕ} → t ≡ replicate limit 0 → length t ≡ limit
-fresh-length {limit = limit} e = ap length e ∙ length-replicate {A = ℕ} limit 0
+nodes-told :
+    {image c t u s v w p a q b : List ℕ} {x : Design}
+    → CommandsPassed (designOf image) Nowhere t u s v p a
+    → ExpressionsPassed (designOf image) Nowhere v w q b
+    → t ≡ countUses c (joinBelow (commandOf (designOf image)) (length (designOf image .states)))
+    → NodesFresh x c s p q
+    → Describes image x
+    → NodesTold image x u w a b
+nodes-told {image} {c} {s = s} commands expressions bodies fresh describes =
+    let d = designOf image in
+    record {
+      command-uses = command-uses-told d (fresh .command-uses) (rw (count-append c, ← bodies) (commands .counted));
+      expression-uses = expression-uses-told d (fresh .expression-uses) (rw (count-append s, ← (commands .expressions-counted)) (expressions .counted));
+      command-depths = command-depths-told describes (fresh .command-depths) (commands .filled);
+      expression-depths = expression-depths-told describes (fresh .expression-depths) (expressions .filled);
+    }
 
 pub nodes-passed :
-    {d : Table} {c t u s v w p a q b : List ℕ} {f g r : Found}
-    → CommandsPassed d f t u s v p a
-    → ExpressionsPassed d g v w q b
+    {image c t u s v w p a q b : List ℕ} {x : Design} {f g r : Found}
     → r ≡ commandsFirst f g
-    → t ≡ countUses c (joinBelow (commandOf d) (length (d .states)))
-    → c ≡ replicate commandsMax 0
-    → s ≡ replicate expressionsMax 0
-    → p ≡ replicate commandsMax 0
-    → q ≡ replicate expressionsMax 0
-    → NodesPassed d r u w a b
-nodes-passed {d} commands expressions first bodies c s p q =
+    → ExpressionsPassed (designOf image) g v w q b
+    → CommandsPassed (designOf image) f t u s v p a
+    → NodesFresh x c s p q
+    → t ≡ countUses c (joinBelow (commandOf (designOf image)) (length (designOf image .states)))
+    → Describes image x
+    → NodesPassed image x r u w a b
+nodes-passed {image} {f = f} {g = g} first expressions commands fresh bodies describes =
+    let d = designOf image in
     record {
       found = both-families d (commandKept d) (expressionKept d) (commands .found) (expressions .found) first;
-      commands-counted = rw (← (commands .found), count-append (replicate commandsMax 0), ← c, ← bodies) (commands .counted);
-      expressions-counted = rw (← (commands .found), ← (expressions .found), count-append (replicate expressionsMax 0), ← s, ← (commands .expressions-counted)) (expressions .counted);
-      commands-filled = rw (← (commands .found), ← p) (commands .filled);
-      expressions-filled = rw (← (expressions .found), ← q) (expressions .filled);
+      told = λ h. let none = node-none f g (sym first ∙ h) in nodes-told (rw (none .0) at commands) (rw (none .1) at expressions) bodies fresh describes;
     }
 
 both-none : (d : Table) {f : Found} → f ≡ Nowhere → f ≡ lowestNode d (commandKept d) (expressionKept d) → (lowestFailing (commandKept d) (length (d .commands)) ≡ Nowhere) × (lowestFailing (expressionKept d) (length (d .expressions)) ≡ Nowhere)
@@ -137,15 +149,16 @@ known-nodes {image} h p describes lattice registers states =
       expressions = record { kept = failing-none (expressionKept d) (length (d .expressions)) (none .1) };
     }
 
-pub nodes-told : {image u w a b : List ℕ} {x : Design} {f : Found} → f ≡ Nowhere → NodesPassed (designOf image) f u w a b → Describes image x → NodesTold image x u w a b
-nodes-told {image} h passed describes =
-    let none = both-none (designOf image) h (passed .found) in
-    record {
-      command-uses = command-uses-told describes (none .0) (passed .commands-counted);
-      expression-uses = expression-uses-told describes (none .0) (none .1) (passed .expressions-counted);
-      command-depths = command-depths-told describes (none .0) (passed .commands-filled);
-      expression-depths = expression-depths-told describes (none .1) (passed .expressions-filled);
-    }
+pub known-told : {image u w a b : List ℕ} {x : Design} {f : Found} → f ≡ Nowhere → NodesPassed image x f u w a b → NodesTold image x u w a b
+known-told h passed = passed .told h
+
+-- a design whose nodes are few
+module _ (a b : ℕ) (h : (leb a fewNodes && leb b fewNodes) ≡ true) where
+  pub few-commands : a ≤ fewNodes
+  few-commands = leb-true a fewNodes (and-first (leb a fewNodes) (leb b fewNodes) h)
+
+  pub few-expressions : b ≤ fewNodes
+  few-expressions = leb-true b fewNodes (and-second (leb a fewNodes) (leb b fewNodes) h)
 
 -- what the pass of refusal 8 asks, of what is known
 pub shape-known : {image : List ℕ} {x : Design} → RecordsKept image x → ShapeKnown image x

@@ -19,6 +19,10 @@ use Rattle.model.specs.Verdict.{_before_, refusedAt, lowestNode}
 use Rattle.design.specs.Resets.{Defaults}
 use Rattle.design.specs.Falls.{FallsTold}
 
+-- how many commands, and how many expressions, are few
+abbrev pub fewNodes : ℕ
+fewNodes = 128
+
 -- the tables that refusals 19 and 9 read: the default target of each state, and which states hold a fall
 pub record ChildrenTold (d : Design) (defaults falls : List ℕ) : Type 0 where
   pub targets : Defaults d defaults

@@ -7,19 +7,22 @@ use design::scopes::SCOPES;
 use model::Answer;
 use model::Found;
 use model::Refusal;
-ghost use Prim.Native.Nat.{ℕ, _+_, _<_};
+ghost use Prim.Native.Nat.{ℕ, _<_, _≤_};
 ghost use mathlib.Core.Path.{_≡_};
-ghost use lib.ListN.{replicate};
 ghost use Rattle.model.specs.declared.Found.the-variants.{At};
-ghost use Rattle.model.specs.Limits.{commandsMax, expressionsMax};
+ghost use Rattle.model.specs.Limits.{expressionsMax};
 ghost use Rattle.model.specs.Image.{designOf};
 ghost use Rattle.model.specs.Nodes.{commandUsedOnce, expressionUsedOnce, commandDepthKept, expressionDepthKept};
 ghost use Rattle.model.specs.Verdict.{commandsFirst, lowestNode, structure as structureOf, verdict as verdictOf};
 ghost use Rattle.design.specs.Describes.{Describes};
 ghost use Rattle.design.specs.Kept.{LatticeKept, RegistersKept, StatesKept, ParametersKept, RecordsKept};
 ghost use Rattle.design.specs.Scopes.{Scopes, NoParameters};
-ghost use Rattle.checker_nodes.specs.Tables.{NodesPassed, OnceWhere, ShallowWhere, NodesTold};
-ghost use Rattle.checker.specs.Stages.{ChildrenTold, fromChildren, fromScopes, fromParameters, fromPorts, fromShape, fromDepths, fromUses, fromNodes, fromStates, fromRegisters, fromLabels};
+ghost use Rattle.checker_nodes.specs.Tables.{NodesPassed, NodesFresh, OnceWhere, ShallowWhere, NodesTold};
+ghost use Rattle.checker.specs.Stages.{fewNodes, ChildrenTold, fromChildren, fromScopes, fromParameters, fromPorts, fromShape, fromDepths, fromUses, fromNodes, fromStates, fromRegisters, fromLabels};
+
+// The length of each table of uses or depths for a design with few nodes. To zero tables for as many as
+// there may be, 6 KB in all, is a good part of a short check.
+const FEW: usize = 128;
 
 // A command's number, else an expression's place.
 fn commands_first(command: Found, expression: Found) -> Found
@@ -35,23 +38,20 @@ fn commands_first(command: Found, expression: Found) -> Found
     }
 }
 
-// The lowest node whose record breaks its rule. The loops that judge the records fill the fresh tables
-// of uses and depths.
+// The lowest node whose record breaks its rule. The loops that judge the records fill the tables of uses
+// and depths.
 fn node_records(
     image: &[u8],
     design: Design,
-    command_uses: &mut [u8; Design::COMMANDS],
-    expression_uses: &mut [u8; Design::EXPRESSIONS],
-    command_depths: &mut [u8; Design::COMMANDS],
-    expression_depths: &mut [u8; Design::EXPRESSIONS],
+    command_uses: &mut [u8],
+    expression_uses: &mut [u8],
+    command_depths: &mut [u8],
+    expression_depths: &mut [u8],
 ) -> Found
     requires { ⌜ Describes (now image) design
         × StatesKept (designOf (now image))
-        × (now «command_uses» ≡ replicate commandsMax 0)
-        × (now «expression_uses» ≡ replicate expressionsMax 0)
-        × (now «command_depths» ≡ replicate commandsMax 0)
-        × (now «expression_depths» ≡ replicate expressionsMax 0) ⌝ }
-    ensures { λ f. ⌜ NodesPassed (designOf (now (image .entry))) f (now («command_uses» .exit)) (now («expression_uses» .exit)) (now («command_depths» .exit)) (now («expression_depths» .exit)) ⌝ }
+        × NodesFresh design (now «command_uses») (now «expression_uses») (now «command_depths») (now «expression_depths») ⌝ }
+    ensures { λ f. ⌜ NodesPassed (now (image .entry)) design f (now («command_uses» .exit)) (now («expression_uses» .exit)) (now («command_depths» .exit)) (now («expression_depths» .exit)) ⌝ }
 {
     checker_nodes::uses::use_bodies(command_uses, image, design);
     let command = checker_nodes::passes::commands(
@@ -224,8 +224,62 @@ fn from_uses(
     }
 }
 
-// Refusal 5, and on.
-fn from_nodes(image: &[u8], design: Design) -> Answer
+// Refusal 5, and on, with tables that are lent.
+fn from_tables(
+    image: &[u8],
+    design: Design,
+    command_uses: &mut [u8],
+    expression_uses: &mut [u8],
+    command_depths: &mut [u8],
+    expression_depths: &mut [u8],
+) -> Answer
+    requires { ⌜ Describes (now image) design × LatticeKept (designOf (now image)) × RegistersKept (designOf (now image)) × StatesKept (designOf (now image))
+        × NodesFresh design (now «command_uses») (now «expression_uses») (now «command_depths») (now «expression_depths») ⌝ }
+    ensures { λ a. ⌜ a ≡ fromNodes (designOf (now (image .entry))) ⌝ }
+{
+    let found = node_records(
+        image,
+        design,
+        command_uses,
+        expression_uses,
+        command_depths,
+        expression_depths,
+    );
+    match found {
+        Found::At(place) => Answer::Refused(Refusal::NodeRecord, place),
+        Found::Nowhere => from_uses(
+            image,
+            design,
+            command_uses,
+            expression_uses,
+            command_depths,
+            expression_depths,
+        ),
+    }
+}
+
+// Refusal 5, and on, of a design with few nodes.
+fn from_few(image: &[u8], design: Design) -> Answer
+    requires { ⌜ Describes (now image) design × LatticeKept (designOf (now image)) × RegistersKept (designOf (now image)) × StatesKept (designOf (now image))
+        × (design .commands ≤ fewNodes) × (design .expressions ≤ fewNodes) ⌝ }
+    ensures { λ a. ⌜ a ≡ fromNodes (designOf (now (image .entry))) ⌝ }
+{
+    let mut command_uses = [0u8; FEW];
+    let mut expression_uses = [0u8; FEW];
+    let mut command_depths = [0u8; FEW];
+    let mut expression_depths = [0u8; FEW];
+    from_tables(
+        image,
+        design,
+        &mut command_uses,
+        &mut expression_uses,
+        &mut command_depths,
+        &mut expression_depths,
+    )
+}
+
+// Refusal 5, and on, of a design with as many nodes as there may be.
+fn from_many(image: &[u8], design: Design) -> Answer
     requires { ⌜ Describes (now image) design × LatticeKept (designOf (now image)) × RegistersKept (designOf (now image)) × StatesKept (designOf (now image)) ⌝ }
     ensures { λ a. ⌜ a ≡ fromNodes (designOf (now (image .entry))) ⌝ }
 {
@@ -233,25 +287,25 @@ fn from_nodes(image: &[u8], design: Design) -> Answer
     let mut expression_uses = [0u8; Design::EXPRESSIONS];
     let mut command_depths = [0u8; Design::COMMANDS];
     let mut expression_depths = [0u8; Design::EXPRESSIONS];
-    let found = node_records(
+    from_tables(
         image,
         design,
         &mut command_uses,
         &mut expression_uses,
         &mut command_depths,
         &mut expression_depths,
-    );
-    match found {
-        Found::At(place) => Answer::Refused(Refusal::NodeRecord, place),
-        Found::Nowhere => from_uses(
-            image,
-            design,
-            &command_uses,
-            &expression_uses,
-            &command_depths,
-            &expression_depths,
-        ),
+    )
+}
+
+// Refusal 5, and on.
+fn from_nodes(image: &[u8], design: Design) -> Answer
+    requires { ⌜ Describes (now image) design × LatticeKept (designOf (now image)) × RegistersKept (designOf (now image)) × StatesKept (designOf (now image)) ⌝ }
+    ensures { λ a. ⌜ a ≡ fromNodes (designOf (now (image .entry))) ⌝ }
+{
+    if (design.commands <= FEW) & (design.expressions <= FEW) {
+        return from_few(image, design);
     }
+    from_many(image, design)
 }
 
 // Refusal 4, and on.

@@ -13,7 +13,23 @@ use borrow.Author.Tests.{eq-eqb, ne-eqb, eqb-true, eqb-false}
 use Rattle.model.specs.declared.Found.{Found}
 use Rattle.model.specs.Indices.{lowest, lowestFailing, occurrences, joinBelow}
 use Rattle.model.proofs.Laws.Booleans.{decide}
-use Rattle.checker_nodes.specs.Tables.{countUse, countUses, OnceWhere}
+use Rattle.design.specs.declared.Design.{Design}
+use Rattle.checker_nodes.specs.Tables.{countUse, countUses, Fresh, NodesFresh, OnceWhere}
+
+-- ---- tables of zeros
+fresh-zeros : (m : ℕ) {n : ℕ} → n ≤ m → Fresh n (replicate m 0)
+fresh-zeros m l =
+    let long = length-replicate {A = ℕ} m 0 in
+    record { long = omega arith; entry = λ k h. getD-replicate {A = ℕ} m k 0 0 (omega arith) }
+
+pub nodes-fresh : (m n : ℕ) {x : Design} → x .commands ≤ m → x .expressions ≤ n → NodesFresh x (replicate m 0) (replicate n 0) (replicate m 0) (replicate n 0)
+nodes-fresh m n l h =
+    record {
+      command-uses = fresh-zeros m l;
+      expression-uses = fresh-zeros n h;
+      command-depths = fresh-zeros m l .long;
+      expression-depths = fresh-zeros n h .long;
+    }
 
 -- ---- lists of uses
 occurrences-same : (k u : ℕ) (us : List ℕ) → u ≡ k → occurrences k (u ∷ us) ≡ suc (occurrences k us)
@@ -87,13 +103,22 @@ once (suc zero) = refl
 once (suc (suc n)) = ne-eqb (min 2 (suc (suc n))) 1 (λ e. omega arith) ∙ sym (ne-eqb (suc (suc n)) 1 (λ e. omega arith))
 
 -- a fresh table then counts 1 exactly where a list has one use
-used-once : (limit : ℕ) (us : List ℕ) (k : ℕ) → k < limit → eqb (getD (countUses (replicate limit 0) us) k 0) 1 ≡ eqb (occurrences k us) 1
-used-once limit us k l =
-    let fresh = getD-replicate {A = ℕ} limit k 0 0 l in
-    let long = length-replicate {A = ℕ} limit 0 in
-    let counted = entry-is us (replicate limit 0) k (omega arith) (omega arith) in
-    let n : getD (countUses (replicate limit 0) us) k 0 ≡ min 2 (occurrences k us) = omega arith in
+used-once : {t : List ℕ} (us : List ℕ) {n : ℕ} (k : ℕ) → Fresh n t → k < n → eqb (getD (countUses t us) k 0) 1 ≡ eqb (occurrences k us) 1
+used-once {t} us k fresh l =
+    let long = fresh .long in
+    let zero = fresh .entry k l in
+    let counted = entry-is us t k (omega arith) (omega arith) in
+    let n : getD (countUses t us) k 0 ≡ min 2 (occurrences k us) = omega arith in
     rw n (once (occurrences k us))
+
+-- one use, and then another
+pub count-both : (t : List ℕ) (a b : ℕ) {u v : List ℕ} → u ≡ countUse t a → v ≡ countUse u b → v ≡ countUses t (a ∷ b ∷ [])
+unfolding countUses
+count-both t a b e f = rw (← e) f
+
+-- counting leaves a table as long as it was
+pub counts-keep : (t us : List ℕ) {u : List ℕ} {n : ℕ} → u ≡ countUses t us → n ≤ length t → n ≤ length u
+counts-keep t us e l = let same = length-counts t us in omega (arith, ap length e)
 
 -- ---- a loop over the owners of uses: the table at owner i
 pub record Counted (t₀ : List ℕ) (uses : ℕ → List ℕ) (t : List ℕ) (i : ℕ) : Type 0 where
@@ -112,6 +137,15 @@ module _ {t₀ : List ℕ} {uses : ℕ → List ℕ} where
   pub counted-all : {t : List ℕ} {i m n : ℕ} → Counted t₀ uses t i → i ≤ m → m ≤ i → m ≡ n → t ≡ countUses t₀ (joinBelow uses n)
   counted-all {t} {i} {m} {n} p l h q = let e : i ≡ n = omega arith in rw (← e) (p .is)
 
+  pub counted-long : {t : List ℕ} {i : ℕ} → Counted t₀ uses t i → length t ≡ length t₀
+  counted-long {i = i} p = ap length (p .is) ∙ length-counts t₀ (joinBelow uses i)
+
+  pub counted-keeps : {t : List ℕ} {i n : ℕ} → Counted t₀ uses t i → n ≤ length t₀ → n ≤ length t
+  counted-keeps p l = let same = counted-long p in omega arith
+
+  pub counted-inside : {t : List ℕ} {i m : ℕ} → Counted t₀ uses t i → m < length t₀ → m < length t
+  counted-inside p l = counted-keeps p l
+
 -- ---- the pass over the table
 pub failing-same : (f g : ℕ → Bool) (n : ℕ) → ((k : ℕ) → k < n → f k ≡ g k) → lowestFailing f n ≡ lowestFailing g n
 unfolding lowestFailing lowest
@@ -122,15 +156,7 @@ pub once-found : {rule : ℕ → Bool} {table : List ℕ} {m n : ℕ} {f : Found
 once-found {rule} {table} {m} so e h = h ∙ failing-same (λ k. eqb (getD table k 0) 1) rule m (so .entry) ∙ ap (lowestFailing rule) e
 
 -- a table that counted from nothing tells which nodes are used once
-pub counted-length : {limit : ℕ} (us : List ℕ) {t : List ℕ} → t ≡ countUses (replicate limit 0) us → limit ≡ length t
-counted-length {limit} us p =
-    let long = length-replicate {A = ℕ} limit 0 in
-    let same = length-counts (replicate limit 0) us in
-    omega (arith, ap length p)
-
-pub counted-once : (limit : ℕ) (us : List ℕ) {n : ℕ} {t : List ℕ} → t ≡ countUses (replicate limit 0) us → n ≤ limit → OnceWhere (λ k. eqb (occurrences k us) 1) t n
-counted-once limit us {n} {t} p l =
-    let same : limit ≡ length t = counted-length us p in
-    record { long = omega arith; entry = λ k h. rw p (used-once limit us k (omega arith)) }
+pub counted-once : {t₀ : List ℕ} (us : List ℕ) {n : ℕ} {t : List ℕ} → Fresh n t₀ → t ≡ countUses t₀ us → OnceWhere (λ k. eqb (occurrences k us) 1) t n
+counted-once {t₀} us fresh p = record { long = counts-keep t₀ us p (fresh .long); entry = λ k h. rw p (used-once us k fresh h) }
 
 pub ruleset count-laws = (count-one, counted-none, counted-more, counted-all)

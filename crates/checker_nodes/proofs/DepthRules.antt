@@ -6,14 +6,13 @@ use mathlib.Core.Bool.{Bool, true, false}
 use mathlib.Core.List.{List}
 use native.Mathlib.Omega.{arith}
 use lib.Dec.{leb}
-use lib.ListN.{length, getD, replicate, length-replicate}
+use lib.ListN.{length, getD}
 use borrow.Author.Tests.{leb-true, leb-false, le-leb, lt-leb}
 use Rattle.model.specs.declared.Found.{Found}
-use Rattle.model.specs.declared.Found.the-variants.{Nowhere}
 use Rattle.model.specs.Indices.{lowestFailing}
-use Rattle.model.specs.Limits.{commandsMax, expressionsMax, depthMax}
+use Rattle.model.specs.Limits.{depthMax}
 use Rattle.model.specs.Image.{designOf}
-use Rattle.model.specs.Kinds.{sequences, branches, commandKind, expressionKind, Operation, operates, commandKept, expressionKept}
+use Rattle.model.specs.Kinds.{sequences, branches, commandKind, expressionKind, Operation, operates}
 use Rattle.model.specs.Trees.{exprOf, cmdOf, exprDepth, cmdDepth}
 use Rattle.model.specs.Nodes.{commandDepthKept, expressionDepthKept}
 use Rattle.model.proofs.Laws.Booleans.{decide}
@@ -24,11 +23,11 @@ use Rattle.design.specs.declared.Design.{Design}
 use Rattle.design.specs.Records.{nodeIn}
 use Rattle.design.specs.Describes.{Describes}
 use Rattle.design.specs.Resets.{Filled}
-use Rattle.design.proofs.Laws.{commands-count, expressions-count, commands-most, expressions-most}
+use Rattle.design.proofs.Laws.{commands-count, expressions-count}
 use Rattle.design.specs.RecordsAt.{CommandAt, ExpressionAt}
 use Rattle.design.proofs.FieldRules.{command-kind-is, command-kind-of, a-is, b-is, c-is, sequence-a-below, sequence-b-below, branch-b-below, branch-c-below, expression-kind-is, first-is, second-is, operation}
-use Rattle.design.proofs.ResetRules.{filled-none, filled-more, filled-to}
-use Rattle.checker_nodes.specs.Tables.{keptCommands, keptExpressions, depthEntry, Depths, ShallowWhere}
+use Rattle.design.proofs.ResetRules.{filled-none, filled-within, filled-to}
+use Rattle.checker_nodes.specs.Tables.{depthEntry, Depths, ShallowWhere}
 use Rattle.checker_nodes.proofs.CountRules.{failing-same}
 use Rattle.checker_nodes.proofs.PartRules.{operation-a, operation-b}
 
@@ -36,6 +35,16 @@ use Rattle.checker_nodes.proofs.PartRules.{operation-a, operation-b}
 -- a loop over so many nodes as the design has is at its end
 pub filled-end : {f : ℕ → ℕ} {old now : List ℕ} {i m n : ℕ} → Filled f old i now → i ≤ m → m ≤ i → m ≡ n → Filled f old n now
 filled-end so l h e = rw (← e) (filled-to so l h)
+
+-- filling leaves a table as long as it was
+pub filled-long : {f : ℕ → ℕ} {old now : List ℕ} {i : ℕ} → Filled f old i now → length now ≡ length old
+filled-long so = so .long
+
+pub filled-keeps : {f : ℕ → ℕ} {old now : List ℕ} {i n : ℕ} → Filled f old i now → n ≤ length old → n ≤ length now
+filled-keeps so l = let same = so .long in omega arith
+
+pub filled-inside : {f : ℕ → ℕ} {old now : List ℕ} {i n k : ℕ} → Filled f old i now → k < n → n ≤ length old → k < length now
+filled-inside so b l = let same = so .long in omega arith
 
 module _ {table : List ℕ} {depth : ℕ → ℕ} where
   -- a table that a loop fills
@@ -131,33 +140,23 @@ shallow-found {rule} {table} {m} so e h = h ∙ failing-same (λ k. leb (getD ta
 
 -- ---- refusal 7, where every record keeps its rule
 filled-shallow :
-    (limit : ℕ) (depth : ℕ → ℕ) {m n : ℕ} {t : List ℕ}
-    → Filled (λ k. depthEntry (depth k)) (replicate limit 0) n t
+    (depth : ℕ → ℕ) {m n : ℕ} {old t : List ℕ}
+    → Filled (λ k. depthEntry (depth k)) old n t
     → m ≡ n
-    → m ≤ limit
+    → m ≤ length old
     → ShallowWhere (λ k. leb (depth k) depthMax) t m
-filled-shallow limit depth {m} {n} {t} so e l =
-    let same = so .long in
-    let fresh = length-replicate {A = ℕ} limit 0 in
-    record { long = omega arith; entry = λ k b. rw (so .done k (omega arith)) (entry-small (depth k)) }
+filled-shallow depth so e l =
+    record { long = filled-keeps so l; entry = λ k b. rw (so .done k (omega arith)) (entry-small (depth k)) }
 
-module _ {image : List ℕ} {x : Design} (d : Describes image x) {t : List ℕ} where
-  pub command-depths-told :
-      lowestFailing (commandKept (designOf image)) (length (designOf image .commands)) ≡ Nowhere
-      → Filled (λ k. depthEntry (cmdDepth (cmdOf (designOf image) k))) (replicate commandsMax 0) (keptCommands (designOf image)) t
-      → ShallowWhere (commandDepthKept (designOf image)) t (x .commands)
+module _ {image : List ℕ} {x : Design} (d : Describes image x) {old t : List ℕ} where
+  pub command-depths-told : x .commands ≤ length old → Filled (λ k. depthEntry (cmdDepth (cmdOf (designOf image) k))) old (length (designOf image .commands)) t → ShallowWhere (commandDepthKept (designOf image)) t (x .commands)
   unfolding commandDepthKept
-  command-depths-told commands so =
-      filled-shallow commandsMax (λ k. cmdDepth (cmdOf (designOf image) k)) (rw commands at so) (commands-count d) (commands-most d)
+  command-depths-told l so = filled-shallow (λ k. cmdDepth (cmdOf (designOf image) k)) so (commands-count d) l
 
-  pub expression-depths-told :
-      lowestFailing (expressionKept (designOf image)) (length (designOf image .expressions)) ≡ Nowhere
-      → Filled (λ k. depthEntry (exprDepth (exprOf (designOf image) k))) (replicate expressionsMax 0) (keptExpressions (designOf image)) t
-      → ShallowWhere (expressionDepthKept (designOf image)) t (x .expressions)
+  pub expression-depths-told : x .expressions ≤ length old → Filled (λ k. depthEntry (exprDepth (exprOf (designOf image) k))) old (length (designOf image .expressions)) t → ShallowWhere (expressionDepthKept (designOf image)) t (x .expressions)
   unfolding expressionDepthKept
-  expression-depths-told expressions so =
-      filled-shallow expressionsMax (λ k. exprDepth (exprOf (designOf image) k)) (rw expressions at so) (expressions-count d) (expressions-most d)
+  expression-depths-told l so = filled-shallow (λ k. exprDepth (exprOf (designOf image) k)) so (expressions-count d) l
 
 pub ruleset depth-laws = (flat-depth, sequence-depth, branch-depth, low-depth, high-depth, operation-depth)
 
-pub ruleset table-laws = (filled-none, filled-more, filled-end, filled-depths)
+pub ruleset table-laws = (filled-none, filled-within, filled-end, filled-depths)

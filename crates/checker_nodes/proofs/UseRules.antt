@@ -4,12 +4,10 @@ use mathlib.Core.Path.{_≡_, refl, sym, _∙_, ap}
 use mathlib.Core.Logic.{_⊎_, inl, inr, ⊎-elim}
 use mathlib.Core.List.{List, [], _∷_, _++_}
 use native.Mathlib.Omega.{arith}
-use lib.ListN.{length, replicate}
-use Rattle.model.specs.declared.Found.the-variants.{Nowhere}
-use Rattle.model.specs.Indices.{lowestFailing, joinBelow}
-use Rattle.model.specs.Limits.{commandsMax, expressionsMax}
-use Rattle.model.specs.Image.{Node, designOf, commandAt, expressionAt}
-use Rattle.model.specs.Kinds.{CommandKind, skips, assigns, sequences, falls, goes, branches, unknownCommand, ExpressionKind, constants, reads, unknownExpression, Operation, operates, commandKind, expressionKind, commandKept, expressionKept}
+use lib.ListN.{length}
+use Rattle.model.specs.Indices.{joinBelow}
+use Rattle.model.specs.Image.{Design as Table, Node, designOf, commandAt, expressionAt}
+use Rattle.model.specs.Kinds.{CommandKind, skips, assigns, sequences, falls, goes, branches, unknownCommand, ExpressionKind, constants, reads, unknownExpression, Operation, operates, commandKind, expressionKind}
 use Rattle.model.specs.Nodes.{commandParts, expressionsOf, expressionParts, commandUses, expressionUses, commandUsedOnce, expressionUsedOnce}
 use Rattle.model.proofs.Laws.Indices.{below-suc}
 use Rattle.model.proofs.Laws.Kinds.{kind-assigns, kind-sequences, kind-branches, assigns-number, sequences-number, branches-number, expressionKinds, no-operation-zero, no-operation-one, no-operation-above}
@@ -17,11 +15,10 @@ use Rattle.design.specs.declared.Design.{Design}
 use Rattle.design.specs.Records.{stateIn, nodeIn}
 use Rattle.design.specs.Describes.{Describes}
 use Rattle.design.specs.Kept.{StatesKept}
-use Rattle.design.proofs.Laws.{commands-most, expressions-count, expressions-most}
+use Rattle.design.proofs.Laws.{expressions-count}
 use Rattle.design.specs.RecordsAt.{CommandAt, ExpressionAt}
 use Rattle.design.proofs.FieldRules.{body-is, body-below, command-kind-is, command-kind-of, a-is, b-is, c-is, assigned-expression, condition, expression-kind-is, first-is, second-is, operation}
-use Rattle.checker_nodes.specs.Tables.{commandOf, partsOf, expressionOf, operandsOf, keptCommands, keptExpressions, countUse, countUses, OnceWhere}
-use Rattle.checker_nodes.proofs.PartRules.{command-entry, expression-entry}
+use Rattle.checker_nodes.specs.Tables.{commandOf, partsOf, expressionOf, operandsOf, countUse, countUses, Fresh, OnceWhere}
 use Rattle.checker_nodes.proofs.CountRules.{counted-once}
 
 -- ---- one use, and two
@@ -29,9 +26,8 @@ use-one : (t : List ℕ) {v : List ℕ} {a p : ℕ} {uses : List ℕ} → uses �
 unfolding countUses
 use-one t e f h = rw (e, ← f) h
 
-use-two : (t : List ℕ) {u v : List ℕ} {a b p q : ℕ} {uses : List ℕ} → uses ≡ p ∷ q ∷ [] → a ≡ p → b ≡ q → u ≡ countUse t a → v ≡ countUse u b → v ≡ countUses t uses
-unfolding countUses
-use-two t e f g h k = rw (e, ← f, ← g, ← h) k
+use-two : (t : List ℕ) {v : List ℕ} {a b p q : ℕ} {uses : List ℕ} → uses ≡ p ∷ q ∷ [] → a ≡ p → b ≡ q → v ≡ countUses t (a ∷ b ∷ []) → v ≡ countUses t uses
+use-two t e f g h = rw (e, ← f, ← g) h
 
 use-none : {t : List ℕ} {uses : List ℕ} → uses ≡ [] → t ≡ countUses t uses
 unfolding countUses
@@ -94,24 +90,22 @@ module _ {image : List ℕ} {x : Design} {place n k : ℕ} (here : CommandAt ima
   byte = sym (command-kind-is here refl same)
 
   pub uses-sequence :
-      (t : List ℕ) {u v : List ℕ} {a b : ℕ}
+      (t : List ℕ) {v : List ℕ} {a b : ℕ}
       → k ≡ 2
       → a ≡ nodeIn image place n .a
       → b ≡ nodeIn image place n .b
-      → u ≡ countUse t a
-      → v ≡ countUse u b
+      → v ≡ countUses t (a ∷ b ∷ [])
       → v ≡ countUses t (partsOf (designOf image) n)
-  uses-sequence t e p q g h = use-two t (sequence-parts (commandAt (designOf image) n) (kind-of sequences (kind-sequences e))) (a-is here p) (b-is here q) g h
+  uses-sequence t e p q h = use-two t (sequence-parts (commandAt (designOf image) n) (kind-of sequences (kind-sequences e))) (a-is here p) (b-is here q) h
 
   pub uses-branch :
-      (t : List ℕ) {u v : List ℕ} {a b : ℕ}
+      (t : List ℕ) {v : List ℕ} {a b : ℕ}
       → k ≡ 5
       → a ≡ nodeIn image place n .b
       → b ≡ nodeIn image place n .c
-      → u ≡ countUse t a
-      → v ≡ countUse u b
+      → v ≡ countUses t (a ∷ b ∷ [])
       → v ≡ countUses t (partsOf (designOf image) n)
-  uses-branch t e p q g h = use-two t (branch-parts (commandAt (designOf image) n) (kind-of branches (kind-branches e))) (b-is here p) (c-is here q) g h
+  uses-branch t e p q h = use-two t (branch-parts (commandAt (designOf image) n) (kind-of branches (kind-branches e))) (b-is here p) (c-is here q) h
 
   pub uses-no-part : {t : List ℕ} → (k ≡ 2 → ⊥) → (k ≡ 5 → ⊥) → t ≡ countUses t (partsOf (designOf image) n)
   uses-no-part two five =
@@ -138,26 +132,25 @@ module _ {image : List ℕ} {x : Design} {place n k : ℕ} (here : CommandAt ima
       (λ e. h (inl (assigns-number k (ap commandKind byte ∙ e))))
       (λ e. h (inr (branches-number k (ap commandKind byte ∙ e)))))
 
-  -- the expression of a command is one
-  pub expression-inside : {a : ℕ} → (k ≡ 1) ⊎ (k ≡ 5) → a ≡ nodeIn image place n .a → a < expressionsMax
-  expression-inside e p =
+  -- the expression of a command has an entry in a table of the expressions
+  pub expression-inside : {a long : ℕ} → (k ≡ 1) ⊎ (k ≡ 5) → a ≡ nodeIn image place n .a → x .expressions ≤ long → a < long
+  expression-inside e p l =
       let below = ⊎-elim (λ (one : k ≡ 1). assigned-expression here one same p) (λ (five : k ≡ 5). condition here five same p) e in
-      expression-entry (here .describes) (omega (arith, expressions-count (here .describes)))
+      omega (arith, expressions-count (here .describes))
 
 -- ---- an expression's uses, from its kind byte
 module _ {image : List ℕ} {x : Design} {place n k : ℕ} (here : ExpressionAt image x place n) (same : k ≡ nodeIn image place n .kind) where
   pub uses-operation :
-      (t : List ℕ) {u v : List ℕ} {a b : ℕ}
+      (t : List ℕ) {v : List ℕ} {a b : ℕ}
       → 2 ≤ k
       → k < expressionKinds
       → a ≡ nodeIn image place n .a
       → b ≡ nodeIn image place n .b
-      → u ≡ countUse t a
-      → v ≡ countUse u b
+      → v ≡ countUses t (a ∷ b ∷ [])
       → v ≡ countUses t (operandsOf (designOf image) n)
-  uses-operation t low high p q g h =
+  uses-operation t low high p q h =
       let o = operation here high (omega arith) (λ e. omega arith) same in
-      use-two t (operands (expressionAt (designOf image) n) (o .1)) (first-is here p) (second-is here q) g h
+      use-two t (operands (expressionAt (designOf image) n) (o .1)) (first-is here p) (second-is here q) h
 
   no-operation : {t : List ℕ} → ((o : Operation) → expressionKind k ≡ operates o → ⊥) → t ≡ countUses t (operandsOf (designOf image) n)
   no-operation h =
@@ -178,24 +171,17 @@ module _ {image : List ℕ} {x : Design} (d : Describes image x) {s m : ℕ} (l 
   pub uses-body : (t : List ℕ) {v : List ℕ} → v ≡ countUse t m → v ≡ countUses t (commandOf (designOf image) s)
   uses-body t h = use-one t refl (body-is d l same) h
 
-  pub body-inside : StatesKept (designOf image) → m < commandsMax
-  body-inside kept = command-entry d (body-below d l same kept)
+  pub body-inside : {long : ℕ} → StatesKept (designOf image) → x .commands ≤ long → m < long
+  body-inside kept inside = let below = body-below d l same kept in omega arith
 
 -- ---- refusal 6, where every record keeps its rule
-module _ {image : List ℕ} {x : Design} (d : Describes image x) {t : List ℕ} (commands : lowestFailing (commandKept (designOf image)) (length (designOf image .commands)) ≡ Nowhere) where
-  pub command-uses-told :
-      t ≡ countUses (replicate commandsMax 0) (joinBelow (commandOf (designOf image)) (length (designOf image .states)) ++ joinBelow (partsOf (designOf image)) (keptCommands (designOf image)))
-      → OnceWhere (commandUsedOnce (designOf image)) t (x .commands)
+module _ (d : Table) {n : ℕ} {t₀ t : List ℕ} (fresh : Fresh n t₀) where
+  pub command-uses-told : t ≡ countUses t₀ (joinBelow (commandOf d) (length (d .states)) ++ joinBelow (partsOf d) (length (d .commands))) → OnceWhere (commandUsedOnce d) t n
   unfolding commandUsedOnce commandUses
-  command-uses-told p =
-      counted-once commandsMax _ (rw commands at p) (commands-most d)
+  command-uses-told p = counted-once _ fresh p
 
-  pub expression-uses-told :
-      lowestFailing (expressionKept (designOf image)) (length (designOf image .expressions)) ≡ Nowhere
-      → t ≡ countUses (replicate expressionsMax 0) (joinBelow (expressionOf (designOf image)) (keptCommands (designOf image)) ++ joinBelow (operandsOf (designOf image)) (keptExpressions (designOf image)))
-      → OnceWhere (expressionUsedOnce (designOf image)) t (x .expressions)
+  pub expression-uses-told : t ≡ countUses t₀ (joinBelow (expressionOf d) (length (d .commands)) ++ joinBelow (operandsOf d) (length (d .expressions))) → OnceWhere (expressionUsedOnce d) t n
   unfolding expressionUsedOnce expressionUses
-  expression-uses-told expressions p =
-      counted-once expressionsMax _ (rw (commands, expressions) at p) (expressions-most d)
+  expression-uses-told p = counted-once _ fresh p
 
 pub ruleset use-laws = (uses-sequence, uses-branch, uses-no-part, uses-expression, uses-no-expression, expression-inside, uses-operation, uses-low, uses-high, uses-body, body-inside)

@@ -2,13 +2,13 @@
 use Prim.Native.Nat.{ℕ, min, _+_, _≤_, _<_}
 use mathlib.Core.Path.{_≡_}
 use mathlib.Core.Bool.{Bool}
-use mathlib.Core.List.{List, [], _∷_, _++_}
+use mathlib.Core.List.{List, [], _∷_}
 use lib.Dec.{leb, eqb}
-use lib.ListN.{length, getD, set, replicate}
+use lib.ListN.{length, getD, set}
 use Rattle.model.specs.declared.Found.{Found}
 use Rattle.model.specs.declared.Found.the-variants.{At, Nowhere}
 use Rattle.model.specs.Indices.{lowestFailing, joinBelow}
-use Rattle.model.specs.Limits.{commandsMax, expressionsMax, depthMax}
+use Rattle.model.specs.Limits.{depthMax}
 use Rattle.model.specs.Image.{Design, designOf, stateAt, commandAt, expressionAt}
 use Rattle.model.specs.Kinds.{commandKind, expressionKind, commandKept, expressionKept}
 use Rattle.model.specs.Trees.{exprOf, cmdOf, exprDepth, cmdDepth}
@@ -64,20 +64,17 @@ pub record ExpressionsPassed (d : Design) (f : Found) (uses₀ uses depths₀ de
   pub counted : uses ≡ countUses uses₀ (joinBelow (operandsOf d) (passed f (length (d .expressions))))
   pub filled : Filled (λ k. depthEntry (exprDepth (exprOf d k))) depths₀ (passed f (length (d .expressions))) depths
 
--- how many nodes of a family stand before the first whose record breaks its rule
-abbrev pub keptCommands : Design → ℕ
-keptCommands d = passed (lowestFailing (commandKept d) (length (d .commands))) (length (d .commands))
+-- a table of counts for n nodes that has counted nothing
+pub record Fresh (n : ℕ) (table : List ℕ) : Type 0 where
+  pub long : n ≤ length table
+  pub entry : (k : ℕ) → k < n → getD table k 0 ≡ 0
 
-abbrev pub keptExpressions : Design → ℕ
-keptExpressions d = passed (lowestFailing (expressionKept d) (length (d .expressions))) (length (d .expressions))
-
--- what both loops found, and what they leave in four tables that were fresh; the uses by states are counted before them
-pub record NodesPassed (d : Design) (f : Found) (commandUses expressionUses commandDepths expressionDepths : List ℕ) : Type 0 where
-  pub found : f ≡ lowestNode d (commandKept d) (expressionKept d)
-  pub commands-counted : commandUses ≡ countUses (replicate commandsMax 0) (joinBelow (commandOf d) (length (d .states)) ++ joinBelow (partsOf d) (keptCommands d))
-  pub expressions-counted : expressionUses ≡ countUses (replicate expressionsMax 0) (joinBelow (expressionOf d) (keptCommands d) ++ joinBelow (operandsOf d) (keptExpressions d))
-  pub commands-filled : Filled (λ k. depthEntry (cmdDepth (cmdOf d k))) (replicate commandsMax 0) (keptCommands d) commandDepths
-  pub expressions-filled : Filled (λ k. depthEntry (exprDepth (exprOf d k))) (replicate expressionsMax 0) (keptExpressions d) expressionDepths
+-- four tables for the nodes of a design, of which those of counts are fresh
+pub record NodesFresh (x : Described) (commandUses expressionUses commandDepths expressionDepths : List ℕ) : Type 0 where
+  pub command-uses : Fresh (x .commands) commandUses
+  pub expression-uses : Fresh (x .expressions) expressionUses
+  pub command-depths : x .commands ≤ length commandDepths
+  pub expression-depths : x .expressions ≤ length expressionDepths
 
 -- a table of counts that has 1 exactly where one of n nodes keeps the rule, and a table of depths that has at most the limit exactly there
 pub record OnceWhere (rule : ℕ → Bool) (table : List ℕ) (n : ℕ) : Type 0 where
@@ -94,3 +91,8 @@ pub record NodesTold (image : List ℕ) (x : Described) (commandUses expressionU
   pub expression-uses : OnceWhere (expressionUsedOnce (designOf image)) expressionUses (x .expressions)
   pub command-depths : ShallowWhere (commandDepthKept (designOf image)) commandDepths (x .commands)
   pub expression-depths : ShallowWhere (expressionDepthKept (designOf image)) expressionDepths (x .expressions)
+
+-- what both loops found and, where that is nothing, what the four tables then tell, which were fresh; the uses by states are counted before the loops
+pub record NodesPassed (image : List ℕ) (x : Described) (f : Found) (commandUses expressionUses commandDepths expressionDepths : List ℕ) : Type 0 where
+  pub found : f ≡ lowestNode (designOf image) (commandKept (designOf image)) (expressionKept (designOf image))
+  pub told : f ≡ Nowhere → NodesTold image x commandUses expressionUses commandDepths expressionDepths

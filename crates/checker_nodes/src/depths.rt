@@ -37,9 +37,10 @@ fn above(p: u8, q: u8) -> u8
 }
 
 // The entry of command n, from those of the commands below n.
-pub fn command_depth(image: &[u8], design: Design, depths: &[u8; Design::COMMANDS], n: usize) -> u8
+pub fn command_depth(image: &[u8], design: Design, depths: &[u8], n: usize) -> u8
     requires { ⌜ CommandAt (now image) design (design .«commands_at») n
-        × Depths (now depths) (λ k. cmdDepth (cmdOf (designOf (now image)) k)) n ⌝ }
+        × Depths (now depths) (λ k. cmdDepth (cmdOf (designOf (now image)) k)) n
+        × (design .commands ≤ length (now depths)) ⌝ }
     ensures { λ r. ⌜ r ≡ depthEntry (cmdDepth (cmdOf (designOf (now (image .entry))) n)) ⌝ }
 {
     let at = design.commands_at;
@@ -55,14 +56,10 @@ pub fn command_depth(image: &[u8], design: Design, depths: &[u8; Design::COMMAND
 }
 
 // The entry of expression n, from those of the expressions below n.
-pub fn expression_depth(
-    image: &[u8],
-    design: Design,
-    depths: &[u8; Design::EXPRESSIONS],
-    n: usize,
-) -> u8
+pub fn expression_depth(image: &[u8], design: Design, depths: &[u8], n: usize) -> u8
     requires { ⌜ ExpressionAt (now image) design (design .«expressions_at») n
-        × Depths (now depths) (λ k. exprDepth (exprOf (designOf (now image)) k)) n ⌝ }
+        × Depths (now depths) (λ k. exprDepth (exprOf (designOf (now image)) k)) n
+        × (design .expressions ≤ length (now depths)) ⌝ }
     ensures { λ r. ⌜ r ≡ depthEntry (exprDepth (exprOf (designOf (now (image .entry))) n)) ⌝ }
 {
     let at = design.expressions_at;

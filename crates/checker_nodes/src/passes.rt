@@ -9,22 +9,25 @@ use crate::uses::use_operands;
 use crate::uses::use_parts;
 use design::Design;
 use model::Found;
-ghost use mathlib.Core.Path.{_≡_};
+ghost use Prim.Native.Nat.{_≤_};
 ghost use lib.ListN.{length};
-ghost use Rattle.model.specs.Limits.{commandsMax, expressionsMax};
 ghost use Rattle.model.specs.Image.{designOf};
 ghost use Rattle.design.specs.Describes.{Describes};
 ghost use Rattle.checker_nodes.specs.Tables.{CommandsPassed, ExpressionsPassed};
 
-// Every command in turn: its record is judged, its uses are counted, its depth is taken.
+// Every command in turn: its record is judged, its depth is taken, its uses are counted. What only reads
+// the record stands before the first store, behind which a compiler would read the record again.
 pub fn commands(
     image: &[u8],
     design: Design,
-    uses: &mut [u8; Design::COMMANDS],
-    expression_uses: &mut [u8; Design::EXPRESSIONS],
-    depths: &mut [u8; Design::COMMANDS],
+    uses: &mut [u8],
+    expression_uses: &mut [u8],
+    depths: &mut [u8],
 ) -> Found
-    requires { ⌜ Describes (now image) design × (length (now depths) ≡ commandsMax) ⌝ }
+    requires { ⌜ Describes (now image) design
+        × (design .commands ≤ length (now uses))
+        × (design .expressions ≤ length (now «expression_uses»))
+        × (design .commands ≤ length (now depths)) ⌝ }
     ensures { λ f. ⌜ CommandsPassed (designOf (now (image .entry))) f (now (uses .entry)) (now (uses .exit)) (now («expression_uses» .entry)) (now («expression_uses» .exit)) (now (depths .entry)) (now (depths .exit)) ⌝ }
 {
     let mut n = 0;
@@ -32,9 +35,9 @@ pub fn commands(
         if !command_kept(image, design, n) {
             return Found::At(n);
         }
+        let depth = command_depth(image, design, depths, n);
         use_parts(uses, image, design, n);
         use_command_expression(expression_uses, image, design, n);
-        let depth = command_depth(image, design, depths, n);
         depths[n] = depth;
         n += 1;
     }
@@ -42,13 +45,10 @@ pub fn commands(
 }
 
 // Every expression in turn, likewise.
-pub fn expressions(
-    image: &[u8],
-    design: Design,
-    uses: &mut [u8; Design::EXPRESSIONS],
-    depths: &mut [u8; Design::EXPRESSIONS],
-) -> Found
-    requires { ⌜ Describes (now image) design × (length (now depths) ≡ expressionsMax) ⌝ }
+pub fn expressions(image: &[u8], design: Design, uses: &mut [u8], depths: &mut [u8]) -> Found
+    requires { ⌜ Describes (now image) design
+        × (design .expressions ≤ length (now uses))
+        × (design .expressions ≤ length (now depths)) ⌝ }
     ensures { λ f. ⌜ ExpressionsPassed (designOf (now (image .entry))) f (now (uses .entry)) (now (uses .exit)) (now (depths .entry)) (now (depths .exit)) ⌝ }
 {
     let mut n = 0;
@@ -56,8 +56,8 @@ pub fn expressions(
         if !expression_kept(image, design, n) {
             return Found::At(n);
         }
-        use_operands(uses, image, design, n);
         let depth = expression_depth(image, design, depths, n);
+        use_operands(uses, image, design, n);
         depths[n] = depth;
         n += 1;
     }

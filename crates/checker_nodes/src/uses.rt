@@ -4,10 +4,10 @@ use design::Design;
 use model::Found;
 ghost use Prim.Native.Nat.{_+_, _<_, _≤_, min};
 ghost use mathlib.Core.Path.{_≡_};
+ghost use mathlib.Core.List.{[], _∷_};
 ghost use lib.Dec.{eqb};
 ghost use lib.ListN.{length, getD};
 ghost use Rattle.model.specs.Indices.{lowestFailing, joinBelow};
-ghost use Rattle.model.specs.Limits.{commandsMax, expressionsMax};
 ghost use Rattle.model.specs.Image.{designOf};
 ghost use Rattle.design.specs.Describes.{Describes};
 ghost use Rattle.design.specs.RecordsAt.{CommandAt, ExpressionAt};
@@ -24,27 +24,27 @@ fn one_more(uses: u8) -> u8
     2
 }
 
-// One more use of command k.
-fn use_command(table: &mut [u8; Design::COMMANDS], k: usize)
-    requires { ⌜ k < commandsMax ⌝ }
+// One more use of node k.
+fn use_node(table: &mut [u8], k: usize)
+    requires { ⌜ k < length (now table) ⌝ }
     ensures { λ r. ⌜ now (table .exit) ≡ countUse (now (table .entry)) k ⌝ }
 {
     let uses = one_more(table[k]);
     table[k] = uses;
 }
 
-// One more use of expression k.
-fn use_expression(table: &mut [u8; Design::EXPRESSIONS], k: usize)
-    requires { ⌜ k < expressionsMax ⌝ }
-    ensures { λ r. ⌜ now (table .exit) ≡ countUse (now (table .entry)) k ⌝ }
+// One more use of each of two nodes.
+fn use_both(table: &mut [u8], a: usize, b: usize)
+    requires { ⌜ (a < length (now table)) × (b < length (now table)) ⌝ }
+    ensures { λ r. ⌜ now (table .exit) ≡ countUses (now (table .entry)) (a ∷ b ∷ []) ⌝ }
 {
-    let uses = one_more(table[k]);
-    table[k] = uses;
+    use_node(table, a);
+    use_node(table, b);
 }
 
 // Command n uses the commands that are its parts.
-pub fn use_parts(table: &mut [u8; Design::COMMANDS], image: &[u8], design: Design, n: usize)
-    requires { ⌜ CommandAt (now image) design (design .«commands_at») n ⌝ }
+pub fn use_parts(table: &mut [u8], image: &[u8], design: Design, n: usize)
+    requires { ⌜ CommandAt (now image) design (design .«commands_at») n × (design .commands ≤ length (now table)) ⌝ }
     ensures { λ r. ⌜ now (table .exit) ≡ countUses (now (table .entry)) (partsOf (designOf (now (image .entry))) n) ⌝ }
 {
     let at = design.commands_at;
@@ -53,40 +53,29 @@ pub fn use_parts(table: &mut [u8; Design::COMMANDS], image: &[u8], design: Desig
     let b = Design::part_b(image, at, n);
     let c = Design::part_c(image, at, n);
     match kind {
-        2 => {
-            use_command(table, a);
-            use_command(table, b);
-        }
-        5 => {
-            use_command(table, b);
-            use_command(table, c);
-        }
+        2 => use_both(table, a, b),
+        5 => use_both(table, b, c),
         _ => {}
     }
 }
 
 // Command n uses the expression that is its part.
-pub fn use_command_expression(
-    table: &mut [u8; Design::EXPRESSIONS],
-    image: &[u8],
-    design: Design,
-    n: usize,
-)
-    requires { ⌜ CommandAt (now image) design (design .«commands_at») n ⌝ }
+pub fn use_command_expression(table: &mut [u8], image: &[u8], design: Design, n: usize)
+    requires { ⌜ CommandAt (now image) design (design .«commands_at») n × (design .expressions ≤ length (now table)) ⌝ }
     ensures { λ r. ⌜ now (table .exit) ≡ countUses (now (table .entry)) (expressionOf (designOf (now (image .entry))) n) ⌝ }
 {
     let at = design.commands_at;
     let kind = Design::kind(image, at, n);
     let a = Design::part_a(image, at, n);
     match kind {
-        1 | 5 => use_expression(table, a),
+        1 | 5 => use_node(table, a),
         _ => {}
     }
 }
 
 // Expression n uses the expressions that are its parts.
-pub fn use_operands(table: &mut [u8; Design::EXPRESSIONS], image: &[u8], design: Design, n: usize)
-    requires { ⌜ ExpressionAt (now image) design (design .«expressions_at») n ⌝ }
+pub fn use_operands(table: &mut [u8], image: &[u8], design: Design, n: usize)
+    requires { ⌜ ExpressionAt (now image) design (design .«expressions_at») n × (design .expressions ≤ length (now table)) ⌝ }
     ensures { λ r. ⌜ now (table .exit) ≡ countUses (now (table .entry)) (operandsOf (designOf (now (image .entry))) n) ⌝ }
 {
     let at = design.expressions_at;
@@ -94,25 +83,23 @@ pub fn use_operands(table: &mut [u8; Design::EXPRESSIONS], image: &[u8], design:
     let a = Design::part_a(image, at, n);
     let b = Design::part_b(image, at, n);
     match kind {
-        2..=11 => {
-            use_expression(table, a);
-            use_expression(table, b);
-        }
+        2..=11 => use_both(table, a, b),
         _ => {}
     }
 }
 
 // Every state uses its command.
-pub fn use_bodies(table: &mut [u8; Design::COMMANDS], image: &[u8], design: Design)
+pub fn use_bodies(table: &mut [u8], image: &[u8], design: Design)
     requires { ⌜ Describes (now image) design
-        × StatesKept (designOf (now image)) ⌝ }
+        × StatesKept (designOf (now image))
+        × (design .commands ≤ length (now table)) ⌝ }
     ensures { λ r. ⌜ now (table .exit) ≡ countUses (now (table .entry)) (joinBelow (commandOf (designOf (now (image .entry)))) (length ((designOf (now (image .entry))) .states))) ⌝ }
 {
     let at = design.states_at;
     let mut s = 0;
     while s < design.states {
         let command = Design::state_command(image, at, s);
-        use_command(table, command);
+        use_node(table, command);
         s += 1;
     }
 }

@@ -4,12 +4,6 @@ use Rattle.design.proofs.FieldRules.{expression-place-inside}
 use borrow.Author.Needs.{needs}
 use Rattle.checker_nodes.proofs.uses.use_operands.Statement.{statement}
 use Rattle.checker_nodes.proofs.uses.use_operands.Tie as tie
-use Rattle.checker_nodes.proofs.uses.use_operands.Reads as reads
-use Rattle.checker_nodes.proofs.uses.use_operands.Lts as lts
-use Rattle.design.proofs.Design.kind.Reads as kind-reads
-use Rattle.design.proofs.Design.part_a.Reads as part-a-reads
-use Rattle.design.proofs.Design.part_b.Reads as part-b-reads
-use Rattle.checker_nodes.proofs.uses.use_expression.Reads as use-expression-reads
 
 kind-requires : tie.Need-kind-requires
 kind-requires c κs = search (expression-place-inside, needs)
@@ -20,20 +14,20 @@ part-a-requires c κs = search (expression-place-inside, needs)
 part-b-requires : tie.Need-part-b-requires
 part-b-requires c κs = search (expression-place-inside, needs)
 
-use-expression-requires : tie.Need-use-expression-requires
-use-expression-requires c κs = search (expression-part-laws, use-laws, needs)
-
-use-expression-requires-2 : tie.Need-use-expression-requires-2
-use-expression-requires-2 c κs = search (expression-part-laws, use-laws, needs)
+use-both-requires : tie.Need-use-both-requires
+use-both-requires c κs = search (expression-part-laws, needs)
 
 returns : tie.Need-returns
-returns c = search (expression-part-laws, use-laws, needs)
+returns c = search (use-laws, needs)
+
+same-length : tie.Need-same-length
+same-length c = search needs
 
 returns-2 : tie.Need-returns-2
-returns-2 c = search (expression-part-laws, use-laws, needs)
+returns-2 c = search (use-laws, needs)
 
 returns-3 : tie.Need-returns-3
-returns-3 c = search (expression-part-laws, use-laws, needs)
+returns-3 c = search (use-laws, needs)
 
 pub use-operands-spec : {M : Type 1} → statement M
 use-operands-spec =
@@ -42,8 +36,8 @@ use-operands-spec =
     kind-requires
     part-a-requires
     part-b-requires
-    use-expression-requires
-    use-expression-requires-2
+    use-both-requires
     returns
+    same-length
     returns-2
     returns-3)
