@@ -444,7 +444,7 @@ caisson_answer caisson_step_back(const uint8_t *image, size_t image_len,
  * image and does not overlap it. What it held before does not matter: on acceptance every byte of it is
  * written, on a refusal none. The call goes over the bodies at most CAISSON_REGISTERS * CAISSON_LABELS =
  * 1,024 times, again only where some label has risen, which on most designs is a few times. It takes
- * about as much stack as caisson_check, measured: 7,880 bytes on the lease design and 31,784 on the
+ * about as much stack as caisson_check, measured: 8,088 bytes on the lease design and 31,784 on the
  * deepest one. Refusals: the image checks 1 to 8, 16, 19 and 9, then 20, then 14 for the length of `out`,
  * then 18, all three with place 0.
  */
