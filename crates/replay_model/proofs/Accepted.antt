@@ -28,7 +28,8 @@ use Rattle.model.proofs.Independence.Relation.{Good, withRegister}
 use Rattle.model.proofs.Independence.Calls.{areas-of-lent}
 use Rattle.model.proofs.Independence.Widths.{set-fitting}
 use Rattle.model.proofs.Grouping.{Ready, Refuses, ready-or-refuses, ready-run, ready-good, cycles-good, good-ready}
-use Rattle.replay_model.specs.Traces.{TraceRecord, recordsOfCycle, applied, withRecords, replayed, supersededIn}
+use Rattle.replay_model.specs.declared.TraceRecord.{TraceRecord}
+use Rattle.replay_model.specs.Traces.{recordsOfCycle, applied, withRecords, replayed, supersededIn}
 use Rattle.replay_model.specs.Calls.{registerKept, replayAnswer, replay}
 use Rattle.replay_model.specs.Rules.{CycleKeeps, NamesPort, ValueFits, replayTable}
 use Rattle.replay_model.proofs.Laws.{Each, of-none, of-more, each-kept, each-at, each-make, Rising, rising-below, rising-between, rising-kept}

@@ -25,7 +25,8 @@ use Rattle.model.proofs.Independence.Relation.{Good}
 use Rattle.model.proofs.Independence.Calls.{areas-of-lent}
 use Rattle.model.proofs.Grouping.{ready-run, ready-good, ready-back, good-ready}
 use Rattle.model.proofs.Ports.{run-keeps-ports}
-use Rattle.replay_model.specs.Traces.{TraceRecord, recordAt, recordsOfCycle, applied, withRecords, replayed, supersededIn}
+use Rattle.replay_model.specs.declared.TraceRecord.{TraceRecord}
+use Rattle.replay_model.specs.Traces.{recordAt, recordsOfCycle, applied, withRecords, replayed, supersededIn}
 use Rattle.replay_model.specs.Calls.{traceAnswer, recordAnswer, recordsAnswer, replayAnswer, replay}
 use Rattle.replay_model.proofs.Laws.{bytes-are-bytes, Each, of-none, of-more, each-kept, each-make, replayed-none}
 use Rattle.replay_model.proofs.Accepted.{PortRecord, accepted-replays, replay-leaves, cycle-good, records-good, after-ready}

@@ -15,7 +15,8 @@ use Rattle.model.proofs.Exact.{verdict-exact}
 use Rattle.model.proofs.Independence.Relation.{Good, withRegister}
 use Rattle.model.proofs.Independence.Calls.{areas-of-lent, written, write-accepted, run-accepted}
 use Rattle.model.proofs.Grouping.{Ready, ready-good, ready-back, good-ready}
-use Rattle.replay_model.specs.Traces.{TraceRecord, recordsOfCycle, applied, withRecords, replayed}
+use Rattle.replay_model.specs.declared.TraceRecord.{TraceRecord}
+use Rattle.replay_model.specs.Traces.{recordsOfCycle, applied, withRecords, replayed}
 use Rattle.replay_model.specs.Calls.{replay}
 use Rattle.replay_model.specs.Views.{cycleByHand, byHand}
 use Rattle.replay_model.proofs.Laws.{Each, of-none, of-more, each-kept}

@@ -8,7 +8,8 @@ use Rattle.model.specs.Calls.{Lent, areasOf, run}
 use Rattle.model.specs.Parties.{writes, runs, atEnd}
 use Rattle.model.proofs.Opened.{told, lent, lentBound, judged, accepted, refused, resetLent}
 use Rattle.model.proofs.Designs.{lease, oneGroup}
-use Rattle.replay_model.specs.Traces.{TraceRecord, recordsOfCycle, replayed, tracePart, traceRest}
+use Rattle.replay_model.specs.declared.TraceRecord.{TraceRecord}
+use Rattle.replay_model.specs.Traces.{recordsOfCycle, replayed, tracePart, traceRest}
 use Rattle.replay_model.specs.Calls.{replay}
 use Rattle.replay_model.specs.Views.{byHand}
 use Rattle.replay_model.proofs.Opened.{replaying, reading, acceptedWith, meters, meterAreas, meterStart, answered, month}

@@ -9,7 +9,8 @@ use Rattle.model.specs.Image.{Design, designOf}
 use Rattle.model.specs.Answers.{numbersOf}
 use Rattle.model.specs.Machine.{Areas, afterLast}
 use Rattle.model.specs.Calls.{Lent, Left, areasOf, lentOf}
-use Rattle.replay_model.specs.Traces.{TraceRecord, replayed, supersededIn, tracePart, traceRest}
+use Rattle.replay_model.specs.declared.TraceRecord.{TraceRecord}
+use Rattle.replay_model.specs.Traces.{replayed, supersededIn, tracePart, traceRest}
 use Rattle.replay_model.specs.Calls.{replay}
 use Rattle.replay_model.proofs.Laws.{each-kept, each-map, recount, rising-part, rising-rest, after-append, replayed-sum, replayed-part, replayed-rest}
 use Rattle.replay_model.proofs.Superseded.{superseded-divided}

@@ -23,7 +23,8 @@ use Rattle.model.proofs.Laws.Found.{at-is-not-nowhere}
 use Rattle.model.proofs.Laws.Broken.{Finds, finds-at, Decides, decides-before, decides-none}
 use Rattle.model.proofs.Laws.Finds.{finds-each}
 use Rattle.model.proofs.Refused.{stage, run-decides, answers-by}
-use Rattle.replay_model.specs.Traces.{TraceRecord, recordAt, supersededIn}
+use Rattle.replay_model.specs.declared.TraceRecord.{TraceRecord}
+use Rattle.replay_model.specs.Traces.{recordAt, supersededIn}
 use Rattle.replay_model.specs.Calls.{traceAnswer, registerKept, valueKept, recordAnswer, recordsAnswer, replayAnswer, replay}
 use Rattle.replay_model.specs.Rules.{NamesPort, ValueFits, replayTable}
 use Rattle.replay_model.proofs.Laws.{cycle-iff}

@@ -13,7 +13,8 @@ use Rattle.model.specs.Calls.{Lent, areasOf}
 use Rattle.model.specs.Parties.{cycled, Remaining, aWrite, aCycle, registerSeen, valuesSeen, view, remaining, Use, withUnseen, start, history, remains, views, seenAtEnd}
 use Rattle.model.proofs.Independence.Lists.{remaining-append}
 use Rattle.model.proofs.Independence.Theorem.{independent}
-use Rattle.replay_model.specs.Traces.{TraceRecord, kept, recordsOfCycle, withRecords}
+use Rattle.replay_model.specs.declared.TraceRecord.{TraceRecord}
+use Rattle.replay_model.specs.Traces.{kept, recordsOfCycle, withRecords}
 use Rattle.replay_model.specs.Calls.{replay}
 use Rattle.replay_model.specs.Views.{byHand, traceSeen, ReplayUse, replayStart, Replays, replayViews, replaySeenAtEnd, IndependentReplays}
 use Rattle.replay_model.proofs.Laws.{bytes-are-bytes, kept-swap}
@@ -67,12 +68,12 @@ module _ (image : List ℕ) (level : ℕ) (u : ReplayUse (designOf image)) (n : 
   abbrev handUse : Use d
   handUse = record { lent = u .lent; lengths = u .lengths; given = u .given; within = u .within; calls = byHand (u .trace) 0 n }
 
-  start-bytes : AreBytes (replayStart image level u n .registers)
+  start-bytes : AreBytes (replayStart image level u .registers)
   unfolding replayStart withUnseen
   start-bytes = bytes-are-bytes _
 
-  made : Made image (replayStart image level u n) (byHand (u .trace) 0 n) (eventsByHand d (u .trace) 0 n (areasOf d (replayStart image level u n))) (replay image (replayStart image level u n) (u .trace) n .lent)
-  made = made-by-hand image (replayStart image level u n) start-bytes (u .trace) n replays
+  made : Made image (replayStart image level u) (byHand (u .trace) 0 n) (eventsByHand d (u .trace) 0 n (areasOf d (replayStart image level u))) (replay image (replayStart image level u) (u .trace) n .lent)
+  made = made-by-hand image (replayStart image level u) start-bytes (u .trace) n replays
 
   hand-remains : remains image level handUse ≡ remainsByHand (traceSeen d level (u .trace)) 0 n
   unfolding remains history start replayStart
@@ -82,7 +83,7 @@ module _ (image : List ℕ) (level : ℕ) (u : ReplayUse (designOf image)) (n : 
   unfolding views history start replayStart replayViews
   hand-views =
       ap (view d level) (made .happens)
-      ∙ view-cycles d level (eventsByHand d (u .trace) 0 n (areasOf d (replayStart image level u n)))
+      ∙ view-cycles d level (eventsByHand d (u .trace) 0 n (areasOf d (replayStart image level u)))
       ∙ ap (λ (ran : List Cycle). view d level (map cycled ran)) (cycles-by-hand d (u .trace) 0 n _)
 
   hand-at-end : seenAtEnd image level handUse ≡ replaySeenAtEnd image level u n

@@ -15,7 +15,8 @@ use Rattle.model.specs.Answers.{numbersOf}
 use Rattle.model.specs.Calls.{Lent, areasOf}
 use Rattle.model.proofs.Laws.Booleans.{decide, true-or-false, or-first, or-second, or-neither, false-unless-true}
 use Rattle.model.proofs.Laws.Equivalences.{equal-iff}
-use Rattle.replay_model.specs.Traces.{TraceRecord, kept, recordsOfCycle, applied, hasLater, supersededIn}
+use Rattle.replay_model.specs.declared.TraceRecord.{TraceRecord}
+use Rattle.replay_model.specs.Traces.{kept, recordsOfCycle, applied, hasLater, supersededIn}
 use Rattle.replay_model.specs.Calls.{replay}
 use Rattle.replay_model.proofs.Laws.{Each, of-none, of-more, Rising, none-rises, one-rises, rising-lower, replayed-same}
 use Rattle.replay_model.proofs.Accepted.{Replayable, accepted-replays, replay-leaves}

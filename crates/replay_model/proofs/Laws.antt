@@ -15,7 +15,8 @@ use Rattle.model.specs.Values.{bytesOf}
 use Rattle.model.specs.Machine.{Areas, Cycle, cycle, cycles, afterLast}
 use Rattle.model.proofs.Laws.Booleans.{and-first, and-second, and-both}
 use Rattle.model.proofs.Laws.Equivalences.{less-iff, at-most-iff, equal-iff, and-iff, same-tests}
-use Rattle.replay_model.specs.Traces.{TraceRecord, noRecord, recordAt, kept, recordsOfCycle, applied, withRecords, replayed, tracePart, traceRest}
+use Rattle.replay_model.specs.declared.TraceRecord.{TraceRecord}
+use Rattle.replay_model.specs.Traces.{noRecord, recordAt, kept, recordsOfCycle, applied, withRecords, replayed, tracePart, traceRest}
 use Rattle.replay_model.specs.Calls.{cycleKept}
 use Rattle.replay_model.specs.Rules.{CycleKeeps}
 

@@ -1,7 +1,7 @@
 -- The theorems about replays. `Promises` restates those that a reader looks for; the proved cases stand last.
 pub mod Laws
 pub mod Superseded
-pub mod Cursors
+pub mod Applied
 pub mod Exact
 pub mod Unchanged
 pub mod Accepted

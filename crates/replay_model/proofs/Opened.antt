@@ -8,7 +8,8 @@ use Rattle.model.specs.Calls.{Lent}
 use Rattle.model.specs.Parties.{givenUnseen, withUnseen}
 use Rattle.model.proofs.Opened.{sights, lent, accepted, refused}
 use Rattle.model.proofs.Designs.{oneState, chain, widthRecord, registerRecord, assigns, sequences, goesTo, reads, adds}
-use Rattle.replay_model.specs.Traces.{TraceRecord, kept, recordsOfCycle, applied, withRecords, replayed, hasLater, supersededIn, tracePart, traceRest}
+use Rattle.replay_model.specs.declared.TraceRecord.{TraceRecord}
+use Rattle.replay_model.specs.Traces.{kept, recordsOfCycle, applied, withRecords, replayed, hasLater, supersededIn, tracePart, traceRest}
 use Rattle.replay_model.specs.Calls.{cycleKept, traceAnswer, registerKept, valueKept, recordAnswer, recordsAnswer, replayAnswer, replay}
 use Rattle.replay_model.specs.Views.{cycleByHand, byHand, traceSeen, replayStart, replayViews, replaySeenAtEnd}
 

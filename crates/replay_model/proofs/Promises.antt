@@ -9,7 +9,8 @@ use Rattle.model.specs.Image.{AreBytes, designOf}
 use Rattle.model.specs.Answers.{numbersOf}
 use Rattle.model.specs.Calls.{Lent, areasOf, run}
 use Rattle.model.specs.Refusals.{AnswersBy, WithinWidths}
-use Rattle.replay_model.specs.Traces.{TraceRecord, replayed, supersededIn, tracePart, traceRest}
+use Rattle.replay_model.specs.declared.TraceRecord.{TraceRecord}
+use Rattle.replay_model.specs.Traces.{replayed, supersededIn, tracePart, traceRest}
 use Rattle.replay_model.specs.Calls.{replay}
 use Rattle.replay_model.specs.Rules.{replayTable}
 use Rattle.replay_model.specs.Views.{byHand, IndependentReplays}

@@ -13,7 +13,8 @@ use lib.ListN.{length, getD, set, take, replicate, length-set, length-replicate,
 use lib.Seq.{take-all, getD-set-same, getD-set-other}
 use Rattle.model.proofs.Laws.Booleans.{decide, true-or-false, false-unless-true, and-first, and-second, and-both, or-cases, or-first, or-second}
 use Rattle.model.proofs.Laws.Equivalences.{less-iff, at-most-iff, equal-iff, same-tests}
-use Rattle.replay_model.specs.Traces.{TraceRecord, recordAt, kept, hasLater, supersededIn, tracePart, traceRest}
+use Rattle.replay_model.specs.declared.TraceRecord.{TraceRecord}
+use Rattle.replay_model.specs.Traces.{recordAt, kept, hasLater, supersededIn, tracePart, traceRest}
 use Rattle.replay_model.proofs.Laws.{Each, of-none, of-more, Rising, none-rises, one-rises, rising-take, rising-before, recount, one-more}
 
 -- a test that fails where what it says is absurd

@@ -6,7 +6,7 @@ use Rattle.model.specs.declared.Answer.{Answer}
 use Rattle.model.specs.declared.Answer.the-variants.{Accepted, Refused}
 use Rattle.model.specs.Answers.{numbersOf}
 use Rattle.model.specs.Calls.{Lent}
-use Rattle.replay_model.specs.Traces.{TraceRecord}
+use Rattle.replay_model.specs.declared.TraceRecord.{TraceRecord}
 use Rattle.replay_model.specs.Calls.{replayAnswer, replay}
 
 pub replay-refused : (image : List ℕ) (lent : Lent) (trace : List TraceRecord) (n : ℕ) → (numbersOf (replay image lent trace n .answer) .number ≡ 0 → ⊥)

@@ -1,8 +1,8 @@
 -- 02, E10: the call. One function from everything lent and given to the answer and every byte of the two areas afterwards, refusals included; a trace is only read.
-use Prim.Native.Nat.{ℕ, zero, suc, _-_}
-use mathlib.Core.Bool.{Bool, _&&_, _||_, cond}
+use Prim.Native.Nat.{ℕ, _-_}
+use mathlib.Core.Bool.{Bool, _&&_, cond}
 use mathlib.Core.List.{List}
-use lib.Dec.{leb, ltb, eqb}
+use lib.Dec.{leb, ltb}
 use lib.ListN.{length}
 use Rattle.model.specs.declared.Found.{Found}
 use Rattle.model.specs.declared.Found.the-variants.{At, Nowhere}
@@ -15,7 +15,8 @@ use Rattle.model.specs.Verdict.{_before_, refusedAt}
 use Rattle.model.specs.Values.{fits}
 use Rattle.model.specs.Machine.{afterLast}
 use Rattle.model.specs.Calls.{Lent, Left, leaves, areasOf, lentOf, isWritable, runAnswer}
-use Rattle.replay_model.specs.Traces.{TraceRecord, recordAt, replayed, supersededIn}
+use Rattle.replay_model.specs.declared.TraceRecord.{TraceRecord}
+use Rattle.replay_model.specs.Traces.{recordAt, replayed, supersededIn}
 
 -- 23: "cycles that fall or reach n", at the lowest such record
 unfoldable pub cycleKept : List TraceRecord → ℕ → ℕ → Bool

@@ -7,7 +7,8 @@ use Rattle.model.specs.declared.Refusal.the-variants.{NoPort, PortValue, TraceC
 use Rattle.model.specs.Image.{Design, designOf, registerAt}
 use Rattle.model.specs.Calls.{Lent}
 use Rattle.model.specs.Refusals.{Pass, _asks_, each, runTable}
-use Rattle.replay_model.specs.Traces.{TraceRecord, recordAt}
+use Rattle.replay_model.specs.declared.TraceRecord.{TraceRecord}
+use Rattle.replay_model.specs.Traces.{recordAt}
 
 -- 23: no cycle falls, and none reaches n
 pub record CycleKeeps (trace : List TraceRecord) (n i : ℕ) : Type 0 where

@@ -1,17 +1,13 @@
 -- 02, E10: "The host's drivers keep the trace as a table of records (cycle from 0, register, value, 32 bits each)". What is applied before a cycle, and what is
 -- superseded.
-use Prim.Native.Nat.{ℕ, zero, suc, _+_, _-_}
+use Prim.Native.Nat.{ℕ, zero, suc, _-_}
 use mathlib.Core.Bool.{Bool, _&&_, _||_, false, cond}
 use mathlib.Core.List.{List, [], _∷_, map}
 use lib.Dec.{leb, ltb, eqb}
-use lib.ListN.{length, getD, set}
+use lib.ListN.{getD, set}
 use Rattle.model.specs.Image.{Design}
 use Rattle.model.specs.Machine.{Areas, Cycle, cycle}
-
-pub record TraceRecord : Type 0 where
-  pub cycle : ℕ
-  pub register : ℕ
-  pub value : ℕ
+use Rattle.replay_model.specs.declared.TraceRecord.{TraceRecord}
 
 -- past the last record
 abbrev pub noRecord : TraceRecord

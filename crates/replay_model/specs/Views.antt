@@ -2,7 +2,6 @@
 -- records at or below a level give that level equal views where neither is refused; the count is not part of the view."
 use Prim.Native.Nat.{ℕ, zero, suc, _<_, _^_}
 use mathlib.Core.Path.{_≡_}
-use mathlib.Core.Bool.{Bool}
 use mathlib.Core.List.{List, [], _∷_, _++_, map}
 use lib.ListN.{length}
 use Rattle.model.specs.declared.Answer.the-variants.{Accepted}
@@ -12,7 +11,8 @@ use Rattle.model.specs.Values.{wordsOf}
 use Rattle.model.specs.Answers.{numbersOf}
 use Rattle.model.specs.Calls.{Lent, areasOf, reset}
 use Rattle.model.specs.Parties.{Call, writes, runs, cycled, Seen, registerSeen, valuesSeen, view, RightLengths, withUnseen}
-use Rattle.replay_model.specs.Traces.{TraceRecord, kept, recordsOfCycle, replayed}
+use Rattle.replay_model.specs.declared.TraceRecord.{TraceRecord}
+use Rattle.replay_model.specs.Traces.{kept, recordsOfCycle, replayed}
 use Rattle.replay_model.specs.Calls.{replay}
 
 -- ---- by hand
@@ -38,20 +38,21 @@ pub record ReplayUse (d : Design) : Type 0 where
   pub within : (r : ℕ) → r < length (d .registers) → given r < 2 ^ registerAt d r .width
   pub trace : List TraceRecord
 
-module _ (image : List ℕ) (level : ℕ) (u : ReplayUse (designOf image)) (n : ℕ) where
+module _ (image : List ℕ) (level : ℕ) (u : ReplayUse (designOf image)) where
   unfoldable pub replayStart : Lent
   replayStart = withUnseen image level (u .given) (reset image (u .lent) .lent)
 
-  -- "where neither is refused"
-  abbrev pub Replays : Type 0
-  Replays = numbersOf (replay image replayStart (u .trace) n .answer) .number ≡ 0
+  module _ (n : ℕ) where
+    -- "where neither is refused"
+    abbrev pub Replays : Type 0
+    Replays = numbersOf (replay image replayStart (u .trace) n .answer) .number ≡ 0
 
-  -- 01's view, of the cycles of the replay
-  unfoldable pub replayViews : List Seen
-  replayViews = view (designOf image) level (map cycled (replayed (designOf image) (u .trace) 0 n (areasOf (designOf image) replayStart)))
+    -- 01's view, of the cycles of the replay
+    unfoldable pub replayViews : List Seen
+    replayViews = view (designOf image) level (map cycled (replayed (designOf image) (u .trace) 0 n (areasOf (designOf image) replayStart)))
 
-  unfoldable pub replaySeenAtEnd : List ℕ
-  replaySeenAtEnd = valuesSeen (designOf image) level (wordsOf (length (designOf image .registers)) (replay image replayStart (u .trace) n .lent .registers))
+    unfoldable pub replaySeenAtEnd : List ℕ
+    replaySeenAtEnd = valuesSeen (designOf image) level (wordsOf (length (designOf image .registers)) (replay image replayStart (u .trace) n .lent .registers))
 
 abbrev pub IndependentReplays : Type 0
 IndependentReplays =

@@ -7,7 +7,7 @@ use Rattle.model.specs.Answers.{Numbers, numbersOf}
 use Rattle.model.specs.Calls.{Lent}
 use Rattle.model.proofs.Opened.{accepted, refused, told, lent, lentBound}
 use Rattle.model.proofs.Designs.{highToLow}
-use Rattle.replay_model.specs.Traces.{TraceRecord}
+use Rattle.replay_model.specs.declared.TraceRecord.{TraceRecord}
 use Rattle.replay_model.specs.Calls.{replayAnswer, replay}
 use Rattle.replay_model.proofs.Opened.{replaying, reading, refusedWith, meters, meterAreas, meterStart, answered}
 

@@ -4,7 +4,8 @@ use mathlib.Core.Path.{_≡_, refl}
 use mathlib.Core.List.{List, [], _∷_, map}
 use Rattle.model.specs.Machine.{Areas}
 use Rattle.model.proofs.Opened.{accepted, told}
-use Rattle.replay_model.specs.Traces.{TraceRecord, withRecords, supersededIn}
+use Rattle.replay_model.specs.declared.TraceRecord.{TraceRecord}
+use Rattle.replay_model.specs.Traces.{withRecords, supersededIn}
 use Rattle.replay_model.specs.Calls.{replay}
 use Rattle.replay_model.proofs.Opened.{replaying, reading, acceptedWith, meters, meterAreas, meterStart, answered}
 

@@ -10,7 +10,7 @@ use Rattle.model.specs.Answers.{Numbers, numbersOf}
 use Rattle.model.specs.Parties.{Seen}
 use Rattle.model.proofs.Opened.{everything, accepted, refused, lent, anyLent}
 use Rattle.model.proofs.Designs.{lease, oneState, diamond, registerRecord, goesTo}
-use Rattle.replay_model.specs.Traces.{TraceRecord}
+use Rattle.replay_model.specs.declared.TraceRecord.{TraceRecord}
 use Rattle.replay_model.specs.Calls.{replay}
 use Rattle.replay_model.specs.Views.{traceSeen, ReplayUse, replayStart, replayViews, replaySeenAtEnd, IndependentReplays}
 use Rattle.replay_model.proofs.Opened.{replaying, reading, meters, meterAreas, month}
@@ -49,7 +49,7 @@ meterUse list =
     }
 
 -- "Replayed from reset": with the values given to the registers out of sight, and to no others
-shows-replay-start : map (λ (level : ℕ). replayStart meters level (meterUse month) 4) (0 ∷ 1 ∷ []) ≡ meterAreas 0 0 4 0 0 ∷ meterAreas 0 0 4 0 50 ∷ []
+shows-replay-start : map (λ (level : ℕ). replayStart meters level (meterUse month)) (0 ∷ 1 ∷ []) ≡ meterAreas 0 0 4 0 0 ∷ meterAreas 0 0 4 0 50 ∷ []
 shows-replay-start = unfold replaying in refl
 
 -- "views": of each cycle the values in sight after it, and the states in sight that ran
@@ -109,7 +109,7 @@ abbrev busy : List TraceRecord
 busy = reading 0 3 1 ∷ reading 0 2 5 ∷ reading 0 3 2 ∷ reading 1 3 3 ∷ reading 1 3 4 ∷ reading 2 2 6 ∷ []
 
 abbrev countOf : ℕ → List TraceRecord → Numbers
-countOf level trace = numbersOf (replay meters (replayStart meters level (meterUse trace) 3) trace 3 .answer)
+countOf level trace = numbersOf (replay meters (replayStart meters level (meterUse trace)) trace 3 .answer)
 
 shows-alike : map (traceSeen (designOf meters) 0) (quiet ∷ busy ∷ []) ≡ quiet ∷ quiet ∷ []
 shows-alike = unfold replaying in refl
