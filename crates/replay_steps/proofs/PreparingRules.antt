@@ -1,0 +1,163 @@
+-- What is prepared before the trace: the largest values of the ports, one by one, and what a replay answers at each thing that it judges first.
+use Prim.Native.Nat.{ℕ, _+_, _*_, _-_, _%_, _^_, _≤_, _<_}
+use mathlib.Core.Path.{_≡_, refl, sym, _∙_, ap}
+use mathlib.Core.Bool.{Bool, true, false, not, cond}
+use mathlib.Core.List.{List}
+use native.Mathlib.Omega.{arith}
+use native.Mathlib.Decide.{ℕ-discrete, decLt}
+use lib.Dec.{leb, ltb}
+use lib.ListN.{length, getD, set, replicate, length-set, length-replicate, getD-replicate}
+use lib.Seq.{getD-set-same, getD-set-other}
+use lib.Pow.{pow-lt, ones-lt}
+use borrow.Author.Tests.{eq-eqb, ne-eqb, lt-ltb, le-ltb}
+use mir.Syntax.{w32}
+use mir.Val.{Fits}
+use Rattle.model.specs.declared.Refusal.{Refusal}
+use Rattle.model.specs.declared.Refusal.the-variants.{Area, CycleCount}
+use Rattle.model.specs.declared.Answer.{Answer}
+use Rattle.model.specs.declared.Answer.the-variants.{Accepted, Refused}
+use Rattle.model.specs.Limits.{cyclesMax, widthMax}
+use Rattle.model.specs.Image.{Design as Table, designOf}
+use Rattle.model.specs.Verdict.{verdict, refusedAt, _before_}
+use Rattle.model.specs.Calls.{Lent, lengthAnswer, cyclesAnswer, runAnswer}
+use Rattle.model.proofs.Laws.Booleans.{not-true, not-false}
+use Rattle.model.proofs.Laws.Verdict.{refused-is-not-accepted}
+use Rattle.design.specs.declared.Design.{Design}
+use Rattle.design.specs.Records.{registerIn}
+use Rattle.design.specs.Describes.{Describes}
+use Rattle.design.specs.Kept.{RecordsKept}
+use Rattle.design.specs.Resets.{lends}
+use Rattle.design.proofs.Laws.{registers-count}
+use Rattle.design.proofs.ShiftRules.{shifted-ones}
+use Rattle.design.proofs.WidthRules.{width-is}
+use Rattle.machine.specs.Cycles.{Running}
+use Rattle.calls.specs.Stages.{soundOn}
+use Rattle.calls.proofs.CallRules.{registers-few, port-rule, sound-before}
+use Rattle.replay_steps.specs.declared.preparing.Prepared.{Prepared}
+use Rattle.replay_steps.specs.Preparing.{largestOf, Largest, refusedWith, Preparing, PreparingOn}
+
+-- ---- the largest value of a port
+module _ {w : ℕ} (l : w ≤ widthMax) where
+  pub width-shifts : w < 64
+  width-shifts = omega arith
+
+  pub largest-fits : Fits w32 (1 * 2 ^ w % 18446744073709551616 - 1)
+  largest-fits = record { fits = rw (shifted-ones {n = w} (omega arith)) (go (ℕ-discrete w 32)) }
+    where
+      go : Dec (w ≡ 32) → 2 ^ w - 1 < 4294967296
+      go (yes e) = rw e (ones-lt 32)
+      go (no e) = let less : 2 ^ w < 2 ^ 32 = pow-lt {i = w} {j = 32} (omega arith) in let ones = ones-lt w in omega arith
+
+module _ {image : List ℕ} {x : Design} {r k : ℕ} (known : RecordsKept image x) (l : r < x .registers) (h : k ≡ registerIn image (x .«registers_at») r .kind) where
+  pub largest-none : (k ≡ 1 → ⊥) → 0 ≡ largestOf (designOf image) r
+  unfolding largestOf
+  largest-none other = rw (← port-rule (known .describes) l h, ne-eqb k 1 other)
+
+  pub largest-rule : {w : ℕ} → k ≡ 1 → w ≤ widthMax → w ≡ registerIn image (x .«registers_at») r .width → 1 * 2 ^ w % 18446744073709551616 - 1 ≡ largestOf (designOf image) r
+  unfolding largestOf
+  largest-rule {w} port narrow e = rw (← port-rule (known .describes) l h, eq-eqb k 1 port, ← width-is known l e) (shifted-ones {n = w} (omega arith))
+
+-- ---- of every register
+-- a fresh table
+pub largest-fresh : (d : Table) → Largest d 0 (replicate {A = ℕ} 64 0)
+largest-fresh d =
+    record {
+      long = length-replicate {A = ℕ} 64 0;
+      entry = λ r l. getD-replicate {A = ℕ} 64 r 0 0 l ∙ sym (rw (le-ltb r 0 (omega arith)));
+    }
+
+module _ {d : Table} where
+  pub same-long : {i : ℕ} {old table : List ℕ} → Largest d 0 old → Largest d i table → length table ≡ length old
+  same-long fresh so = so .long ∙ sym (fresh .long)
+
+  pub largest-to : {i n : ℕ} {table : List ℕ} → Largest d i table → i ≤ n → n ≤ i → Largest d n table
+  largest-to {i} {n} {table} so l h = let end : n ≡ i = omega arith in rw end so
+
+module _ {image : List ℕ} {x : Design} {i : ℕ} {table : List ℕ} (describes : Describes image x) (l : i < x .registers) (so : Largest (designOf image) i table) where
+  pub largest-inside : i < length table
+  largest-inside = let few = registers-few describes in let long = so .long in omega arith
+
+  pub largest-next : {v : ℕ} → v ≡ largestOf (designOf image) i → Largest (designOf image) (i + 1) (set table i v)
+  largest-next {v} is = record { long = length-set table i v ∙ so .long; entry = λ r b. go r b (ℕ-discrete r i) (decLt r i) }
+    where
+      beside : (r : ℕ) → r < 64 → (r ≡ i → ⊥) → getD (set table i v) r 0 ≡ cond (ltb r i) (largestOf (designOf image) r) 0
+      beside r b e = getD-set-other table i r v 0 (λ z. e (omega arith)) ∙ so .entry r b
+
+      go : (r : ℕ) → r < 64 → Dec (r ≡ i) → Dec (r < i) → getD (set table i v) r 0 ≡ cond (ltb r (i + 1)) (largestOf (designOf image) r) 0
+      go r b (yes e) near = rw (lt-ltb r (i + 1) (omega arith), e) (getD-set-same table i v 0 largest-inside ∙ is)
+      go r b (no e) (yes near) = rw (lt-ltb r (i + 1) (omega arith)) (beside r b e ∙ rw (lt-ltb r i near))
+      go r b (no e) (no far) = rw (le-ltb r (i + 1) (omega arith)) (beside r b e ∙ rw (le-ltb r i (omega arith)))
+
+-- ---- a refusal
+module _ (f : Refusal) (k n : ℕ) {p : Prepared} (made : p ≡ refusedWith f k n) where
+  refused-answer : p .answer ≡ Refused f k
+  unfolding refusedWith
+  refused-answer = ap (λ (q : Prepared). q .answer) made
+
+  refused-count : p .count ≡ n
+  unfolding refusedWith
+  refused-count = ap (λ (q : Prepared). q .count) made
+
+  refused-not : {m : ℕ} → p .answer ≡ Accepted m → ⊥
+  refused-not {m} h = refused-is-not-accepted f k m (sym refused-answer ∙ h)
+
+-- ---- on an image that is accepted
+abbrev onAccepted : Table → Lent → ℕ → Answer
+onAccepted d lent n = lengthAnswer d lent before soundOn d lent before cyclesAnswer n before Accepted n
+
+module _ (image registers targets : List ℕ) (n : ℕ) {p : Prepared} where
+  refuses : {f : Refusal} {k : ℕ} → p ≡ refusedWith f k n → onAccepted (designOf image) (lends registers targets) n ≡ Refused f k → PreparingOn image (lends registers targets) n p
+  refuses {f} {k} made is =
+      record {
+        answer = refused-answer f k n made ∙ sym is;
+        count = refused-count f k n made;
+        running = λ m h. absurd (refused-not f k n made h);
+        ports = λ m h. absurd (refused-not f k n made h);
+      }
+
+  pub lengths-refused : p ≡ refusedWith Area 0 n → lengthAnswer (designOf image) (lends registers targets) ≡ Refused Area 0 → PreparingOn image (lends registers targets) n p
+  unfolding _before_
+  lengths-refused made h = refuses made (rw h)
+
+  module _ {a : Answer} (right : lengthAnswer (designOf image) (lends registers targets) ≡ Accepted 0) (judged : a ≡ soundOn (designOf image) (lends registers targets)) where
+    pub unsound-refused : {f : Refusal} {k : ℕ} → a ≡ Refused f k → p ≡ refusedWith f k n → PreparingOn image (lends registers targets) n p
+    unfolding _before_
+    unsound-refused h made = refuses made (rw (right, ← judged, h))
+
+    module _ {c : ℕ} (sound : a ≡ Accepted c) {b : Bool} (e : b ≡ leb n cyclesMax) where
+      pub count-refused : not b ≡ true → p ≡ refusedWith CycleCount 0 n → PreparingOn image (lends registers targets) n p
+      unfolding _before_ cyclesAnswer refusedAt
+      count-refused h made = refuses made (rw (right, ← judged, sound, ← e, not-true b h))
+
+-- all is accepted
+module _ {image : List ℕ} {x : Design} (describes : Describes image x) {table inScope largest : List ℕ} (registers targets : List ℕ) (n : ℕ) where
+  pub all-prepared : {a : Answer} {c : ℕ} {b : Bool} → a ≡ soundOn (designOf image) (lends registers targets) → a ≡ Accepted c → lengthAnswer (designOf image) (lends registers targets) ≡ Accepted 0 → b ≡ leb n cyclesMax → not b ≡ false
+      → Running image x table inScope registers targets
+      → Largest (designOf image) (x .registers) largest
+      → PreparingOn image (lends registers targets) n (record { answer = Accepted n; count = n; design = x; defaults = table; scopes = inScope; largest = largest })
+  unfolding _before_ cyclesAnswer refusedAt
+  all-prepared {b = b} judged sound right e h running ports =
+      record {
+        answer = rw (right, ← judged, sound, ← e, not-false b h);
+        count = refl;
+        running = λ k a. running;
+        ports = λ k a. rw (← registers-count describes) ports;
+      }
+
+-- ---- the image first
+module _ (image : List ℕ) {a : Answer} (e : a ≡ verdict image) (lent : Lent) (n : ℕ) {p : Prepared} where
+  pub image-refused : {f : Refusal} {k : ℕ} → a ≡ Refused f k → p ≡ refusedWith f k n → Preparing image lent n p
+  unfolding runAnswer _before_
+  image-refused {f} {k} h made =
+      record {
+        answer = refused-answer f k n made ∙ rw (← e, h);
+        count = refused-count f k n made;
+        running = λ m g. absurd (refused-not f k n made g);
+        ports = λ m g. absurd (refused-not f k n made g);
+      }
+
+  pub image-accepted : {c : ℕ} → a ≡ Accepted c → PreparingOn image lent n p → Preparing image lent n p
+  unfolding runAnswer _before_
+  image-accepted h on =
+      let behind : onAccepted (designOf image) lent n ≡ runAnswer image lent n = rw (← e, h, ← sound-before (designOf image) lent (cyclesAnswer n before Accepted n)) in
+      record { answer = on .answer ∙ behind; count = on .count; running = on .running; ports = on .ports }
