@@ -10,3 +10,5 @@ pub mod GatePromises
 pub mod JournalAnswered
 pub mod JournalContracts
 pub mod JournalPromises
+pub mod ReplayContracts
+pub mod ReplayPromises

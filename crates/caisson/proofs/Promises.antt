@@ -63,7 +63,7 @@ refused-keeps image before after call h called refused =
     called-leaves image before after call h called ∙ meaning.refused-leaves image before call (λ z. refused (number ∙ z))
 
 -- ---- demand 3, of lists of exported calls
-all-called-ends : (image : List ℕ) (calls : List Call) (before after : Lent) → AllCalled image before calls after → after ≡ atEnd image before calls
+pub all-called-ends : (image : List ℕ) (calls : List Call) (before after : Lent) → AllCalled image before calls after → after ≡ atEnd image before calls
 unfolding atEnd
 all-called-ends image [] before after same = sym same
 all-called-ends image (call ∷ more) before after (h, between, called, others) =

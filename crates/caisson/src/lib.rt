@@ -2,6 +2,7 @@
 // them for a host.
 use calls::numbers::number;
 use model::Answer;
+use replay_model::TraceRecord;
 ghost use mathlib.Core.Path.{_≡_};
 ghost use Rattle.model.specs.Answers.{numbersOf};
 ghost use Rattle.model.specs.Calls.{check, registersLength, targetsLength, reset, writePort, run};
@@ -10,6 +11,7 @@ ghost use Rattle.design.specs.Resets.{lends};
 ghost use Rattle.gates_model.specs.Calls.{gatesCheck, gatesReset, gatesCycle};
 ghost use Rattle.journal_model.specs.Calls.{runJournalled, stepBack};
 ghost use Rattle.journal.specs.Stages.{lendsJournal};
+ghost use Rattle.replay_model.specs.Calls.{replay as replayOf};
 ghost use Rattle.caisson.specs.Told.{told, toldLeft, inNumbers, toldLeftRegisters, registersInNumbers, toldLeftOut, outInNumbers};
 ghost use Rattle.caisson.specs.ToldGates.{toldLeftFlipFlops, flipFlopsInNumbers};
 ghost use Rattle.caisson.specs.ToldJournal.{toldLeftJournal, journalInNumbers};
@@ -135,6 +137,21 @@ pub extern "C" fn caisson_step_back(
     ensures { λ r. ⌜ toldLeftJournal r (now (registers .exit)) (now (targets .exit)) (now (journal .exit)) ≡ journalInNumbers (stepBack (now (image .entry)) (lendsJournal (now (registers .entry)) (now (targets .entry)) (now (journal .entry))) cycles) ⌝ }
 {
     let answer = journal::step_back(image, registers, targets, journal, cycles);
+    in_numbers(answer)
+}
+
+// So many cycles, with the records of a trace applied before each.
+#[no_mangle]
+pub extern "C" fn caisson_replay(
+    image: &[u8],
+    registers: &mut [u8],
+    targets: &mut [u8],
+    trace: &[TraceRecord],
+    cycles: u32,
+) -> HostAnswer
+    ensures { λ r. ⌜ toldLeft r (now (registers .exit)) (now (targets .exit)) ≡ inNumbers (replayOf (now (image .entry)) (lends (now (registers .entry)) (now (targets .entry))) (now (trace .entry)) cycles) ⌝ }
+{
+    let answer = replay::records::replay(image, registers, targets, trace, cycles);
     in_numbers(answer)
 }
 
