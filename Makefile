@@ -46,8 +46,8 @@ tool: library
 	CARGO_TARGET_DIR=$(CURDIR)/target/tools \
 		cargo build --quiet --release --offline --manifest-path tools/Cargo.toml
 
-# Two boxes side by side with unlike readings for one party, which also go back by equal numbers, for
-# SOAK_SECONDS: at each level in turn, or at SOAK_LEVEL.
+# Two boxes side by side with unlike readings for one party, which also replay traces and go back by equal
+# numbers, for SOAK_SECONDS: at each level in turn, or at SOAK_LEVEL.
 soak: library
 	$(MAKE) target/soak/soak
 	target/soak/soak $(SOAK_DESIGN) --seconds $(SOAK_SECONDS) --seed $(SOAK_SEED) \
@@ -58,11 +58,13 @@ target/soak/soak: $(soak_sources) $(wildcard tests/soak/*.h host/*.h) include/ca
 	mkdir -p target/soak
 	$(soak_build) $(soak_sources) $(library) -o $@
 
-# The same with a run that leaks, and with a step back that does, for the test of the soak.
+# The same with a run that leaks, and with a step back and a replay that do, for the test of the soak.
 target/soak/leaky: tests/soak/testdata/leaky_run.c target/soak/soak
 	$(soak_build) -Wl,--wrap=caisson_run $< $(soak_sources) $(library) -o $@
 target/soak/leaky_back: tests/soak/testdata/leaky_back.c target/soak/soak
 	$(soak_build) -Wl,--wrap=caisson_step_back $< $(soak_sources) $(library) -o $@
+target/soak/leaky_replay: tests/soak/testdata/leaky_replay.c target/soak/soak
+	$(soak_build) -Wl,--wrap=caisson_replay $< $(soak_sources) $(library) -o $@
 
 # The library for a host; only what has changed is proved again.
 library:

@@ -97,6 +97,19 @@ caisson_answer box_run_journalled(struct box *box, struct journal *journal, uint
     return run_to_last(box, journal, cycles);
 }
 
+caisson_answer box_replay(struct box *box, const caisson_record *trace, size_t count, uint32_t cycles)
+{
+    uint8_t before[sizeof box->targets];
+    caisson_answer answer;
+
+    memcpy(before, box->targets, sizeof before);
+    answer = caisson_replay(box->image, box->image_length, box->registers, box->registers_length, box->targets,
+                            box->targets_length, trace, count, cycles);
+    if (answer.number == CAISSON_ACCEPTED && cycles == 1)
+        memcpy(box->targets_before, before, sizeof before);
+    return answer;
+}
+
 static caisson_answer step_back(struct box *box, uint8_t *journal, size_t length, uint32_t cycles)
 {
     caisson_answer answer =

@@ -2,8 +2,8 @@
  * box.h: a design with the two areas that are its state.
  *
  * The areas are changed by the functions below and by nothing else. That is more than tidiness: the
- * promise that parties are kept apart is about areas that only reset, port write, run and going back have
- * changed.
+ * promise that parties are kept apart is about areas that only reset, port write, run, replay and going back
+ * have changed.
  */
 #ifndef BOX_H
 #define BOX_H
@@ -21,7 +21,7 @@ struct box {
     uint8_t registers[CAISSON_REGISTERS * CAISSON_WORD];
     uint8_t targets[CAISSON_STATES * CAISSON_TARGET_LENGTH];
     /* Of a design with parameters, the targets and bindings that the last cycle began with; after a reset and
-       after going back, those that the next one begins with. */
+       after going back, those that the next one begins with. A replay of more than one cycle leaves them. */
     uint8_t targets_before[CAISSON_STATES * CAISSON_TARGET_LENGTH];
 };
 
@@ -38,7 +38,12 @@ caisson_answer box_write_port(struct box *box, uint32_t reg, uint32_t value);
 CAISSON_LOOK_AT_ANSWER
 caisson_answer box_run(struct box *box, uint32_t cycles);
 
-/* The same, and each cycle is saved in the journal. Where that is full, its oldest cycles are forgotten. */
+/* So many cycles, each with its records of the trace before it. Of a single one it is known which targets it began
+   with. */
+CAISSON_LOOK_AT_ANSWER
+caisson_answer box_replay(struct box *box, const caisson_record *trace, size_t count, uint32_t cycles);
+
+/* Runs, and each cycle is saved in the journal. Where that is full, its oldest cycles are forgotten. */
 CAISSON_LOOK_AT_ANSWER
 caisson_answer box_run_journalled(struct box *box, struct journal *journal, uint32_t cycles);
 

@@ -8,12 +8,17 @@
 #include "say.h"
 #include "table.h"
 
+void reading_too_large(const struct box *box, uint32_t reg, uint32_t value)
+{
+    say("  register %" PRIu32 " has width %" PRIu32 ": it takes 0 to %" PRIu32 ", not %" PRIu32 "\n", reg,
+        table_width(box->image, reg), table_most(box->image, reg), value);
+}
+
 void reading_refused(const struct box *box, uint32_t reg, uint32_t value, caisson_answer answer)
 {
     refusal_say(answer, box);
     if (answer.number == CAISSON_PORT_VALUE)
-        say("  register %" PRIu32 " has width %" PRIu32 ": it takes 0 to %" PRIu32 ", not %" PRIu32 "\n", reg,
-            table_width(box->image, reg), table_most(box->image, reg), value);
+        reading_too_large(box, reg, value);
 }
 
 enum status cycles_rehearse(const struct box *box, const struct trace *trace, const char *path)
@@ -113,8 +118,7 @@ static void summary_say(const struct site *site, const struct cycle_clock *clock
         say("the journal has the last %" PRIu64 " cycles\n", journal_reach(site->journal));
 }
 
-/* The cycle to end with. */
-static uint64_t last_cycle(const struct site *site)
+uint64_t cycles_last(const struct site *site)
 {
     if (site->options->limited)
         return site->options->cycles;
@@ -125,7 +129,7 @@ enum status cycles_run(struct site *site)
 {
     struct cycle_clock clock;
     enum status status = cycle_clock_start(&clock);
-    uint64_t last = last_cycle(site);
+    uint64_t last = cycles_last(site);
     bool paced = !site->options->fast;
 
     while (status == STATUS_DONE && site->done < last) {

@@ -20,6 +20,12 @@ struct site {
 /* What the library refuses a port write by, and of a value too large what its port would take. */
 void reading_refused(const struct box *box, uint32_t reg, uint32_t value, caisson_answer answer);
 
+/* The latter alone: what a port takes, and not this value. */
+void reading_too_large(const struct box *box, uint32_t reg, uint32_t value);
+
+/* The cycle to end with. */
+uint64_t cycles_last(const struct site *site);
+
 /*
  * Makes every port write of the trace on a copy of the box, so that a register that is no port is
  * found before the first cycle. STATUS_REFUSED, with a message that names file and line, at the first

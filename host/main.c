@@ -10,6 +10,7 @@
 #include "design.h"
 #include "record.h"
 #include "refusals.h"
+#include "replay.h"
 #include "say.h"
 
 static enum status refused(const char *path, caisson_answer answer)
@@ -77,6 +78,8 @@ static enum status operate(const struct options *options, const struct design *d
     answer = box_start(&box, design->image, design->length);
     if (answer.number != CAISSON_ACCEPTED)
         return refused(options->design, answer);
+    if (options->replay)
+        return replay_run(&site);
     status = cycles_rehearse(&box, trace, options->trace);
     return status == STATUS_DONE ? site_operate(&site) : status;
 }

@@ -12,6 +12,7 @@
 const char options_usage[] =
     "usage: outstation DESIGN TRACE [--fast] [--cycles N] [--every K] [--party NAME:LEVEL]... [--journal N]\n"
     "       outstation DESIGN [TRACE] --console [the same options]\n"
+    "       outstation DESIGN TRACE --replay [--cycles N] [--every K] [--party NAME:LEVEL]...\n"
     "  --fast              run as fast as possible, not 100 cycles a second\n"
     "  --cycles N          stop after N cycles, not after the last cycle that the trace names\n"
     "  --every K           a sample after each K cycles, not after each cycle\n"
@@ -19,6 +20,8 @@ const char options_usage[] =
     "  --journal N         keep a journal of the last N cycles at least, to go back to\n"
     "  --console           take commands from standard input afterwards, with a journal of 1000 cycles if\n"
     "                      none is asked for; `help` lists them\n"
+    "  --replay            hand the trace to the library, which makes the port writes and the cycles in one\n"
+    "                      call from sample to sample, as fast as possible\n"
     "A line of TRACE is CYCLE REGISTER VALUE. A VALUE below zero, as -40, is written to the port as its\n"
     "two's complement.\n";
 
@@ -86,6 +89,8 @@ static bool flag_read(struct options *options, const char *name)
         options->fast = true;
     else if (strcmp(name, "--console") == 0)
         options->console = true;
+    else if (strcmp(name, "--replay") == 0)
+        options->replay = true;
     else if (strcmp(name, "--help") == 0)
         options->help = true;
     else
@@ -126,6 +131,8 @@ enum status options_read(struct options *options, int argc, char **argv)
     }
     if (options->help)
         return STATUS_DONE;
+    if (options->replay && (options->console || options->journal > 0))
+        return wrong("--replay keeps no journal and goes with no console", "");
     if (options->console && options->design == NULL)
         return wrong("a design is needed", "");
     if (options->trace == NULL && !options->console)

@@ -15,6 +15,7 @@ struct options {
     bool limited;       /* `cycles` was given */
     uint64_t cycles;    /* how many to run */
     uint64_t every;     /* a sample after each so many cycles; at least 1 */
+    bool replay;        /* through caisson_replay, not by port writes and runs */
     bool console;       /* take commands afterwards */
     uint64_t journal;   /* keep a journal of so many cycles; 0: none */
     struct party *parties;

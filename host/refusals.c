@@ -11,7 +11,8 @@ enum place {
     PLACE_NODE, /* a command, or from CAISSON_EXPRESSION_PLACE on an expression */
     PLACE_AREA, /* 0 for a length, else a register or a state */
     PLACE_PARAMETER, /* a state, else a node */
-    PLACE_RECORD, /* of a port trace, which no call takes yet */
+    PLACE_RECORD, /* of a port trace */
+    PLACE_WRITE, /* a register, or of a replay a record */
     PLACE_WIRE  /* of a gate table, which this host does not run */
 };
 
@@ -48,6 +49,7 @@ static void place_say(enum place place, size_t number)
 {
     switch (place) {
     case PLACE_NONE:
+    case PLACE_WRITE: /* the call has told which */
         break;
     case PLACE_LABEL:
         say(" at label %zu", number);
@@ -83,17 +85,32 @@ static void place_say(enum place place, size_t number)
     }
 }
 
-void refusal_say(caisson_answer answer, const struct box *box)
+/* What the call tells of a place, beside its number: `write` is that of 13 and 17. */
+static enum place place_known(enum place place, const struct box *box, enum place write)
 {
-    enum place place;
+    if (place == PLACE_AREA)
+        return area_place(box);
+    return place == PLACE_WRITE ? write : place;
+}
 
+static void answer_say(caisson_answer answer, const struct box *box, enum place write)
+{
     say("refused by rule %u", (unsigned)answer.number);
     /* A later library may have more rules than this table. */
     if (answer.number >= sizeof rules / sizeof rules[0] || rules[answer.number].words == NULL) {
         say(" at place %zu, which this host has no words for.\n", answer.place);
         return;
     }
-    place = rules[answer.number].place;
-    place_say(place == PLACE_AREA ? area_place(box) : place, answer.place);
+    place_say(place_known(rules[answer.number].place, box, write), answer.place);
     say(": %s\n", rules[answer.number].words);
+}
+
+void refusal_say(caisson_answer answer, const struct box *box)
+{
+    answer_say(answer, box, PLACE_REGISTER);
+}
+
+void replay_refusal_say(caisson_answer answer, const struct box *box)
+{
+    answer_say(answer, box, PLACE_RECORD);
 }

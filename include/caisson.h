@@ -5,10 +5,10 @@
  * A design is a binary image of at most CAISSON_LARGEST_IMAGE bytes. The library keeps no state and
  * allocates nothing: a call works on the slices that it is lent and on its own stack, ends, and
  * relies on no earlier call. Each call makes its image checks again. The stack that a call takes is
- * measured, not proved: `make stack` shows less than 32 KB on the deepest design.
+ * measured, not proved: `make stack` shows less than 34 KB on the deepest design.
  *
- * A slice is a pointer and a length in bytes. The pointer may be NULL where the length is 0. The
- * slices of one call must not overlap. Nothing is read or written outside them.
+ * A slice is a pointer and a length in bytes, that of a port trace in records. The pointer may be NULL where
+ * the length is 0. The slices of one call must not overlap. Nothing is read or written outside them.
  *
  * Every call answers a caisson_answer. `number` is 0 on acceptance, else the refusal's number, one of
  * the caisson_refusal values below: of those that apply, the one judged first. Every call begins with
@@ -20,14 +20,16 @@
  *   a label, register or state   its number, from 0
  *   a command                    its node number, from 0
  *   an expression                CAISSON_EXPRESSION_PLACE plus its node number
+ *   a record of a port trace     its number in the trace, from 0
  *   nothing of these             0
  *
  * It is the lowest that breaks the rule; of 10 to 12 it is the first in reading order that breaks one
  * of them, whatever its number. Whether that of 14 is a register or a state, its words below say. That of
- * 19 is a state where the record of one breaks the rule, else a node.
- * `count` is the cycles that were run or gone back or the length that was asked for, and 0 on every
- * refusal. A refusal changes no byte of the areas, nor of a journal, nor of the area that caisson_raise
- * writes.
+ * 19 is a state where the record of one breaks the rule, else a node. That of 13 and 17 is a register in a
+ * port write and a record in a replay.
+ * `count` is the cycles that were run or gone back, the records that a replay superseded or the length that
+ * was asked for, and 0 on every refusal. A refusal changes no byte of the areas, nor of a journal, nor of the
+ * area that caisson_raise writes.
  *
  * The state of a design is two areas that the host owns and lends to each call: registers,
  * CAISSON_WORD bytes each, least significant byte first; and targets, one byte for each state, with
@@ -56,23 +58,30 @@
  * each cycle, so that caisson_step_back can restore them later. Its bytes stand at caisson_run_journalled. A
  * host that does not go back needs none.
  *
+ * Readings that were kept, as a table of records in the order of their cycles, can be run again by
+ * caisson_replay, which makes the port writes and the cycles in one call. It reads the table and writes both
+ * areas.
+ *
  * The parties are kept apart from a reset on, while nothing but caisson_reset, caisson_write_port,
- * caisson_run, caisson_run_journalled and caisson_step_back changes the areas, and while the journal began
- * empty, with a count of 0, and nothing but the last two has written it. So a host never restores areas in
- * another way, be it from a saved copy, a file or another box, and never a journal. A run refuses targets
- * and bindings that are not sound and no others, and so does going back of those that were saved: some that
- * are sound, but that no run from reset comes to, can show a low party a high register. After a power
- * failure, and whenever anything else may have written an area or a journal, the host resets, and begins
- * with an empty journal.
+ * caisson_run, caisson_replay, caisson_run_journalled and caisson_step_back changes the areas, and while the
+ * journal began empty, with a count of 0, and nothing but the last two has written it. So a host never
+ * restores areas in another way, be it from a saved copy, a file or another box, and never a journal. A run
+ * refuses targets and bindings that are not sound and no others, and so does going back of those that were
+ * saved: some that are sound, but that no run from reset comes to, can show a low party a high register.
+ * After a power failure, and whenever anything else may have written an area or a journal, the host resets,
+ * and begins with an empty journal.
  *
  * A party sees the same of two such hosts if their calls agree in all that it may see, and if both journal
  * the same cycles and go back by equal numbers at equal moments. So nothing hidden may decide when a host
  * journals, or when and how far it goes back. A journal has the registers of all levels in it: it is shown
- * to nobody who may not see them all.
+ * to nobody who may not see them all. A replay is in this the port writes and cycles that it makes: two
+ * replays from reset, of as many cycles and of traces that are equal in the records of the ports at or below
+ * a level, show that level the same, where neither is refused. How many records were superseded, and whether
+ * a trace is refused, depends on the records of all levels: it is told to nobody who may not see them all.
  *
  * Each register has a width of 1 to CAISSON_WIDTH bits and holds values below 2 to the power of it. In
  * the area it takes CAISSON_WORD bytes all the same, with zeros above its width. An assignment stores
- * its value modulo 2 to the power of the width. A reset, an accepted port write, an accepted run and going
+ * its value modulo 2 to the power of the width. A reset, an accepted port write, run or replay and going
  * back, where it restores a state, leave every register within its width. So 14 is answered for contents
  * only where a register area was not reset, or where the host has filled or changed it, or a journal, by
  * itself.
@@ -95,7 +104,7 @@ extern "C" {
 
 /* The version of the library and the number of the image's format. CHANGELOG.md says when each moves;
    docs/FORMAT.md has the format byte by byte. */
-#define CAISSON_VERSION "3.1.0"
+#define CAISSON_VERSION "3.2.0"
 #define CAISSON_FORMAT 3
 
 /* Limits of a design table. */
@@ -126,7 +135,7 @@ extern "C" {
 
 #define CAISSON_EXPRESSION_PLACE 1024u /* an expression's place is this plus its number */
 #define CAISSON_WORD 4u                /* bytes of a register in its area */
-#define CAISSON_CYCLES 1000000u        /* most cycles of one run */
+#define CAISSON_CYCLES 1000000u        /* most cycles of one run or replay */
 
 /* Bytes of the count that a journal begins with. */
 #define CAISSON_JOURNAL_COUNT_LENGTH 4u
@@ -212,8 +221,10 @@ enum caisson_refusal {
        has the label of the register bound to it, and the flow holds for each choice of labels
        within the bounds of the parameters in scope. Place: the node. */
     CAISSON_FALL_FLOW = 12,
-    /* A port write names a register that does not exist or that is inner. It is judged after 14.
-       Place: the register number given. */
+    /* A port write or a record of a port trace names a register that does not exist or that is
+       inner. It is judged after 14. A replay judges it after 23, in one pass with 17: the lowest
+       record that breaks either is answered. Place: the register number given; of a replay the
+       record, numbered from 0. */
     CAISSON_NO_PORT = 13,
     /* An area has the wrong length, a register holds a value that is too large for its width, or a
        run or going back finds a target or a binding that is not sound. They are judged in this
@@ -224,24 +235,26 @@ enum caisson_refusal {
        0 or the number of a register. Of the states along the current targets, from the root to a
        state without children, each parameter is bound to a register that the design has, that is no
        port and whose label lies within the bounds. The area for a raised image is exactly as long
-       as the image. A journalled run judges what a run does. Going back judges the lengths of both
-       areas before 21, and after 22 values, targets and bindings as a run does, not those of the
-       areas but those of the saved state that it is to restore. A gate table is lent one byte for
-       each input and two for each flip-flop; only their lengths are judged by 14. Place: 0 for a
-       length; the lowest register for a value; the lowest state for a target or a binding. */
+       as the image. A journalled run and a replay judge what a run does. Going back judges the
+       lengths of both areas before 21, and after 22 values, targets and bindings as a run does, not
+       those of the areas but those of the saved state that it is to restore. A gate table is lent
+       one byte for each input and two for each flip-flop; only their lengths are judged by 14.
+       Place: 0 for a length; the lowest register for a value; the lowest state for a target or a
+       binding. */
     CAISSON_AREA = 14,
-    /* A run asks for more than 1,000,000 cycles. It refuses a journalled run too. Going back has no
-       such limit. Place: 0. */
+    /* A run asks for more than 1,000,000 cycles. It refuses a journalled run and a replay too.
+       Going back has no such limit. Place: 0. */
     CAISSON_CYCLE_COUNT = 15,
     /* An assignment names a port, or a goto has a port as an argument. Ports belong to the host:
-       only a reset and a port write change them. Any expression may read them. The arguments of a
-       goto are its fields a and b, as many of them as the count of the state named says, and both
-       where it is above 2. It is judged after 8 and before 19 and 9. Place: the assignment or the
-       goto. */
+       only a reset, a port write and the records of a replay change them. Any expression may read
+       them. The arguments of a goto are its fields a and b, as many of them as the count of the
+       state named says, and both where it is above 2. It is judged after 8 and before 19 and 9.
+       Place: the assignment or the goto. */
     CAISSON_PORT_ASSIGNED = 16,
-    /* A port write has a value that is too large for the width of its port. A port of width w takes
-       values below 2 to the power of w. It is judged after 14 and 13. Place: the register number
-       given. */
+    /* A port write or a record of a port trace has a value that is too large for the width of its
+       port. A port of width w takes values below 2 to the power of w. It is judged after 14 and 13.
+       A replay judges it after 23, in one pass with 13: the lowest record that breaks either is
+       answered. Place: the register number given; of a replay the record, numbered from 0. */
     CAISSON_PORT_VALUE = 17,
     /* No raising of the image is accepted. A raising is the same image with labels of inner
        registers raised, never lowered; the labels of ports and states are fixed. It is judged after
@@ -272,9 +285,9 @@ enum caisson_refusal {
        of the saved state that is to be restored. Place: 0. */
     CAISSON_STEPS_BACK = 22,
     /* The cycle of a record of a port trace is below that of the record before it, or not below the
-       number of cycles to replay. It is judged after 15. No call answers it yet: the replay of a
-       port trace comes with request E10. Place: the lowest such record of the trace, numbered from
-       0. */
+       number of cycles to replay. The records of one cycle may be any number, and a cycle may have
+       none. With no cycles to replay every record is refused. It is judged after 15, and before 13
+       and 17. Place: the lowest such record of the trace, numbered from 0. */
     CAISSON_TRACE_CYCLE = 23,
     /* The directory of a gate table, a count of records or the length of a section is wrong. The
        directory is three pairs of 16-bit offset and length, sorted: the first offset is 12, each
@@ -295,9 +308,16 @@ typedef struct {
     uint32_t number; /* 0: accepted; otherwise a caisson_refusal */
     size_t place;    /* where; 0 on acceptance */
     size_t count;    /* accepted: of a run its cycles, with a journal or without, of going back the cycles
-                        gone back, of a length call the length in bytes, of every other call 0;
-                        refused: 0 */
+                        gone back, of a replay the records superseded, of a length call the length in
+                        bytes, of every other call 0; refused: 0 */
 } caisson_answer;
+
+/* A record of a port trace: a port write to be made before a cycle. */
+typedef struct {
+    uint32_t cycle; /* from 0: the first cycle of a replay has number 0 */
+    uint32_t reg;   /* the register's number, which must be a port */
+    uint32_t value; /* its new value, within the port's width */
+} caisson_record;
 
 #if defined(__GNUC__) || defined(__clang__)
 #define CAISSON_LOOK_AT_ANSWER __attribute__((warn_unused_result))
@@ -348,7 +368,7 @@ caisson_answer caisson_reset(const uint8_t *image, size_t image_len,
  * image. The call takes the register area only and judges all of it: every register must be within its
  * width, and stays so. No design changes a port: it keeps the value until the next write to it or the
  * next reset. Refusals: the image checks, then 14 for the area's length, 14 for a value too large in
- * it, then 13, then 17 for the value given.
+ * it, then 13, then 17 for the value given, both at the register number given.
  */
 CAISSON_LOOK_AT_ANSWER
 caisson_answer caisson_write_port(const uint8_t *image, size_t image_len,
@@ -371,6 +391,40 @@ caisson_answer caisson_run(const uint8_t *image, size_t image_len,
                            uint32_t cycles); /* how many */
 
 /*
+ * Replays a port trace: runs so many cycles, from 0 to CAISSON_CYCLES, numbered from 0, and before each makes
+ * the port writes of its records. It leaves in both areas what a host would have by making these port writes
+ * with caisson_write_port, in the order of the records, and each cycle with caisson_run.
+ *
+ * A trace is a table of caisson_record, in the order of their cycles, in which each cycle has any number of
+ * records or none. It is read as it is lent, and not written. Its length is the number of records, and it is
+ * aligned as C aligns a caisson_record, to 4 bytes, as every array of them is; without records it may be NULL.
+ *
+ * Of two records for one cycle and port the later supersedes the earlier, whatever stands between them, and
+ * whether or not their values differ. `count` is the number of records superseded: of three for one cycle and
+ * port it is 2, and records for other ports or other cycles are not counted together. A record that was
+ * superseded is judged like every other.
+ *
+ * A replay of n cycles and then one of m leave what one of n + m leaves, where the trace is divided at cycle
+ * n: the records below n are for the first and all others for the second, with n taken from the cycle of each.
+ * That is how a trace of more than CAISSON_CYCLES cycles is replayed. A replay of 0 cycles changes nothing and
+ * judges the same, so that every record is refused.
+ *
+ * Whether it is refused is known before the first cycle, so that a refusal changes nothing, whichever record
+ * it is of. Time is linear in the cycles and the records together, however many of these one cycle has. The
+ * call takes some 1,800 bytes of stack more than caisson_run, measured as above. No journal is kept. Refusals:
+ * those of caisson_run in their order, 15 last; then 23 at the lowest record whose cycle is below that of the
+ * record before it, or not below `cycles`; then 13 and 17 in one pass, at the lowest record that names no port
+ * (13), or whose value is too large for its port (17). The place of all three is the number of the record,
+ * from 0, and not a register.
+ */
+CAISSON_LOOK_AT_ANSWER
+caisson_answer caisson_replay(const uint8_t *image, size_t image_len,
+                              uint8_t *registers, size_t registers_len,
+                              uint8_t *targets, size_t targets_len,
+                              const caisson_record *trace, size_t trace_count, /* the records, and how many */
+                              uint32_t cycles);                                /* how many to run */
+
+/*
  * A run that can be gone back over: it does to both areas what caisson_run does, and also saves them into a
  * journal before every cycle.
  *
@@ -386,8 +440,8 @@ caisson_answer caisson_run(const uint8_t *image, size_t image_len,
  * each of these cycles. Its other bytes keep their values, those behind the last saved state too. The areas
  * and `count` are those that caisson_run gives. A run of 0 changes nothing, and judges the same. Two such
  * runs, one after the other, leave what one of all their cycles leaves. No other call but caisson_step_back
- * is lent the journal: port writes, resets and runs by caisson_run leave it as it is, and the cycles of
- * those runs are not counted.
+ * is lent the journal: port writes, resets, replays and runs by caisson_run leave it as it is, and the cycles
+ * of those replays and runs are not counted.
  *
  * The bytes of the journal are taken as lent: of the saved states that it counts already, nothing is judged
  * here. Refusals: those of caisson_run in their order, then 21 with place 0: the journal has less than

@@ -1,5 +1,5 @@
 /* Every refusal in words, at each kind of place, and two that no library of today gives: one between them
-   and one behind. Then 14 of a box in a design that is named, whose register 0 has less than 32 bits: at a
+   and one behind. Then some of a replay, and 14 of a box in a design that is named, whose register 0 has less than 32 bits: at a
    state, for its target and for its binding, and at a register. */
 #include "design.h"
 #include "refusals.h"
@@ -25,6 +25,16 @@ static void each_number(void)
     refusal_say((caisson_answer){CAISSON_AREA, 0, 0}, NULL);
 }
 
+/* A replay has 13 and 17 at a record, and the others where a run has them. */
+static void of_replays(void)
+{
+    replay_refusal_say((caisson_answer){CAISSON_NO_PORT, 6, 0}, NULL);
+    replay_refusal_say((caisson_answer){CAISSON_PORT_VALUE, 6, 0}, NULL);
+    replay_refusal_say((caisson_answer){CAISSON_TRACE_CYCLE, 6, 0}, NULL);
+    replay_refusal_say((caisson_answer){CAISSON_CYCLE_COUNT, 0, 0}, NULL);
+    replay_refusal_say((caisson_answer){CAISSON_AREA, 6, 0}, NULL);
+}
+
 /* What a host must not do: it changes the areas by itself. */
 static void areas(struct box *box)
 {
@@ -43,6 +53,7 @@ int main(int argc, char **argv)
     static struct box box;
 
     each_number();
+    of_replays();
     if (argc != 2 || design_load(&design, argv[1]) != STATUS_DONE ||
         box_start(&box, design.image, design.length).number != CAISSON_ACCEPTED)
         return 2;

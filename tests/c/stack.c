@@ -9,7 +9,7 @@
 #include "caisson.h"
 #include "table.h"
 
-enum { CYCLES = 1000, STACK = 1 << 20, PAGE = 4096, PAINT = 0xA5 };
+enum { CYCLES = 1000, EVERY = 100, STACK = 1 << 20, PAGE = 4096, PAINT = 0xA5 };
 
 /* One byte more than the largest image has, so that a longer file is refused. */
 static uint8_t image[CAISSON_LARGEST_IMAGE + 1u], raised[CAISSON_LARGEST_IMAGE + 1u];
@@ -50,6 +50,16 @@ static void *write_port(void *unused) {
 
 static void *run(void *unused) {
     answer = caisson_run(image, image_len, registers, registers_len, targets, targets_len, CYCLES);
+    return unused;
+}
+
+/* With a record for the port before every hundredth cycle. */
+static void *replay(void *unused) {
+    static caisson_record trace[CYCLES / EVERY];
+    for (uint32_t i = 0; i < CYCLES / EVERY; i++)
+        trace[i] = (caisson_record){i * EVERY, port, 1};
+    answer = caisson_replay(image, image_len, registers, registers_len, targets, targets_len, trace, CYCLES / EVERY,
+                            CYCLES);
     return unused;
 }
 
@@ -192,6 +202,7 @@ int main(int count, char **paths) {
                                                  {"reset", reset},
                                                  {"write_port", write_port},
                                                  {"run", run},
+                                                 {"replay", replay},
                                                  {"run_journalled", run_journalled},
                                                  {"step_back", step_back},
                                                  {"raise", raise_labels}};

@@ -13,6 +13,8 @@
 #define ATTEMPTS 1024u    /* at a difference made on purpose */
 #define JOURNAL 256u      /* cycles that a journal keeps at least */
 #define STEPS_BACK 4u     /* one sample in so many comes behind a step back, not behind cycles */
+#define REPLAYS 4u        /* and of the others one in so many behind a replay */
+#define RECORDS 16u       /* of a trace for ports in sight, at most, and as many for the others */
 
 /* splitmix64 */
 static uint64_t random_next(struct pair *pair)
@@ -44,6 +46,16 @@ static bool accepted(const char *what, caisson_answer answer, const struct box *
         return true;
     say("%s: ", what);
     refusal_say(answer, box);
+    return false;
+}
+
+/* The same of a replay. */
+static bool replayed(caisson_answer answer, const struct box *box)
+{
+    if (answer.number == CAISSON_ACCEPTED)
+        return true;
+    say("replay: ");
+    replay_refusal_say(answer, box);
     return false;
 }
 
@@ -116,6 +128,11 @@ static uint32_t low_port(struct pair *pair)
     return pair->low_ports[random_below(pair, (uint32_t)pair->low_count)];
 }
 
+static uint32_t high_port(struct pair *pair)
+{
+    return pair->high_ports[random_below(pair, (uint32_t)pair->high_count)];
+}
+
 /* A low port is given one value in both boxes. */
 static bool low_write(struct pair *pair)
 {
@@ -128,7 +145,7 @@ static bool low_write(struct pair *pair)
 /* A high port is given some value in one box, and nothing is said to the other. */
 static bool high_write(struct pair *pair, int box)
 {
-    uint32_t reg = pair->high_ports[random_below(pair, (uint32_t)pair->high_count)];
+    uint32_t reg = high_port(pair);
 
     return write_port(pair, box, reg, random_value(pair, reg));
 }
@@ -161,6 +178,61 @@ static bool random_cycles(struct pair *pair)
         pair->journalled += cycles;
     return run(pair, 0, cycles, journalled) && run(pair, 1, before, journalled) &&
            (pair->high_count == 0 || high_write(pair, 1)) && run(pair, 1, cycles - before, journalled);
+}
+
+/* A trace that is being made. */
+struct trace {
+    caisson_record records[2 * RECORDS];
+    size_t count;
+};
+
+static void record_add(struct pair *pair, struct trace *trace, uint32_t cycle, uint32_t reg, uint32_t value)
+{
+    trace->records[trace->count++] = (caisson_record){cycle, reg, value};
+    pair->records++;
+}
+
+/* Low records for one cycle are the same in both traces, high ones each as chance has it. */
+static void records_add(struct pair *pair, struct trace traces[2], uint32_t cycle)
+{
+    if (pair->low_count > 0) {
+        uint32_t reg = low_port(pair);
+        uint32_t value = random_value(pair, reg);
+
+        record_add(pair, &traces[0], cycle, reg, value);
+        record_add(pair, &traces[1], cycle, reg, value);
+    }
+    for (int box = 0; box < 2; box++) {
+        if (pair->high_count > 0 && random_below(pair, 4) > 0) {
+            uint32_t reg = high_port(pair);
+
+            record_add(pair, &traces[box], cycle, reg, random_value(pair, reg));
+        }
+    }
+}
+
+/* As many cycles in both boxes, each with its own trace, and one cycle more by a run, which shows the states. */
+static bool random_replay(struct pair *pair)
+{
+    uint32_t cycles = 1 + random_below(pair, LONGEST_RUN);
+    struct trace traces[2] = {{.count = 0}, {.count = 0}};
+    uint32_t cycle = 0;
+
+    for (uint32_t left = random_below(pair, RECORDS + 1); left > 0; left--) {
+        /* The next one often belongs to the same cycle. */
+        if (random_below(pair, 2) == 0)
+            cycle += random_below(pair, cycles - cycle);
+        records_add(pair, traces, cycle);
+    }
+    pair->replays++;
+    pair->cycles += cycles + 1;
+    for (int box = 0; box < 2; box++) {
+        caisson_answer answer = box_replay(&pair->boxes[box], traces[box].records, traces[box].count, cycles);
+
+        if (!replayed(answer, &pair->boxes[box]) || !run(pair, box, 1, false))
+            return false;
+    }
+    return true;
 }
 
 /* Both go back by one number, also over cycles that were not journalled, port writes and resets. */
@@ -252,11 +324,16 @@ bool pair_can_differ(struct pair *pair, bool *can)
     return both_reset(pair);
 }
 
+static bool random_step(struct pair *pair)
+{
+    if (random_below(pair, STEPS_BACK) == 0)
+        return random_back(pair);
+    return random_below(pair, REPLAYS) == 0 ? random_replay(pair) : random_cycles(pair);
+}
+
 bool pair_round(struct pair *pair)
 {
     if (random_below(pair, RESETS) == 0 && !both_reset(pair))
         return false;
-    if (!random_writes(pair))
-        return false;
-    return (random_below(pair, STEPS_BACK) == 0 ? random_back(pair) : random_cycles(pair)) && sample(pair);
+    return random_writes(pair) && random_step(pair) && sample(pair);
 }

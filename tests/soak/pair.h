@@ -1,7 +1,7 @@
 /*
  * pair.h: two boxes with one design. Ports at or below a level are written alike in both, the others
- * each as chance has it; the same cycles are journalled, and both go back by equal numbers at equal
- * moments. The registers at or below the level must stay the same, and of a design with parameters the
+ * each as chance has it, by port writes or by the records of a trace that is replayed; the same cycles are
+ * journalled, and both go back by equal numbers at equal moments. The registers at or below the level must stay the same, and of a design with parameters the
  * states that the level sees, with the registers bound to them.
  */
 #ifndef PAIR_H
@@ -26,6 +26,8 @@ struct pair {
     uint64_t samples;
     uint64_t writes;
     uint64_t journalled;   /* of the cycles */
+    uint64_t replays;      /* in each box */
+    uint64_t records;      /* of the traces of both */
     uint64_t steps_back;   /* how often both went back, by one cycle or more */
     uint64_t gone_back;    /* cycles */
     uint64_t high_differs; /* samples at which registers out of sight differ */
@@ -44,7 +46,7 @@ bool pair_start(struct pair *pair, const uint8_t *image, size_t length, size_t l
 CAISSON_LOOK_AT_ANSWER
 bool pair_can_differ(struct pair *pair, bool *can);
 
-/* Writes, cycles or a step back, and a sample. False also where the boxes differ at the level. */
+/* Writes, then cycles, a replay or a step back, and a sample. False also where the boxes differ at the level. */
 CAISSON_LOOK_AT_ANSWER
 bool pair_round(struct pair *pair);
 

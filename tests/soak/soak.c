@@ -85,6 +85,8 @@ static bool summary_print(const struct pair *pair, double seconds)
            printf("  at %" PRIu64 " of the samples registers out of sight differed\n", pair->high_differs) >= 0 &&
            printf("  %" PRIu64 " of the cycles journalled, %" PRIu64 " steps back over %" PRIu64 " cycles\n",
                   pair->journalled, pair->steps_back, pair->gone_back) >= 0 &&
+           printf("  %" PRIu64 " replays in each box, of traces with %" PRIu64 " records in all\n", pair->replays,
+                  pair->records) >= 0 &&
            printf("  %.0f cycles a second in each box\n", (double)pair->cycles / seconds) >= 0 &&
            printf("  %.4f years of operation at 100 cycles a second\n",
                   (double)pair->cycles / CYCLES_A_SECOND / SECONDS_A_YEAR) >= 0 &&

@@ -15,9 +15,9 @@ pub fn rule(number: u32) -> String {
     }
 }
 
-/// What stands at the place of a refusal of an image. None where the place is the number of nothing, or of
-/// a wire or a record of a trace, which no image has. A parameter is refused in the record of a state, else at a
-/// node.
+/// What stands at the place of a refusal of an image. None where the place is the number of nothing, of a
+/// wire or a record of a trace, which no image has, or of what a port write or a replay was given. A parameter is
+/// refused in the record of a state, else at a node.
 pub fn place(table: &Table, number: u32, place: usize) -> Option<Place> {
     match row(number)?.split(',').nth(3)?.trim() {
         "LABEL" => Some(Place::Label(place)),
@@ -90,7 +90,7 @@ mod tests {
         assert_eq!(place(16, 1_023), Some(Place::Command(1_023)));
         assert_eq!(place(5, 1_024), Some(Place::Expression(0)));
         assert_eq!(place(19, 1_023), Some(Place::Command(1_023)));
-        for nothing in [0, 1, 18, 20, 21, 22, 23, 25, 26, 99] {
+        for nothing in [0, 1, 13, 17, 18, 20, 21, 22, 23, 25, 26, 99] {
             assert_eq!(place(nothing, 0), None, "{nothing}");
         }
     }
