@@ -7,9 +7,9 @@ use std::fmt;
 pub struct Answer {
     /// 0: accepted; otherwise the refusal's number in documents 01 and 02.
     pub number: u32,
-    /// The offending label, register, state or node; an expression is 1,024 plus its number.
+    /// The offending label, register, state, node or record; an expression is 1,024 plus its number.
     pub place: usize,
-    /// The cycles done by a run, the length told of an area; 0 otherwise.
+    /// The cycles done by a run, the records superseded in a replay, the length told of an area; 0 otherwise.
     pub count: usize,
 }
 

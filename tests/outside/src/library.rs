@@ -1,6 +1,7 @@
 //! The proved library through its C interface.
 
 use crate::answer::Answer;
+use crate::trace::Record;
 use std::ptr;
 
 extern "C" {
@@ -59,6 +60,20 @@ extern "C" {
         targets_len: usize,
         journal: *mut u8,
         journal_len: usize,
+        cycles: u32,
+    ) -> Answer;
+}
+
+extern "C" {
+    fn caisson_replay(
+        image: *const u8,
+        image_len: usize,
+        registers: *mut u8,
+        registers_len: usize,
+        targets: *mut u8,
+        targets_len: usize,
+        trace: *const Record,
+        trace_count: usize,
         cycles: u32,
     ) -> Answer;
 }
@@ -189,6 +204,39 @@ pub fn step_back(
             cycles,
         )
     }
+}
+
+pub fn replay(
+    image: &[u8],
+    registers: &mut [u8],
+    targets: &mut [u8],
+    trace: &[Record],
+    cycles: u32,
+) -> Answer {
+    let no_records = trace.is_empty();
+    unsafe {
+        caisson_replay(
+            image.as_ptr(),
+            image.len(),
+            lend(registers),
+            registers.len(),
+            lend(targets),
+            targets.len(),
+            if no_records {
+                ptr::null()
+            } else {
+                trace.as_ptr()
+            },
+            trace.len(),
+            cycles,
+        )
+    }
+}
+
+/// Its answer about the empty image as a C host may lend it, no areas and no trace.
+pub fn replay_null() -> Answer {
+    let (null, none) = (ptr::null(), ptr::null_mut());
+    unsafe { caisson_replay(null, 0, none, 0, none, 0, ptr::null(), 0, 0) }
 }
 
 pub fn raise(image: &[u8], out: &mut [u8]) -> Answer {

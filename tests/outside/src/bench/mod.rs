@@ -8,5 +8,6 @@ pub mod check;
 pub mod gates;
 pub mod journals;
 pub mod raise;
+pub mod replays;
 pub mod reset;
 pub mod run;

@@ -19,7 +19,7 @@ const PARAMETERS_SEED: u64 = 117;
 
 pub fn print() {
     let largest = longest_cycles();
-    let parameters = full_of_parameters(&mut Random::new(PARAMETERS_SEED), Size::LARGEST);
+    let parameters = longest_with_parameters();
     println!("runs of 1,000,000 cycles: medians");
     println!("design        library cycles/s  reference cycles/s  library/reference time");
     for (name, table, rounds) in [
@@ -63,6 +63,11 @@ pub fn longest_cycles() -> Table {
     design(&mut Random::new(LARGEST_SEED), Size::LARGEST)
 }
 
+/// The same with parameters.
+pub fn longest_with_parameters() -> Table {
+    full_of_parameters(&mut Random::new(PARAMETERS_SEED), Size::LARGEST)
+}
+
 /// Designs of the largest size, to be taken in turns.
 pub fn sixteen_largest() -> Vec<Table> {
     (1..=16)
@@ -104,7 +109,7 @@ impl Site {
 }
 
 /// Runs one design after the other, on and on from a reset.
-fn running<'a>(tables: &[Table], cycles: u32, run: Run) -> Call<'a> {
+pub fn running<'a>(tables: &[Table], cycles: u32, run: Run) -> Call<'a> {
     let mut sites: Vec<Site> = tables.iter().map(Site::reset).collect();
     let mut next = 0;
     Box::new(move || {

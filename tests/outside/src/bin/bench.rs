@@ -5,6 +5,7 @@ fn main() {
     caisson_tests::bench::reset::print();
     caisson_tests::bench::run::print();
     caisson_tests::bench::journals::print();
+    caisson_tests::bench::replays::print();
     caisson_tests::bench::raise::print();
     caisson_tests::bench::gates::print();
 }

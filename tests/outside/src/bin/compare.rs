@@ -1,20 +1,28 @@
-//! Compares the library with the reference on random images, on random lists of calls, on random raisings
-//! and on random gate tables, for a bounded time: one quarter for each.
+//! Compares the library with the reference on random images, on random lists of calls, on random replays, on
+//! random raisings and on random gate tables, for a bounded time: a tenth for replays, and equal parts of the
+//! rest.
 
 use caisson_tests::compare::arguments::Arguments;
 use caisson_tests::compare::check;
 use caisson_tests::compare::difference::Difference;
+use caisson_tests::compare::engine::LIBRARY;
 use caisson_tests::compare::gates;
 use caisson_tests::compare::lists;
 use caisson_tests::compare::raising;
+use caisson_tests::compare::replays;
 use std::process::ExitCode;
 use std::time::{Duration, Instant};
+
+/// The part of the time that a comparison has; replays meet all they have to in less.
+const PART: f64 = 0.225;
+const PART_OF_REPLAYS: f64 = 0.1;
 
 fn main() -> ExitCode {
     let arguments = Arguments::read(40);
     println!("first seed {}", arguments.seed);
     let equal = compare_checks(&arguments)
         && compare_lists(&arguments)
+        && compare_replays(&arguments)
         && compare_raisings(&arguments)
         && compare_gates(&arguments);
     if equal {
@@ -29,9 +37,10 @@ fn main() -> ExitCode {
 /// Takes seeds in order until the time is over or two answers differ.
 fn each_seed(
     arguments: &Arguments,
+    part: f64,
     mut compare: impl FnMut(u64) -> Result<(), Difference>,
 ) -> bool {
-    let end = Instant::now() + Duration::from_secs(arguments.seconds) / 4;
+    let end = Instant::now() + Duration::from_secs(arguments.seconds).mul_f64(part);
     let mut seed = arguments.seed;
     loop {
         if let Err(difference) = compare(seed) {
@@ -52,7 +61,9 @@ fn compare_checks(arguments: &Arguments) -> bool {
         difference.report("the fixed images");
         return false;
     }
-    let equal = each_seed(arguments, |seed| check::images_of_seed(seed, &mut tallies));
+    let equal = each_seed(arguments, PART, |seed| {
+        check::images_of_seed(seed, &mut tallies)
+    });
     tallies.print();
     equal && all_met(tallies.missing())
 }
@@ -72,7 +83,25 @@ fn compare_lists(arguments: &Arguments) -> bool {
         difference.report("the longest runs");
         return false;
     }
-    let equal = each_seed(arguments, |seed| lists::lists_of_seed(seed, &mut tallies));
+    let equal = each_seed(arguments, PART, |seed| {
+        lists::lists_of_seed(seed, &mut tallies)
+    });
+    tallies.print();
+    equal && all_met(tallies.missing())
+}
+
+fn compare_replays(arguments: &Arguments) -> bool {
+    // Not in the tallies below: random traces have to meet the reasons by themselves.
+    let fixed = replays::about_null()
+        .and_then(|()| replays::longest_replays(&LIBRARY, &mut replays::Tallies::default()));
+    if let Err(difference) = fixed {
+        difference.report("the longest replays");
+        return false;
+    }
+    let mut tallies = replays::Tallies::default();
+    let equal = each_seed(arguments, PART_OF_REPLAYS, |seed| {
+        replays::replays_of_seed(&LIBRARY, seed, &mut tallies)
+    });
     tallies.print();
     equal && all_met(tallies.missing())
 }
@@ -83,7 +112,7 @@ fn compare_raisings(arguments: &Arguments) -> bool {
         difference.report("the fixed raisings");
         return false;
     }
-    let equal = each_seed(arguments, |seed| {
+    let equal = each_seed(arguments, PART, |seed| {
         raising::raisings_of_seed(seed, &mut tallies)
     });
     tallies.print();
@@ -96,7 +125,9 @@ fn compare_gates(arguments: &Arguments) -> bool {
         difference.report("the fixed gate tables");
         return false;
     }
-    let equal = each_seed(arguments, |seed| gates::tables_of_seed(seed, &mut tallies));
+    let equal = each_seed(arguments, PART, |seed| {
+        gates::tables_of_seed(seed, &mut tallies)
+    });
     tallies.print();
     equal && all_met(tallies.missing())
 }

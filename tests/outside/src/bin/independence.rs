@@ -1,11 +1,12 @@
-//! Tries demand 3 on the library with random pairs of matching lists, and with random pairs of runs of gate
-//! tables in the last quarter of the time, for a bounded time.
+//! Tries demand 3 on the library with random pairs of matching lists, of replays in an eighth of the time, and of
+//! runs of gate tables in the last quarter, for a bounded time.
 
 use caisson_tests::compare::arguments::Arguments;
 use caisson_tests::compare::engine::LIBRARY;
 use caisson_tests::compare::gate_independence::{gate_pairs_of_seed, GateFindings};
 use caisson_tests::compare::groups::Groups;
 use caisson_tests::compare::independence::{pairs_of_seed, Findings};
+use caisson_tests::compare::replay_independence::{replay_pairs_of_seed, ReplayFindings};
 use std::process::ExitCode;
 use std::time::{Duration, Instant};
 
@@ -15,8 +16,8 @@ fn main() -> ExitCode {
         println!("FAILED: {why}");
         return ExitCode::FAILURE;
     }
-    let quarter = Duration::from_secs(arguments.seconds) / 4;
-    let end = Instant::now() + 3 * quarter;
+    let eighth = Duration::from_secs(arguments.seconds) / 8;
+    let end = Instant::now() + 5 * eighth;
     println!("first seed {}", arguments.seed);
     let mut findings = Findings::default();
     let mut seed = arguments.seed;
@@ -29,8 +30,19 @@ fn main() -> ExitCode {
     }
     println!("last seed {}", seed - 1);
     findings.print();
+    let mut replays = ReplayFindings::default();
+    let end = Instant::now() + eighth;
+    let mut seed = arguments.seed;
+    while Instant::now() < end {
+        if let Err(difference) = replay_pairs_of_seed(&LIBRARY, seed, &mut replays) {
+            difference.report(&format!("seed {seed} of replays"));
+            return ExitCode::FAILURE;
+        }
+        seed += 1;
+    }
+    replays.print();
     let mut gates = GateFindings::default();
-    let end = Instant::now() + quarter;
+    let end = Instant::now() + 2 * eighth;
     let mut seed = arguments.seed;
     while Instant::now() < end {
         if let Err(difference) = gate_pairs_of_seed(seed, &mut gates) {
@@ -40,7 +52,7 @@ fn main() -> ExitCode {
         seed += 1;
     }
     gates.print();
-    if !findings.able() || !gates.able() {
+    if !findings.able() || !replays.able() || !gates.able() {
         println!("FAILED: this test would not have found a difference");
         return ExitCode::FAILURE;
     }

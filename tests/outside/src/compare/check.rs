@@ -59,7 +59,7 @@ impl Tallies {
         let mut missing = Vec::new();
         for (call, tally) in CALLS.iter().zip(&self.0) {
             // These take no area, no register, no value, no cycle count and no journal, and raise nothing.
-            for what in tally.missing(&[13, 14, 15, 17, 18, 20, 21, 22]) {
+            for what in tally.missing(&[13, 14, 15, 17, 18, 20, 21, 22, 23]) {
                 missing.push(format!("{}: {what}", call.name));
             }
         }

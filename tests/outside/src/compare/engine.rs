@@ -6,6 +6,7 @@ use crate::answer::Answer;
 #[cfg(feature = "library")]
 use crate::library;
 use crate::reference;
+use crate::trace::Record;
 
 pub struct Engine {
     pub check: fn(&[u8]) -> Answer,
@@ -14,10 +15,13 @@ pub struct Engine {
     pub run: fn(&[u8], &mut [u8], &mut [u8], u32) -> Answer,
     pub run_journalled: Journalled,
     pub step_back: Journalled,
+    pub replay: Replay,
 }
 
 /// The calls on journals.
 pub type Journalled = fn(&[u8], &mut [u8], &mut [u8], &mut [u8], u32) -> Answer;
+
+pub type Replay = fn(&[u8], &mut [u8], &mut [u8], &[Record], u32) -> Answer;
 
 #[cfg(feature = "library")]
 pub const LIBRARY: Engine = Engine {
@@ -27,6 +31,7 @@ pub const LIBRARY: Engine = Engine {
     run: library::run,
     run_journalled: library::run_journalled,
     step_back: library::step_back,
+    replay: library::replay,
 };
 
 pub const REFERENCE: Engine = Engine {
@@ -36,6 +41,7 @@ pub const REFERENCE: Engine = Engine {
     run: reference::run,
     run_journalled: reference::run_journalled,
     step_back: reference::step_back,
+    replay: reference::replay,
 };
 
 impl Engine {

@@ -320,7 +320,7 @@ fn enter_spare(
 
 /// Small and lively, and often with a fault in its flow, its ports or its parameters: whatever the library
 /// accepts must keep parties apart.
-fn any_design(random: &mut Random) -> Table {
+pub fn any_design(random: &mut Random) -> Table {
     loop {
         let table = small_design(random);
         // One label has nothing to keep apart.
@@ -379,7 +379,7 @@ fn start(stage: &Stage, level: u8, random: &mut Random) -> Areas {
 }
 
 /// The label to which all flow.
-fn top(table: &Table) -> u8 {
+pub fn top(table: &Table) -> u8 {
     let labels = 0..table.rows.len() as u8;
     let is_top = |&label: &u8| labels.clone().all(|lower| table.flows(lower, label));
     labels.clone().find(is_top).expect("a lattice has a top")

@@ -2,11 +2,11 @@
 //! faults counted, and what stood where nothing was judged. Each reason has to be met.
 
 use super::reasons::Lent;
+use super::soundness::{fault, right_lengths, Fault};
 use super::tally::Tally;
 use crate::answer::Answer;
 use crate::reference::image::Image;
 use crate::reference::limits::{COUNT_BYTES, MOST_CYCLES, TARGET_BYTES};
-use crate::reference::machine::Machine;
 
 /// A journal before the call.
 struct Journal<'a> {
@@ -50,37 +50,9 @@ impl Journal<'_> {
     }
 }
 
-/// What is not sound about areas of the right lengths.
-#[derive(Clone, Copy, PartialEq, Eq)]
-enum Fault {
-    Contents,
-    Target,
-    Binding,
-}
-
-fn fault(image: &Image, registers: &[u8], targets: &[u8]) -> Option<Fault> {
-    let machine = Machine::new(image);
-    let (values, _) = registers.as_chunks::<4>();
-    let mut pairs = image.registers().zip(values);
-    if pairs.any(|(register, bytes)| u32::from_le_bytes(*bytes) > register.most()) {
-        Some(Fault::Contents)
-    } else if machine.unsound_target(targets).is_some() {
-        Some(Fault::Target)
-    } else if machine.unsound_binding(targets).is_some() {
-        Some(Fault::Binding)
-    } else {
-        None
-    }
-}
-
 fn fault_of_state(image: &Image, state: &[u8]) -> Option<Fault> {
     let (registers, targets) = state.split_at(4 * image.registers().len());
     fault(image, registers, targets)
-}
-
-fn right_lengths(image: &Image, lent: &Lent) -> bool {
-    lent.registers.len() == 4 * image.registers().len()
-        && lent.targets.len() == TARGET_BYTES * image.states().len()
 }
 
 /// Both calls refuse a journal for these reasons.
@@ -145,7 +117,8 @@ pub fn note_run_journalled(
         answer.number == 15 && count == 0 && journal.count.is_some(),
     );
     if answer.number == 14 {
-        let found = right_lengths(image, lent).then(|| fault(image, lent.registers, lent.targets));
+        let found = right_lengths(image, lent.registers, lent.targets)
+            .then(|| fault(image, lent.registers, lent.targets));
         let found = found.flatten();
         tally.note("14 by a length", found.is_none());
         tally.note("14 by contents", found == Some(Fault::Contents));
@@ -180,7 +153,7 @@ pub fn note_step_back(tally: &mut Tally, image: &Image, lent: &Lent, steps: u32,
     let too_short = journal.is_too_short(0);
     let count = journal.count.unwrap_or(0);
     let above = u64::from(steps) > count;
-    if !right_lengths(image, lent) {
+    if !right_lengths(image, lent.registers, lent.targets) {
         tally.note("14 by a length, 21 would follow", too_short);
         tally.note("14 by a length, 22 would follow", !too_short && above);
         tally.note("14 by a length, no steps", steps == 0);

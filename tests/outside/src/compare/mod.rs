@@ -23,6 +23,11 @@ pub mod passes;
 pub mod raised;
 pub mod reading;
 pub mod reasons;
+pub mod replay_chance;
+pub mod replay_independence;
+mod replay_reasons;
+pub mod replays;
+mod soundness;
 pub mod tally;
 mod view;
 

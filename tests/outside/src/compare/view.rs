@@ -75,11 +75,16 @@ impl Stage<'_> {
 
     /// One cycle by the engine, with the journal or without.
     fn cycle(&self, level: u8, call: Call, areas: &mut Areas) -> (Vec<u32>, Vec<Sight>) {
-        let mut walk = self.walk(areas);
-        walk.retain(|ran| self.table.flows(ran.label, level));
-        let walk = walk.iter().map(|ran| (ran.state, ran.bound)).collect();
+        let walk = self.low_walk(level, areas);
         self.make(call, areas);
         (self.low_values(level, areas), walk)
+    }
+
+    /// The low part of the walk of the next cycle.
+    pub fn low_walk(&self, level: u8, areas: &mut Areas) -> Vec<Sight> {
+        let mut walk = self.walk(areas);
+        walk.retain(|ran| self.table.flows(ran.label, level));
+        walk.iter().map(|ran| (ran.state, ran.bound)).collect()
     }
 
     pub fn low_values(&self, level: u8, areas: &mut Areas) -> Vec<u32> {

@@ -4,11 +4,8 @@ use crate::answer::Answer;
 
 /// The numbers of all calls on designs. The comparison asks that each has been met.
 pub const DESIGNS: &[u32] = &[
-    1, 2, 3, 4, 5, 6, 7, 8, 9, 10, 11, 12, 13, 14, 15, 16, 17, 18, 19, 20, 21, 22,
+    1, 2, 3, 4, 5, 6, 7, 8, 9, 10, 11, 12, 13, 14, 15, 16, 17, 18, 19, 20, 21, 22, 23,
 ];
-
-/// The number of a replay of a port trace, request E10, which has no call yet.
-pub const TRACES: &[u32] = &[23];
 
 /// Those of the calls on gate tables, in the order of judging but for lent bytes, which are judged last.
 pub const GATES: &[u32] = &[25, 26, 14];
