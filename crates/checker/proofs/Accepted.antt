@@ -16,7 +16,7 @@ use Rattle.design.specs.Describes.{Describes}
 use Rattle.design.specs.Kept.{ParametersKept, RecordsKept}
 use Rattle.design.specs.Scopes.{ScopesShort}
 use Rattle.design.proofs.BoundRules.{scopes-short}
-use Rattle.checker_bodies.specs.Flows.{BodiesKept}
+use Rattle.checker_flow.specs.Flows.{BodiesKept}
 
 -- ---- once the structure is accepted
 module _ (image : List ℕ) {a : Answer} {n : ℕ} (is : a ≡ structure image) (accepts : a ≡ Accepted n) where

@@ -42,8 +42,8 @@ use Rattle.design.specs.Resets.{withDefaults}
 use Rattle.design.proofs.ResetRules.{fresh-defaults, states-few}
 use Rattle.checker_records.specs.ParameterTests.{ParametersPassed}
 use Rattle.checker_bodies.specs.Shapes.{ShapeKnown, ShapesPassed}
-use Rattle.checker_bodies.specs.Plain.{plainDesign}
-use Rattle.checker_bodies.proofs.PlainRules.{plain-ports, plain-parameters, plain-scopes}
+use Rattle.checker_scopes.specs.Plain.{plainDesign}
+use Rattle.checker_scopes.proofs.PlainRules.{plain-ports, plain-parameters, plain-scopes}
 use Rattle.checker.specs.Stages.{fewNodes, ChildrenTold, fromChildren, fromScopes, fromParameters, fromPorts, fromShape, fromDepths, fromUses, fromNodes, fromStates, fromRegisters, fromLabels}
 
 -- ---- a pass, and all that follow

@@ -10,7 +10,7 @@ ghost use Rattle.model.specs.Labelling.{relabelled};
 ghost use Rattle.model.specs.Flow.{flowAnswer};
 ghost use Rattle.design.specs.Kept.{ParametersKept, RecordsKept};
 ghost use Rattle.design.specs.Labels.{LabelsKept};
-ghost use Rattle.checker_bodies.specs.Flows.{BodiesKept};
+ghost use Rattle.checker_flow.specs.Flows.{BodiesKept};
 
 // The first flow fault of a design with parameters, with a fresh table of what is in scope of each state.
 fn declared_faults(image: &[u8], design: Design, labels: &[u8]) -> Answer
@@ -19,7 +19,7 @@ fn declared_faults(image: &[u8], design: Design, labels: &[u8]) -> Answer
 {
     let mut scopes = [0u8; SCOPES];
     design::scopes::scopes(image, design, &mut scopes);
-    checker_bodies::flow::faults(image, design, labels, &scopes)
+    checker_flow::flow::faults(image, design, labels, &scopes)
 }
 
 // The first flow fault, with a fresh table of the labels in the registers' records. Designs without
@@ -33,5 +33,5 @@ pub fn flow_faults(image: &[u8], design: Design) -> Answer
     if has_parameters(image, design) {
         return declared_faults(image, design, &labels);
     }
-    checker_bodies::flow::plain_faults(image, design, &labels)
+    checker_flow::flow::plain_faults(image, design, &labels)
 }

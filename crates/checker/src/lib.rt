@@ -117,7 +117,7 @@ fn from_scopes(image: &[u8], design: Design, defaults: &[u8], falls: &[u8], scop
     requires { ⌜ RecordsKept (now image) design × ParametersKept (designOf (now image)) × ChildrenTold (designOf (now image)) (now defaults) (now falls) × Scopes (designOf (now image)) (now scopes) ⌝ }
     ensures { λ a. ⌜ a ≡ fromScopes (designOf (now (image .entry))) ⌝ }
 {
-    let found = checker_bodies::scope::scope_faults(image, design, scopes);
+    let found = checker_scopes::scope::scope_faults(image, design, scopes);
     match found {
         Found::At(place) => Answer::Refused(Refusal::Parameter, place),
         Found::Nowhere => from_children(image, design, defaults, falls, scopes),
@@ -163,7 +163,7 @@ fn from_names(image: &[u8], design: Design, defaults: &[u8], falls: &[u8]) -> An
     requires { ⌜ RecordsKept (now image) design × ChildrenTold (designOf (now image)) (now defaults) (now falls) ⌝ }
     ensures { λ a. ⌜ a ≡ fromPorts (designOf (now (image .entry))) ⌝ }
 {
-    let plain = checker_bodies::plain::plain(image, design);
+    let plain = checker_scopes::plain::plain(image, design);
     if plain {
         return from_plain(image, design, defaults, falls);
     }

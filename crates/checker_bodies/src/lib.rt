@@ -1,8 +1,4 @@
-// The checker's passes over bodies, by recursion over parts: the shape of commands, refusal 8, the
-// scope of parameters and the arguments of gotos, refusal 19, and the flow rules, refusals 10 to 12.
-pub mod flow;
-pub mod masks;
-mod places;
-pub mod plain;
-pub mod scope;
+// The checker's pass over bodies for the shape of commands, by recursion over parts: refusal 8. And
+// places of faults as plain numbers, in which the other passes over bodies answer too.
+pub mod places;
 pub mod shape;

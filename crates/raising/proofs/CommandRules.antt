@@ -26,8 +26,8 @@ use Rattle.design.specs.RecordsAt.{CommandAt}
 use Rattle.design.proofs.Laws.{labels-count, labels-most, registers-count, states-count, row-inside, row-in, state-in}
 use Rattle.design.proofs.LabelRules.{registers-few}
 use Rattle.design.proofs.FieldRules.{body-is, body-below, command-kind-is, command-kind-of, a-is, b-is, c-is, command-holds, condition, sequence-a-below, sequence-b-below, branch-b-below, branch-c-below}
-use Rattle.checker_bodies.specs.Masks.{Rows}
-use Rattle.checker_bodies.specs.Flows.{ReadsMask, Gathering}
+use Rattle.checker_flow.specs.Masks.{Rows}
+use Rattle.checker_flow.specs.Flows.{ReadsMask, Gathering}
 use Rattle.raising.specs.Passes.{Labelling, Raising, RaisingCommand, Assigns, Moved, RaisedAt, RaisedTo}
 use Rattle.raising.proofs.MaskRules.{mask-both, mask-row, plain-here, read-mask}
 use Rattle.raising.proofs.PassRules.{command-here, gathering, moved-none, moved-both}

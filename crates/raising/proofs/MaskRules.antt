@@ -21,9 +21,9 @@ use Rattle.model.proofs.Raising.Orders.{reads-labels}
 use Rattle.design.specs.declared.Design.{Design}
 use Rattle.design.proofs.Laws.{states-count}
 use Rattle.design.proofs.BoundRules.{labels-few, plain-label-byte}
-use Rattle.checker_bodies.specs.Masks.{Rows}
-use Rattle.checker_bodies.specs.Flows.{ReadsMask}
-use Rattle.checker_bodies.proofs.TableRules.{label-some, rows-masks}
+use Rattle.checker_flow.specs.Masks.{Rows}
+use Rattle.checker_flow.specs.Flows.{ReadsMask}
+use Rattle.checker_flow.proofs.TableRules.{label-some, rows-masks}
 use Rattle.checker.proofs.Accepted.{structure-parameters}
 use Rattle.raising.specs.Passes.{RowMask, Raising}
 

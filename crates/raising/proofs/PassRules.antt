@@ -24,8 +24,8 @@ use Rattle.design.specs.Records.{nodeIn, rowIn, rowEnd}
 use Rattle.design.specs.RecordsAt.{CommandAt}
 use Rattle.design.proofs.Laws.{labels-count, labels-most, expressions-count, row-inside, row-in}
 use Rattle.design.proofs.FieldRules.{command-at, same-command, item-is, a-is, assigned-register, assigned-expression, condition, expression-at}
-use Rattle.checker_bodies.specs.Masks.{Rows}
-use Rattle.checker_bodies.specs.Flows.{ReadsMask, Gathering}
+use Rattle.checker_flow.specs.Masks.{Rows}
+use Rattle.checker_flow.specs.Flows.{ReadsMask, Gathering}
 use Rattle.raising.specs.Passes.{leastOf, RowMask, Labelling, Raising, Assigns, Moved, RaisedAt}
 use Rattle.raising.proofs.MaskRules.{mask-both, mask-row, read-mask}
 use Rattle.raising.proofs.JoinRules.{least-is-join, least-label}

@@ -17,7 +17,7 @@ use Rattle.design.specs.Kept.{RecordsKept}
 use Rattle.design.specs.Labels.{LabelsKept}
 use Rattle.design.specs.Scopes.{NoParameters}
 use Rattle.checker_records.specs.LabelTests.{leastIn}
-use Rattle.checker_bodies.specs.Masks.{Rows}
+use Rattle.checker_flow.specs.Masks.{Rows}
 
 -- the least label of a mask, or 0 where it has none
 unfoldable pub leastOf : List ℕ → ℕ → ℕ

@@ -7,7 +7,7 @@ mod passes;
 use crate::bytes::copy;
 use crate::bytes::put_labels;
 use crate::passes::raise_labels;
-use checker_bodies::flow::faults;
+use checker_flow::flow::faults;
 use design::Design;
 use design::labels::register_labels;
 use design::scopes::SCOPES;

@@ -2,9 +2,9 @@
 // and raises the register of every assignment whose flow is not kept. A context is a mask of labels: bit
 // l is set where all of the context flows to label l. No state has a parameter, so the table of masks
 // that the flow check has for each state is the same for all.
-use checker_bodies::flow::reads;
-use checker_bodies::masks::MASKS;
-use checker_bodies::masks::label_rows;
+use checker_flow::flow::reads;
+use checker_flow::masks::MASKS;
+use checker_flow::masks::label_rows;
 use checker_records::lattice::least_in;
 use design::Design;
 use design::rows::bit;
@@ -18,7 +18,7 @@ ghost use Rattle.model.specs.Lattice.{stateLabel};
 ghost use Rattle.model.specs.Trees.{bodyOf};
 ghost use Rattle.model.specs.Raising.{raisedBy, raisedOnce, raisedTimes};
 ghost use Rattle.design.specs.Describes.{Describes};
-ghost use Rattle.checker_bodies.specs.Masks.{Rows};
+ghost use Rattle.checker_flow.specs.Masks.{Rows};
 ghost use Rattle.raising.specs.Passes.{leastOf, Labelling, Raising, RaisingCommand, Assigns, RaisedAt, RaisedTo};
 
 // The least label of a mask.

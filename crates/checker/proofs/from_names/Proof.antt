@@ -1,4 +1,4 @@
-use Rattle.checker_bodies.proofs.PlainRules.{plain-known, plain-none}
+use Rattle.checker_scopes.proofs.PlainRules.{plain-known, plain-none}
 use Rattle.checker.proofs.StageRules.{plain-passes}
 use borrow.Author.Needs.{needs}
 use Rattle.checker.proofs.from_names.Statement.{statement}

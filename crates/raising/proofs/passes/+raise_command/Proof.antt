@@ -7,7 +7,7 @@ use borrow.Fn.PlainCycle.{Measures, is, falls, and}
 use Rattle.raising.proofs.passes.raise_command.Reads as raise-command
 use Rattle.raising.proofs.passes.raise_command.Kinds as raise-command-kinds
 use Rattle.raising.proofs.passes.+raise_command.Lts-raise_command as raise-command-lts
-use Rattle.checker_bodies.proofs.flow.reads.Reads as reads-reads
+use Rattle.checker_flow.proofs.flow.reads.Reads as reads-reads
 use Rattle.design.proofs.Design.kind.Reads as kind-reads
 use Rattle.design.proofs.Design.part_a.Reads as part-a-reads
 use Rattle.design.proofs.Design.part_b.Reads as part-b-reads

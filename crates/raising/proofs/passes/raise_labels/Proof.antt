@@ -1,6 +1,6 @@
 use Prim.Native.Nat.{_-_, _≤_}
 use Rattle.model.specs.Image.{designOf}
-use Rattle.checker_bodies.specs.Masks.{Rows}
+use Rattle.checker_flow.specs.Masks.{Rows}
 use Rattle.raising.proofs.CommandRules.{TimesSo, times-none, times-more, times-still, times-all, most-passes, raising-times, most-fits, most-few, labelling-to}
 use borrow.Author.Needs.{needs}
 use Rattle.raising.proofs.passes.raise_labels.Statement.{statement}

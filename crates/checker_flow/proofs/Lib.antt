@@ -1,0 +1,6 @@
+-- Laws of the rules as the code tests them.
+pub mod MaskRules
+pub mod TableRules
+pub mod GotoRules
+pub mod FlowRules
+pub mod FlowKinds

@@ -1,0 +1,77 @@
+use Prim.Native.Nat.{_-_, _≤_}
+use borrow.Author.Needs.{needs}
+use Rattle.model.specs.Image.{designOf}
+use Rattle.checker_flow.specs.Masks.{Rows}
+use Rattle.checker_flow.proofs.FlowKinds.{NoneSo, scopes-below, faults-laws}
+use Rattle.checker_flow.proofs.TableRules.{own-above}
+use Rattle.checker_flow.proofs.flow.faults.Statement.{statement}
+use Rattle.checker_flow.proofs.flow.faults.Tie as tie
+
+abbrev Inv-loop : tie.InvT-loop
+Inv-loop image design labels scopes masks₀ s₀ masks s = NoneSo (designOf image) labels s × (s ≤ design .states) × Rows (designOf image) masks
+
+abbrev μ-loop : tie.MeasureT-loop
+μ-loop image design labels scopes masks₀ s₀ masks s = design .states - s
+
+slice-aggregate-label-rows : tie.Need-slice-aggregate-label-rows Inv-loop μ-loop
+slice-aggregate-label-rows c = search needs
+
+label-rows-requires : tie.Need-label-rows-requires Inv-loop μ-loop
+label-rows-requires c κs = search needs
+
+loop-holds : tie.Need-loop-holds Inv-loop μ-loop
+loop-holds c = search (faults-laws, needs)
+
+slice-aggregate-scope-masks : tie.Need-slice-aggregate-scope-masks Inv-loop μ-loop
+slice-aggregate-scope-masks c = search needs
+
+scope-masks-requires : tie.Need-scope-masks-requires Inv-loop μ-loop
+scope-masks-requires c κs = search needs
+
+inherited-requires : tie.Need-inherited-requires Inv-loop μ-loop
+inherited-requires c κs = search (scopes-below, needs)
+
+add-own-from : tie.Need-add-own-from Inv-loop μ-loop
+add-own-from c = search needs
+
+state-flow-requires : tie.Need-state-flow-requires Inv-loop μ-loop
+state-flow-requires c κs = search (own-above, needs)
+
+answer-requires : tie.Need-answer-requires Inv-loop μ-loop
+answer-requires c κs = search needs
+
+returns : tie.Need-returns Inv-loop μ-loop
+returns c = search (faults-laws, needs)
+
+add-s : tie.Need-add-s Inv-loop μ-loop
+add-s c = search needs
+
+loop-less : tie.Need-loop-less Inv-loop μ-loop
+loop-less c = search needs
+
+loop-again : tie.Need-loop-again Inv-loop μ-loop
+loop-again c = search (faults-laws, needs)
+
+returns-2 : tie.Need-returns-2 Inv-loop μ-loop
+returns-2 c = search (faults-laws, needs)
+
+pub faults-spec : {M : Type 1} → statement M
+faults-spec =
+    tie.close
+    (tie.spec
+    Inv-loop
+    μ-loop
+    slice-aggregate-label-rows
+    label-rows-requires
+    loop-holds
+    slice-aggregate-scope-masks
+    scope-masks-requires
+    inherited-requires
+    add-own-from
+    state-flow-requires
+    answer-requires
+    returns
+    add-s
+    loop-less
+    loop-again
+    returns-2)

@@ -1,0 +1,61 @@
+use Prim.Native.Nat.{_-_, _≤_}
+use borrow.Author.Needs.{needs}
+use Rattle.model.specs.Image.{designOf}
+use Rattle.checker_flow.specs.Masks.{Rows}
+use Rattle.checker_flow.proofs.FlowKinds.{NoneSo, faults-laws}
+use Rattle.checker_flow.proofs.TableRules.{plain-masks, own-plain}
+use Rattle.checker_flow.proofs.flow.plain_faults.Statement.{statement}
+use Rattle.checker_flow.proofs.flow.plain_faults.Tie as tie
+
+abbrev Inv-loop : tie.InvT-loop
+Inv-loop image design labels masks s₀ s = NoneSo (designOf image) labels s × (s ≤ design .states) × Rows (designOf image) masks
+
+abbrev μ-loop : tie.MeasureT-loop
+μ-loop image design labels masks s₀ s = design .states - s
+
+slice-aggregate-label-rows : tie.Need-slice-aggregate-label-rows Inv-loop μ-loop
+slice-aggregate-label-rows c = search needs
+
+label-rows-requires : tie.Need-label-rows-requires Inv-loop μ-loop
+label-rows-requires c κs = search needs
+
+loop-holds : tie.Need-loop-holds Inv-loop μ-loop
+loop-holds c = search (faults-laws, needs)
+
+state-flow-requires : tie.Need-state-flow-requires Inv-loop μ-loop
+state-flow-requires c κs = search (plain-masks, own-plain, needs)
+
+answer-requires : tie.Need-answer-requires Inv-loop μ-loop
+answer-requires c κs = search needs
+
+returns : tie.Need-returns Inv-loop μ-loop
+returns c = search (faults-laws, needs)
+
+add-s : tie.Need-add-s Inv-loop μ-loop
+add-s c = search needs
+
+loop-less : tie.Need-loop-less Inv-loop μ-loop
+loop-less c = search needs
+
+loop-again : tie.Need-loop-again Inv-loop μ-loop
+loop-again c = search (faults-laws, needs)
+
+returns-2 : tie.Need-returns-2 Inv-loop μ-loop
+returns-2 c = search (faults-laws, needs)
+
+pub plain-faults-spec : {M : Type 1} → statement M
+plain-faults-spec =
+    tie.close
+    (tie.spec
+    Inv-loop
+    μ-loop
+    slice-aggregate-label-rows
+    label-rows-requires
+    loop-holds
+    state-flow-requires
+    answer-requires
+    returns
+    add-s
+    loop-less
+    loop-again
+    returns-2)
