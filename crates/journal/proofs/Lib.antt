@@ -1,8 +1,4 @@
--- Laws of the journal's code.
-pub mod ByteRules
-pub mod RoomRules
-pub mod JournalRules
-pub mod SavingRules
+-- Laws of the journal's calls.
 pub mod StageRules
 pub mod StepRules
 pub mod ImageRules

@@ -28,9 +28,9 @@ use Rattle.journal_model.specs.Journals.{countLength, countIn, journalWith, sav
 use Rattle.journal_model.specs.Calls.{LeftJournal, roomAnswer, stepsAnswer}
 use Rattle.journal_model.specs.Rules.{RoomKeeps}
 use Rattle.journal_model.proofs.Laws.{room-iff}
-use Rattle.journal.specs.Saving.{Returning}
+use Rattle.journal_saving.proofs.SavingRules.{saved-size}
+use Rattle.journal.specs.Returning.{Returning}
 use Rattle.journal.specs.Stages.{lendsJournal, leftJournalAs, journalledCycles, runJournalledOn, runJournalledSound, stepBackOn}
-use Rattle.journal.proofs.SavingRules.{saved-size}
 
 -- ---- room
 module _ {image : List ℕ} {x : Design} (known : Describes image x) (journal : List ℕ) (n : ℕ) {b : Bool} (e : b ≡ hasRoom (4 * x .registers + 3 * x .states) (countIn journal + n) (length journal)) where

@@ -25,11 +25,11 @@ use Rattle.journal_model.specs.Journals.{countLength, countIn, recounted, saved
 use Rattle.journal_model.specs.Calls.{LentJournal, leavesJournal, stepsAnswer, savedBack}
 use Rattle.journal_model.specs.Rules.{RoomKeeps}
 use Rattle.journal_model.proofs.Laws.{saved-back-bytes}
-use Rattle.journal.specs.Bytes.{partOf}
-use Rattle.journal.specs.Saving.{Returning}
+use Rattle.journal_saving.specs.Bytes.{partOf}
+use Rattle.journal_saving.proofs.JournalRules.{count-put}
+use Rattle.journal_saving.proofs.SavingRules.{saved-size, one-inside}
+use Rattle.journal.specs.Returning.{Returning}
 use Rattle.journal.specs.Stages.{lendsJournal, leftJournalAs, steppedBack, stepBackOn}
-use Rattle.journal.proofs.JournalRules.{count-put}
-use Rattle.journal.proofs.SavingRules.{saved-size, one-inside}
 use Rattle.journal.proofs.StageRules.{room-accepts}
 
 positive : (k : ℕ) → (k ≡ 0 → ⊥) → 0 < k

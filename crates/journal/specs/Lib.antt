@@ -1,4 +1,3 @@
--- What the contracts of the journal's calls cite beside crate `journal_model`.
-pub mod Bytes
-pub mod Saving
+-- What the contracts of the journal's calls cite beside crates `journal_model` and `journal_saving`.
+pub mod Returning
 pub mod Stages

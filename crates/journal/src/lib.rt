@@ -1,9 +1,6 @@
 // The calls with a journal on slices, with answers as enums. Each makes the image checks first, and makes
 // them once.
-mod bytes;
-mod room;
 mod runs;
-mod saving;
 mod steps;
 
 use model::Answer;

@@ -1,7 +1,5 @@
 // A journalled run on an image that keeps the rules: all that can be done once is done before the first
 // cycle.
-use crate::room::has_room;
-use crate::saving::cycles;
 use calls::areas::areas_kept;
 use calls::runs::count_kept;
 use calls::soundness::judge;
@@ -9,6 +7,8 @@ use design::Design;
 use design::reset::default_targets;
 use design::scopes::SCOPES;
 use design::scopes::scopes;
+use journal_saving::room::has_room;
+use journal_saving::saving::cycles;
 use model::Answer;
 use model::Refusal;
 ghost use Prim.Native.Nat.{_*_, _≤_};

@@ -1,13 +1,13 @@
 // A step back on an image that keeps the rules. Nothing is written before all is judged.
-use crate::bytes::take;
-use crate::room::has_room;
-use crate::room::saved_count;
-use crate::room::saved_place;
 use calls::areas::areas_kept;
 use calls::soundness::judge;
 use design::Design;
 use design::reset::default_targets;
 use design::words::put_word;
+use journal_saving::bytes::take;
+use journal_saving::room::has_room;
+use journal_saving::room::saved_count;
+use journal_saving::room::saved_place;
 use model::Answer;
 use model::Refusal;
 ghost use Prim.Native.Nat.{_+_, _*_, _≤_};
@@ -20,8 +20,8 @@ ghost use Rattle.design.specs.Describes.{Describes};
 ghost use Rattle.design.specs.Words.{putWord};
 ghost use Rattle.calls.specs.Stages.{soundOn};
 ghost use Rattle.journal_model.specs.Journals.{countLength, savedLength, savedOf};
-ghost use Rattle.journal.specs.Bytes.{partOf};
-ghost use Rattle.journal.specs.Saving.{Returning};
+ghost use Rattle.journal_saving.specs.Bytes.{partOf};
+ghost use Rattle.journal.specs.Returning.{Returning};
 ghost use Rattle.journal.specs.Stages.{lendsJournal, leftJournalAs, stepBackOn};
 
 // The saved state at a place of the journal, judged where it lies.

@@ -1,9 +1,9 @@
 use Rattle.design.proofs.ResetRules.{states-few}
 use Rattle.calls.proofs.CallRules.{registers-few}
-use Rattle.journal.proofs.SavingRules.{room-behind, journal-made, count-fits, count-inside}
+use Rattle.journal_saving.proofs.SavingRules.{room-behind, journal-made, count-fits, count-inside}
 use borrow.Author.Needs.{needs}
-use Rattle.journal.proofs.saving.cycles.Statement.{statement}
-use Rattle.journal.proofs.saving.cycles.Tie as tie
+use Rattle.journal_saving.proofs.saving.cycles.Statement.{statement}
+use Rattle.journal_saving.proofs.saving.cycles.Tie as tie
 
 saved-count-requires : tie.Need-saved-count-requires
 saved-count-requires c κs = search needs

@@ -6,7 +6,7 @@ use native.Mathlib.Omega.{arith}
 use native.Mathlib.Numerals.{add-one}
 use lib.ListN.{length, getD, set, take, drop, length-append, length-drop, length-set, take-append-drop, drop-of-length-le}
 use lib.Seq.{paste, paste-zero, paste-suc, take-length, length-take-le, take-at, drop-append-add, drop-drop}
-use Rattle.journal.specs.Bytes.{overwrittenAt, partOf}
+use Rattle.journal_saving.specs.Bytes.{overwrittenAt, partOf}
 
 -- the first i bytes of a part are written over others
 pub record PutSo (part old : List ℕ) (at i : ℕ) (now : List ℕ) : Type 0 where

@@ -1,4 +1,4 @@
--- What a journalled cycle leaves beside what a cycle does, and what is known where the areas go back to a saved state.
+-- What is known where the areas go back to a saved state.
 use Prim.Native.Nat.{ℕ, _*_, _≤_}
 use mathlib.Core.Path.{_≡_}
 use mathlib.Core.List.{List}
@@ -6,19 +6,10 @@ use lib.ListN.{length}
 use Rattle.model.specs.Limits.{wordLength, targetLength}
 use Rattle.model.specs.Image.{designOf}
 use Rattle.model.specs.Rules.{Keeps}
-use Rattle.model.specs.Machine.{Areas, Cycle}
-use Rattle.model.specs.Calls.{Lent, lentOf}
 use Rattle.design.specs.declared.Design.{Design}
 use Rattle.design.specs.Describes.{Describes}
-use Rattle.journal_model.specs.Journals.{countIn, savedBytes}
+use Rattle.journal_model.specs.Journals.{countIn}
 use Rattle.journal_model.specs.Rules.{RoomKeeps}
-use Rattle.journal.specs.Bytes.{overwrittenAt}
-
--- a cycle from lent areas, saved at a place: the areas that it leaves, their bytes, and those that were lent over the bytes of the journal
-pub record CycleSaved (c : Cycle) (lent : Lent) (at : ℕ) (old : List ℕ) (areas : Areas) (left : Lent) (journal : List ℕ) : Type 0 where
-  pub after : areas ≡ c .after
-  pub bytes : left ≡ lentOf (c .after)
-  pub saved : journal ≡ overwrittenAt at (savedBytes lent) old
 
 -- the areas have their lengths, the journal has all that it counts, and goes back by some cycles that it counts
 pub record Returning (image : List ℕ) (x : Design) (registers targets journal : List ℕ) (k : ℕ) : Type 0 where

@@ -2,10 +2,10 @@ use Prim.Native.Nat.{_-_}
 use native.Mathlib.Omega.{arith}
 use Rattle.design.proofs.ResetRules.{states-few}
 use Rattle.calls.proofs.CallRules.{registers-few}
-use Rattle.journal.proofs.SavingRules.{SavedSo, saved-begins, saved-running, saved-room, saved-at-fits, saved-fits, saved-more, saved-registers-long, saved-targets-long, saved-journal-long, saved-areas, saved-done}
+use Rattle.journal_saving.proofs.SavingRules.{SavedSo, saved-begins, saved-running, saved-room, saved-at-fits, saved-fits, saved-more, saved-registers-long, saved-targets-long, saved-journal-long, saved-areas, saved-done}
 use borrow.Author.Needs.{needs}
-use Rattle.journal.proofs.saving.saved_cycles.Statement.{statement}
-use Rattle.journal.proofs.saving.saved_cycles.Tie as tie
+use Rattle.journal_saving.proofs.saving.saved_cycles.Statement.{statement}
+use Rattle.journal_saving.proofs.saving.saved_cycles.Tie as tie
 
 abbrev Inv-loop : tie.InvT-loop
 Inv-loop image design defaults scopes registers₀ targets₀ journal₀ place count each at₀ i₀ registers targets journal at i =

@@ -1,7 +1,7 @@
-use Rattle.journal.proofs.RoomRules.{no-room, room-as}
+use Rattle.journal_saving.proofs.RoomRules.{no-room, room-as}
 use borrow.Author.Needs.{needs}
-use Rattle.journal.proofs.room.has_room.Statement.{statement}
-use Rattle.journal.proofs.room.has_room.Tie as tie
+use Rattle.journal_saving.proofs.room.has_room.Statement.{statement}
+use Rattle.journal_saving.proofs.room.has_room.Tie as tie
 
 returns : tie.Need-returns
 returns c = search (no-room, needs)

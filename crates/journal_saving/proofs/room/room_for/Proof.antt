@@ -1,8 +1,8 @@
 use Rattle.journal_model.specs.Journals.{hasRoom}
-use Rattle.journal.proofs.RoomRules.{product-fits, place-fits}
+use Rattle.journal_saving.proofs.RoomRules.{product-fits, place-fits}
 use borrow.Author.Needs.{needs}
-use Rattle.journal.proofs.room.room_for.Statement.{statement}
-use Rattle.journal.proofs.room.room_for.Tie as tie
+use Rattle.journal_saving.proofs.room.room_for.Statement.{statement}
+use Rattle.journal_saving.proofs.room.room_for.Tie as tie
 
 mul-result : tie.Need-mul-result
 mul-result c = search (product-fits, needs)

@@ -1,7 +1,7 @@
-use Rattle.journal.proofs.RoomRules.{saved-product-fits, saved-place-fits, place-of}
+use Rattle.journal_saving.proofs.RoomRules.{saved-product-fits, saved-place-fits, place-of}
 use borrow.Author.Needs.{needs}
-use Rattle.journal.proofs.room.saved_place.Statement.{statement}
-use Rattle.journal.proofs.room.saved_place.Tie as tie
+use Rattle.journal_saving.proofs.room.saved_place.Statement.{statement}
+use Rattle.journal_saving.proofs.room.saved_place.Tie as tie
 
 saved-length-requires : tie.Need-saved-length-requires
 saved-length-requires c κs = search needs

@@ -1,9 +1,9 @@
 use Rattle.model.specs.Image.{AreBytes}
 use Rattle.calls.proofs.CallRules.{are-bytes}
-use Rattle.journal.proofs.SavingRules.{state-room, cycle-saved}
+use Rattle.journal_saving.proofs.SavingRules.{state-room, cycle-saved}
 use borrow.Author.Needs.{needs}
-use Rattle.journal.proofs.saving.saved_cycle.Statement.{statement}
-use Rattle.journal.proofs.saving.saved_cycle.Tie as tie
+use Rattle.journal_saving.proofs.saving.saved_cycle.Statement.{statement}
+use Rattle.journal_saving.proofs.saving.saved_cycle.Tie as tie
 
 save-requires : tie.Need-save-requires
 save-requires c κs = search (state-room, needs)

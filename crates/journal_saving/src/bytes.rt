@@ -2,7 +2,7 @@
 ghost use Prim.Native.Nat.{_+_, _≤_};
 ghost use mathlib.Core.Path.{_≡_};
 ghost use lib.ListN.{length};
-ghost use Rattle.journal.specs.Bytes.{overwrittenAt, partOf};
+ghost use Rattle.journal_saving.specs.Bytes.{overwrittenAt, partOf};
 
 // The bytes of a part over others, from a place on.
 pub fn put(part: &[u8], bytes: &mut [u8], at: usize)

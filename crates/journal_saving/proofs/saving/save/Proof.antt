@@ -1,7 +1,7 @@
-use Rattle.journal.proofs.SavingRules.{saved-both}
+use Rattle.journal_saving.proofs.SavingRules.{saved-both}
 use borrow.Author.Needs.{needs}
-use Rattle.journal.proofs.saving.save.Statement.{statement}
-use Rattle.journal.proofs.saving.save.Tie as tie
+use Rattle.journal_saving.proofs.saving.save.Statement.{statement}
+use Rattle.journal_saving.proofs.saving.save.Tie as tie
 
 put-requires : tie.Need-put-requires
 put-requires c κs = search needs

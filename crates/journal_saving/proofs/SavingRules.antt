@@ -23,10 +23,10 @@ use Rattle.calls.proofs.CallRules.{bytes-left}
 use Rattle.journal_model.specs.Journals.{countLength, countIn, savedLength, savedBytes, allSavedBytes, journalWith, savedIn, savedBefore}
 use Rattle.journal_model.specs.Rules.{RoomKeeps}
 use Rattle.journal_model.proofs.Laws.{saved-append, length-run-saved}
-use Rattle.journal.specs.Bytes.{overwrittenAt}
-use Rattle.journal.specs.Saving.{CycleSaved}
-use Rattle.journal.proofs.ByteRules.{over-none, over-behind}
-use Rattle.journal.proofs.JournalRules.{count-put, saved-behind}
+use Rattle.journal_saving.specs.Bytes.{overwrittenAt}
+use Rattle.journal_saving.specs.Saving.{CycleSaved}
+use Rattle.journal_saving.proofs.ByteRules.{over-none, over-behind}
+use Rattle.journal_saving.proofs.JournalRules.{count-put, saved-behind}
 
 -- ---- one state
 pub saved-both : (registers targets journal : List ℕ) (at : ℕ) {between after : List ℕ} → after ≡ overwrittenAt (at + length registers) targets between → between ≡ overwrittenAt at registers journal

@@ -16,8 +16,8 @@ ghost use Rattle.design.specs.Resets.{lends};
 ghost use Rattle.machine.specs.Cycles.{Running, areasIn};
 ghost use Rattle.journal_model.specs.Journals.{savedLength, savedBytes, allSavedBytes, journalWith, savedIn, savedBefore};
 ghost use Rattle.journal_model.specs.Rules.{RoomKeeps};
-ghost use Rattle.journal.specs.Bytes.{overwrittenAt};
-ghost use Rattle.journal.specs.Saving.{CycleSaved};
+ghost use Rattle.journal_saving.specs.Bytes.{overwrittenAt};
+ghost use Rattle.journal_saving.specs.Saving.{CycleSaved};
 
 // Both areas, registers first, from a place of the journal on.
 fn save(registers: &[u8], targets: &[u8], journal: &mut [u8], at: usize)

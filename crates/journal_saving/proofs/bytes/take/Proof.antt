@@ -1,7 +1,7 @@
-use Rattle.journal.proofs.ByteRules.{put-whole}
+use Rattle.journal_saving.proofs.ByteRules.{put-whole}
 use borrow.Author.Needs.{needs}
-use Rattle.journal.proofs.bytes.take.Statement.{statement}
-use Rattle.journal.proofs.bytes.take.Tie as tie
+use Rattle.journal_saving.proofs.bytes.take.Statement.{statement}
+use Rattle.journal_saving.proofs.bytes.take.Tie as tie
 
 add-end : tie.Need-add-end
 add-end c = search needs
