@@ -11,6 +11,7 @@ pub mod Path
 pub mod Rising
 pub mod Enough
 pub mod Cycle
+pub mod Common
 pub mod Runs
 pub mod Calls
 pub mod Lists

@@ -18,9 +18,10 @@ use Rattle.model.specs.Rounding.{RoundedDown, RoundedTowardZero}
 use Rattle.model.specs.Signed.{signedValue, shiftCount, shiftedRight, dividedSigned}
 use Rattle.model.specs.Verdict.{verdict}
 use Rattle.model.specs.Parties.{Call, perform, atEnd, Use, start, Independent}
+use Rattle.model.specs.Neighbours.{IndependentNeighbours}
 use Rattle.model.proofs.Exact.{check-exact}
 use Rattle.model.proofs.Refused.{keeps-table, check-answers, registers-length-answers, targets-length-answers, call-answers}
-use Rattle.model.proofs.Independence.Theorem.{independent}
+use Rattle.model.proofs.Independence.Theorem.{independent, independent-across}
 use Rattle.model.proofs.Unchanged.{refused-lent}
 use Rattle.model.proofs.Grouping.{Grouped, grouped, none-left}
 use Rattle.model.proofs.Writing.{ChangesOnly, changes-only}
@@ -61,6 +62,11 @@ refused-leaves = refused-lent
 -- Demand 3: "Matching lists have equal views, and equal registers at or below the level at their end."
 pub independent-parties : Independent
 independent-parties = independent
+
+-- 02, E14, "A neighbour edits his design": demand 3 across two designs, "under the port and reset premises that already hold within one". `independent-parties` is the case
+-- of one design and is drawn from it.
+pub independent-neighbours : IndependentNeighbours
+independent-neighbours = independent-across
 
 -- "An accepted run of n counts as n cycles": so a run may be cut. A run of n and then one of m leave what one of n + m leaves; all three are accepted, each
 -- with its count, or all are refused alike.

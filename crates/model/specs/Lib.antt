@@ -1,6 +1,6 @@
 -- All that a reader has to believe, in the order of document 01, as document 02 changes it. Every definition here computes, but for
 -- the propositions of `Rules`, `Standing` and `Refusals`, and what is promised of ports (`Ports`), of rounding (`Rounding`), of
--- parties (`Parties`, demand 3) and of raisings (`Raising`).
+-- parties (`Parties` and `Neighbours`, demand 3) and of raisings (`Raising`).
 -- 'The image'
 pub mod Limits
 pub mod Indices
@@ -26,6 +26,7 @@ pub mod Bindings
 pub mod Machine
 -- 'What a party sees'
 pub mod Parties
+pub mod Neighbours
 -- 'When the box says no'
 pub mod Answers
 pub mod Rules

@@ -1,5 +1,5 @@
 -- The step lemma, over two designs that differ at most in the bodies of states that are not seen: the common beginning of the two live paths that is seen
--- runs in lockstep, and past it everything is hidden. Today's theorem is the case of one design.
+-- runs in lockstep, and past it everything is hidden.
 use Prim.Native.Nat.{ℕ, zero, suc, _+_, _*_, _/_, _%_, _<_}
 use mathlib.Core.Path.{_≡_, refl, sym, _∙_, ap, ap₂, fun-ext}
 use mathlib.Core.Logic.{_⊎_, inl, inr, _≢_}
@@ -24,12 +24,13 @@ use Rattle.model.specs.Trees.{bodyOf}
 use Rattle.model.specs.Falls.{holdsFall}
 use Rattle.model.specs.Machine.{Areas, Cycle, exec, goneTo, afterBody, runFrom}
 use Rattle.model.specs.Parties.{RanState, registerSeen, stateSeen, walkSeen}
+use Rattle.model.specs.Neighbours.{unnumbered, withoutCommand}
 use Rattle.model.proofs.Laws.Booleans.{decide, and-both}
 use Rattle.model.proofs.Laws.States.{ChildOf, sibling-child, sibling-no-root}
 use Rattle.model.proofs.Laws.Gotos.{within-self}
 use Rattle.model.proofs.Independence.Relation.{Good}
 use Rattle.model.proofs.Independence.Endings.{Ended}
-use Rattle.model.proofs.Independence.Unnumbered.{unnumbered, exec-alike, holds-alike, alike-with}
+use Rattle.model.proofs.Independence.Unnumbered.{exec-alike, holds-alike, alike-with}
 use Rattle.model.proofs.Independence.Agreement.{Agree, agree-sym, agree-trans}
 use Rattle.model.proofs.Independence.Commands.{OutcomesAgree, SameSeen, exec-same}
 use Rattle.model.proofs.Laws.Bindings.{bound-other, first-bound, second-bound}
@@ -39,20 +40,6 @@ use Rattle.model.proofs.Independence.Instances.{AcceptedDesign, rooted,
 use Rattle.model.proofs.Independence.Path.{entryOf, ran, leftBy, target, entry, after, Live, gone, left-good, left-live, live-sound, live-label, body-holds, body-shaped, body-flows, ended, target-live, parent-lower, fall-points, fall-keeps}
 use Rattle.model.proofs.Independence.Rising.{Rising, Defaults, default-of-fall, default-bound, gone-defaults, entry-hidden, run-hidden}
 
--- a state record apart from its command number
-abbrev pub withoutCommand : State → State
-withoutCommand x =
-    record {
-      parent = x .parent;
-      label = x .label;
-      command = 0;
-      parameters = x .parameters;
-      firstLower = x .firstLower;
-      firstUpper = x .firstUpper;
-      secondLower = x .secondLower;
-      secondUpper = x .secondUpper;
-    }
-
 -- Two designs with equal labels and registers, and equal state records apart from command numbers, whose bodies are the same commands, apart from node
 -- numbers, in states that are seen under some bindings.
 pub record Alike (d₁ d₂ : Design) (level : ℕ) : Type 0 where
@@ -60,10 +47,7 @@ pub record Alike (d₁ d₂ : Design) (level : ℕ) : Type 0 where
   pub registers : d₁ .registers ≡ d₂ .registers
   pub states : length (d₁ .states) ≡ length (d₂ .states)
   pub records : (s : ℕ) → withoutCommand (stateAt d₁ s) ≡ withoutCommand (stateAt d₂ s)
-  pub bodies : (bindings : List ℕ) (s : ℕ) → stateSeen d₁ level bindings s ≡ true → unnumbered (bodyOf d₁ s) ≡ unnumbered (bodyOf d₂ s)
-
-pub alike-self : (d : Design) (level : ℕ) → Alike d d level
-alike-self d level = record { rows = refl; registers = refl; states = refl; records = λ s. refl; bodies = λ bindings s h. refl }
+  pub bodies : (bindings : List ℕ) (s : ℕ) → s < length (d₁ .states) → stateSeen d₁ level bindings s ≡ true → unnumbered (bodyOf d₁ s) ≡ unnumbered (bodyOf d₂ s)
 
 -- two lists in two parts, the first ones as long as each other
 append-same : (xs xs′ ys ys′ : List ℕ) → length xs ≡ length xs′ → xs ++ ys ≡ xs′ ++ ys′ → (xs ≡ xs′) × (ys ≡ ys′)
@@ -173,8 +157,8 @@ module _ (d₁ d₂ : Design) (level : ℕ) (alike : Alike d₁ d₂ level) wher
   pub same-seen : (bindings : List ℕ) (s : ℕ) → stateSeen d₁ level bindings s ≡ stateSeen d₂ level bindings s
   same-seen bindings s = ap₂ (λ (rows : List ℕ) (label : ℕ). flowsTo rows label level) (alike .rows) (same-label bindings s)
 
-  pub same-holds : (bindings : List ℕ) (s : ℕ) → stateSeen d₁ level bindings s ≡ true → holdsFall (bodyOf d₁ s) ≡ holdsFall (bodyOf d₂ s)
-  same-holds bindings s seen = holds-alike (bodyOf d₁ s) (bodyOf d₂ s) (alike .bodies bindings s seen)
+  pub same-holds : (bindings : List ℕ) (s : ℕ) → s < length (d₁ .states) → stateSeen d₁ level bindings s ≡ true → holdsFall (bodyOf d₁ s) ≡ holdsFall (bodyOf d₂ s)
+  same-holds bindings s l seen = holds-alike (bodyOf d₁ s) (bodyOf d₂ s) (alike .bodies bindings s l seen)
 
   pub same-child : (s q : ℕ) → isChild d₁ s q ≡ isChild d₂ s q
   unfolding isChild
@@ -216,7 +200,7 @@ module _ (d₁ d₂ : Design) (level : ℕ) (alike : Alike d₁ d₂ level) wher
 
       seen-or-not : (stateSeen d₁ level b₁ q ≡ true) ⊎ (stateSeen d₁ level b₁ q ≡ false) → (holdsFall (bodyOf d₁ q) ≡ true → pathSeen d₁ level f (defaultTarget d₁ q) b₁ targets₁ ≡ pathSeen d₂ level f (defaultTarget d₁ q) b₂ targets₂) → cond (stateSeen d₁ level b₁ q) (seenAt d₁ b₁ q ∷ cond (holdsFall (bodyOf d₁ q)) (pathSeen d₁ level f (getD targets₁ q 0) b₁ targets₁) []) [] ≡ cond (stateSeen d₂ level b₂ q) (seenAt d₂ b₂ q ∷ cond (holdsFall (bodyOf d₂ q)) (pathSeen d₂ level f (getD targets₂ q 0) b₂ targets₂) []) []
       seen-or-not (inl h) further =
-          rw (← (seen-together-by b₁ b₂ q bound), h, ← (same-holds b₁ q h), ← bound) (ap (λ (rest : List RanState). seenAt d₁ b₁ q ∷ rest) (falls-or-not (decide (holdsFall (bodyOf d₁ q))) further))
+          rw (← (seen-together-by b₁ b₂ q bound), h, ← (same-holds b₁ q l h), ← bound) (ap (λ (rest : List RanState). seenAt d₁ b₁ q ∷ rest) (falls-or-not (decide (holdsFall (bodyOf d₁ q))) further))
       seen-or-not (inr h) further = rw (← (seen-together-by b₁ b₂ q bound), h)
 
   pub same-register-seen : (r : ℕ) → registerSeen d₁ level r ≡ registerSeen d₂ level r
@@ -391,7 +375,7 @@ module _ (d₁ d₂ : Design) (level : ℕ) (alike : Alike d₁ d₂ level) wher
       unfolding allFlowTo bodyWith
       bodies-together agree =
           let alike-run : exec (d₁ .registers) (a₂ .registers) (bodyWith d₁ (a₁ .bindings) s) ≡ ran d₂ s a₂ =
-          exec-alike (d₁ .registers) (cmdWith (boundIn d₁ (a₁ .bindings) s) (bodyOf d₁ s)) (cmdWith (boundIn d₁ (a₁ .bindings) s) (bodyOf d₂ s)) (a₂ .registers) (alike-with (boundIn d₁ (a₁ .bindings) s) (bodyOf d₁ s) (bodyOf d₂ s) (alike .bodies (a₁ .bindings) s seen))
+          exec-alike (d₁ .registers) (cmdWith (boundIn d₁ (a₁ .bindings) s) (bodyOf d₁ s)) (cmdWith (boundIn d₁ (a₁ .bindings) s) (bodyOf d₂ s)) (a₂ .registers) (alike-with (boundIn d₁ (a₁ .bindings) s) (bodyOf d₁ s) (bodyOf d₂ s) (alike .bodies (a₁ .bindings) s (l₁ .state) seen))
           ∙ ap₂ (λ (registers : List Register) (bound : List ℕ). exec registers (a₂ .registers) (cmdWith bound (bodyOf d₂ s))) (alike .registers) bound in
           let seen-there : stateSeen d₁ level (a₂ .bindings) s ≡ true = same-seen (a₂ .bindings) s ∙ seen₂ in
           rw
@@ -413,7 +397,7 @@ module _ (d₁ d₂ : Design) (level : ℕ) (alike : Alike d₁ d₂ level) wher
     seen-together f s a₁ a₂ l₁ l₂ good₁ good₂ seen bound agree paths further =
         let same = bodies-together f s a₁ a₂ l₁ l₂ good₁ good₂ seen bound agree in
         let seen′ : stateSeen d₂ level (a₂ .bindings) s ≡ true = sym (seen-together-by (a₁ .bindings) (a₂ .bindings) s bound) ∙ seen in
-        let holds₂ : holdsFall (bodyOf d₁ s) ≡ true → holdsFall (bodyOf d₂ s) ≡ true = λ h. sym (same-holds (a₁ .bindings) s seen) ∙ h in
+        let holds₂ : holdsFall (bodyOf d₁ s) ≡ true → holdsFall (bodyOf d₂ s) ≡ true = λ h. sym (same-holds (a₁ .bindings) s (l₁ .state) seen) ∙ h in
         let on : holdsFall (bodyOf d₁ s) ≡ true → pathSeen d₁ level f (target a₁ s) (a₁ .bindings) (a₁ .targets) ≡ pathSeen d₂ level f (target a₂ s) (a₂ .bindings) (a₂ .targets) = λ h.
         tail-same (seenAt d₁ (a₁ .bindings) s) (seenAt d₂ (a₂ .bindings) s) _ _ (sym (path-falls d₁ level f s (a₁ .bindings) (a₁ .targets) seen h) ∙ paths ∙ path-falls d₂ level f s (a₂ .bindings) (a₂ .targets) seen′ (holds₂ h)) in
         after-together

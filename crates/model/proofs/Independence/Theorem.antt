@@ -1,7 +1,7 @@
--- Demand 3 for every accepted image: the relation of `Runs.antt` holds from reset, and `Lists.antt` carries it through whole lists of calls.
--- All that it uses of the image is drawn from the verdict.
+-- Demand 3, across two accepted images that have the same in common at a level (02, E14) and so within one: the relation of `Runs.antt` holds from reset, and
+-- `Lists.antt` carries it through whole lists of calls. All that it uses of an image beside that is drawn from its verdict.
 use Prim.Native.Nat.{ℕ, _≤_, _<_}
-use mathlib.Core.Path.{_≡_}
+use mathlib.Core.Path.{_≡_, refl, ap}
 use mathlib.Core.List.{List}
 use native.Mathlib.Omega.{arith}
 use lib.ListN.{length, drop}
@@ -14,7 +14,8 @@ use Rattle.model.specs.Parties.{Independent}
 use Rattle.model.proofs.Laws.Words.{length-recordsOf}
 use Rattle.model.proofs.Exact.{verdict-exact}
 use Rattle.model.proofs.Independence.Relation.{Bisimulation}
-use Rattle.model.proofs.Independence.Cycle.{alike-self}
+use Rattle.model.specs.Neighbours.{Common, common, IndependentNeighbours}
+use Rattle.model.proofs.Independence.Common.{common-alike}
 use Rattle.model.proofs.Independence.Runs.{Related, related-bisimulation}
 use Rattle.model.proofs.Laws.Images.{label-count, register-count}
 use Rattle.model.proofs.Independence.Instances.{AcceptedDesign}
@@ -38,24 +39,48 @@ accepted-design image keeps =
       few-registers = let most = keeps .directory .sections Registers .at-most in let count = register-count image in omega arith;
     }
 
--- two runs of an accepted image from reset, at one of its labels
-pub related-runs : (image : List ℕ) → verdict image ≡ Accepted 0 → (level : ℕ) → level < length (designOf image .rows)
-    → Bisimulation (designOf image) (designOf image) level (Related (designOf image) (designOf image) level)
-related-runs image accepted level isLabel =
-    let d = designOf image in
+-- a level of one image is a level of another with the same in common
+pub common-level : (image edited : List ℕ) (level : ℕ) → common (designOf image) level ≡ common (designOf edited) level → level < length (designOf image .rows)
+    → level < length (designOf edited .rows)
+unfolding common
+common-level image edited level same isLabel = rw (ap (λ (c : Common). c .rows) same) at isLabel
+
+-- two runs from reset, one of each of two accepted images that have the same in common at one of their labels
+pub related-neighbours : (image edited : List ℕ) → verdict image ≡ Accepted 0 → verdict edited ≡ Accepted 0
+    → (level : ℕ)
+    → level < length (designOf image .rows)
+    → common (designOf image) level ≡ common (designOf edited) level
+    → Bisimulation (designOf image) (designOf edited) level (Related (designOf image) (designOf edited) level)
+related-neighbours image edited accepted accepted′ level isLabel same =
     let keeps = verdict-exact image .0 accepted in
     related-bisimulation
-    d
-    d
+    (designOf image)
+    (designOf edited)
     level
-    (alike-self d level)
+    (common-alike (designOf image) (designOf edited) level same)
     (accepted-design image keeps)
-    (accepted-design image keeps)
+    (accepted-design edited (verdict-exact edited .0 accepted′))
     (rooted image (keeps .directory))
     isLabel
 
+pub independent-across : IndependentNeighbours
+independent-across image edited accepted accepted′ level isLabel same one other matching =
+    let d₁ = designOf image in
+    let d₂ = designOf edited in
+    lists-independent
+    image
+    edited
+    accepted
+    accepted′
+    level
+    (Related d₁ d₂ level)
+    (Related d₂ d₂ level)
+    (related-neighbours image edited accepted accepted′ level isLabel same)
+    (related-neighbours edited edited accepted′ accepted′ level (common-level image edited level same isLabel) refl)
+    one
+    other
+    matching
+
+-- within one design: what it has in common with itself is the same
 pub independent : Independent
-independent image accepted level isLabel one other same =
-    let d = designOf image in
-    let related = related-runs image accepted level isLabel in
-    lists-independent image image accepted accepted level (Related d d level) (Related d d level) related related one other same
+independent image accepted level isLabel one other matching = independent-across image image accepted accepted level isLabel refl one other matching

@@ -7,20 +7,7 @@ use Rattle.model.specs.Trees.{Expr, constant, register, binary, Cmd, ski
 use Rattle.model.specs.Bindings.{exprWith, cmdWith}
 use Rattle.model.specs.Machine.{eval, Executed, unlessTransferred, exec}
 use Rattle.model.specs.Falls.{holdsFall}
-
--- the expression and the command with 0 for every node number
-unfoldable pub unnumberedExpr : Expr → Expr
-unnumberedExpr (constant v) = constant v
-unnumberedExpr (register m r) = register 0 r
-unnumberedExpr (binary o p q) = binary o (unnumberedExpr p) (unnumberedExpr q)
-
-unfoldable pub unnumbered : Cmd → Cmd
-unnumbered (skip n) = skip 0
-unnumbered (assign n r e) = assign 0 r (unnumberedExpr e)
-unnumbered (sequence n p q) = sequence 0 (unnumbered p) (unnumbered q)
-unnumbered (fall n) = fall 0
-unnumbered (goto n t x y) = goto 0 t x y
-unnumbered (branch n e p q) = branch 0 (unnumberedExpr e) (unnumbered p) (unnumbered q)
+use Rattle.model.specs.Neighbours.{unnumberedExpr, unnumbered}
 
 eval-unnumbered : (values : List ℕ) (e : Expr) → eval values e ≡ eval values (unnumberedExpr e)
 unfolding eval unnumberedExpr
