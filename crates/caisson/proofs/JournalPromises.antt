@@ -1,6 +1,6 @@
 -- The promises about journals, 02, E9, as a C host has them. Each takes the postconditions of the exported functions (`JournalContracts`), and no more.
 use Prim.Native.Nat.{ℕ, _+_, _-_, _≤_, _<_}
-use mathlib.Core.Path.{_≡_, sym, _∙_, ap}
+use mathlib.Core.Path.{_≡_, refl, sym, _∙_, ap}
 use mathlib.Core.List.{List, [], _∷_}
 use lib.ListN.{length}
 use Rattle.model.specs.declared.Answer.the-variants.{Accepted}
@@ -10,7 +10,7 @@ use Rattle.model.specs.Ports.{PortsKept}
 use Rattle.model.specs.Calls.{Lent, Left}
 use Rattle.model.specs.Refusals.{AnswersBy, WithinWidths}
 use Rattle.model.specs.Parties.{resets, runs, perform, withUnseen}
-use Rattle.model.proofs.Exact.{verdict-exact}
+use Rattle.model.specs.Neighbours.{common}
 use Rattle.journal_model.specs.Calls.{LentJournal, LeftJournal, runJournalled, stepBack}
 use Rattle.journal_model.specs.Lists.{JournalCall, journals, goesBack, performJournalled, JournalEvent, journalEvents, journalsAtEnd, viewJournalled, remainingJournalled, JournalUse, journalStart, journalHistory, journalRemains, journalViews, journalSeenAtEnd}
 use Rattle.journal_model.specs.Rules.{journalTable, journalCount}
@@ -22,7 +22,7 @@ use Rattle.caisson.specs.Told.{told}
 use Rattle.caisson.specs.ToldJournal.{NumbersLeftJournal}
 use Rattle.caisson.proofs.Contracts.{Checked, Called}
 use Rattle.caisson.proofs.JournalContracts.{CalledJournalled, AllCalledJournalled, HostedJournal, called-journalled-made}
-use Rattle.caisson.proofs.Promises.{told-accepted-exactly, called-told, called-leaves, seenIn}
+use Rattle.caisson.proofs.Promises.{told-verdict, called-told, called-leaves, seenIn}
 
 -- ---- what a call told and left
 module _ (image : List ℕ) (before after : LentJournal) (call : JournalCall) (h : HostAnswer) (called : CalledJournalled image before call h after) where
@@ -216,6 +216,28 @@ module _ (image : List ℕ) (level : ℕ) (host : HostedJournal image level) whe
       (all-journalled-ends image (host .calls) startedJournal (host .end) (host .called)
       ∙ ap (λ (lent : LentJournal). journalsAtEnd image lent (host .calls)) journal-started-so)
 
+-- 02, E14, "A neighbour edits his design": two hosts with journals, on one image each, which the library accepts, and the two have the same in common at a level.
+pub journal-neighbour-hosts-independent :
+    (image edited : List ℕ)
+    → (h h′ : HostAnswer)
+    → Checked image h
+    → told h ≡ record { number = 0; place = 0; count = 0 }
+    → Checked edited h′
+    → told h′ ≡ record { number = 0; place = 0; count = 0 }
+    → (level : ℕ)
+    → level < length (designOf image .rows)
+    → common (designOf image) level ≡ common (designOf edited) level
+    → (one : HostedJournal image level) (other : HostedJournal edited level)
+    → remainingJournalled (designOf image) level (journalHappened image level one) ≡ remainingJournalled (designOf edited) level (journalHappened edited level other)
+    → (viewJournalled (designOf image) level (journalHappened image level one) ≡ viewJournalled (designOf edited) level (journalHappened edited level other))
+    × (seenIn image level (one .end .areas) ≡ seenIn edited level (other .end .areas))
+journal-neighbour-hosts-independent image edited h h′ checked accepted checked′ accepted′ level label shared one other same =
+    let matching = sym (journal-remains-so image level one) ∙ same ∙ journal-remains-so edited level other in
+    let both = meaning.independent-journal-neighbours image edited (told-verdict image h checked accepted) (told-verdict edited h′ checked′ accepted′) level label shared (journalUsed image level one) (journalUsed edited level other) matching in (
+      journal-views-so image level one ∙ both .0 ∙ sym (journal-views-so edited level other),
+      journal-end-so image level one ∙ both .1 ∙ sym (journal-end-so edited level other),
+    )
+
 -- "Two matching lists that begin with empty journals which nobody else writes, journal the same cycles and go back by equal numbers at equal moments still give a
 -- party equal views, and equal registers at or below its level at the end."
 pub journal-hosts-independent :
@@ -230,9 +252,4 @@ pub journal-hosts-independent :
     → (viewJournalled (designOf image) level (journalHappened image level one) ≡ viewJournalled (designOf image) level (journalHappened image level other))
     × (seenIn image level (one .end .areas) ≡ seenIn image level (other .end .areas))
 journal-hosts-independent image h checked accepted level label one other same =
-    let verdict-accepts = verdict-exact image .1 (told-accepted-exactly image h checked .0 accepted) in
-    let matching = sym (journal-remains-so image level one) ∙ same ∙ journal-remains-so image level other in
-    let both = meaning.independent-journals image verdict-accepts level label (journalUsed image level one) (journalUsed image level other) matching in (
-      journal-views-so image level one ∙ both .0 ∙ sym (journal-views-so image level other),
-      journal-end-so image level one ∙ both .1 ∙ sym (journal-end-so image level other),
-    )
+    journal-neighbour-hosts-independent image image h h checked accepted checked accepted level label refl one other same

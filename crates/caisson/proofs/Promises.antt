@@ -13,6 +13,9 @@ use Rattle.model.specs.Ports.{PortsKept}
 use Rattle.model.specs.Values.{wordsOf}
 use Rattle.model.specs.Calls.{Lent}
 use Rattle.model.specs.Refusals.{FirstBroken, imageTable, callTable, callCount, AnswersBy, WithinWidths}
+use Rattle.model.specs.declared.Answer.the-variants.{Accepted}
+use Rattle.model.specs.Verdict.{verdict}
+use Rattle.model.specs.Neighbours.{common}
 use Rattle.model.specs.Parties.{Call, resets, writes, runs, perform, Event, events, atEnd, Use, withUnseen, start, history, remains, views, valuesSeen, view, remaining, seenAtEnd}
 use Rattle.model.proofs.Exact.{verdict-exact}
 use Rattle.model.proofs.Grouping.{Grouped}
@@ -25,6 +28,9 @@ use Rattle.caisson.proofs.Contracts.{Checked, RegistersMeasured, Target
 -- Demand 2, of check: a host is told 0, 0, 0 exactly when the image keeps the rules.
 pub told-accepted-exactly : (image : List ℕ) (h : HostAnswer) → Checked image h → (told h ≡ record { number = 0; place = 0; count = 0 }) ↔ Keeps image
 told-accepted-exactly image h checked = rw (checked-told image h checked) (meaning.accepted-exactly image)
+
+pub told-verdict : (image : List ℕ) (h : HostAnswer) → Checked image h → told h ≡ record { number = 0; place = 0; count = 0 } → verdict image ≡ Accepted 0
+told-verdict image h checked accepted = verdict-exact image .1 (told-accepted-exactly image h checked .0 accepted)
 
 -- ---- what a call told and left
 pub called-told : (image : List ℕ) (before after : Lent) (call : Call) (h : HostAnswer) → Called image before call h after → told h ≡ numbersOf (perform image before call .answer)
@@ -105,6 +111,27 @@ module _ (image : List ℕ) (level : ℕ) where
     unfolding seenAtEnd
     end-so = ap seenIn (all-called-ends image (host .calls) started (host .end) (host .called) ∙ ap (λ (lent : Lent). atEnd image lent (host .calls)) started-so)
 
+-- 02, E14, "A neighbour edits his design": two hosts use one image each, which the library accepts, and the two have the same in common at a level. Where the same remains of
+-- both lists there, the views are equal, and the registers at or below it agree at the end.
+pub neighbour-hosts-independent :
+    (image edited : List ℕ)
+    → (h h′ : HostAnswer)
+    → Checked image h
+    → told h ≡ record { number = 0; place = 0; count = 0 }
+    → Checked edited h′
+    → told h′ ≡ record { number = 0; place = 0; count = 0 }
+    → (level : ℕ)
+    → level < length (designOf image .rows)
+    → common (designOf image) level ≡ common (designOf edited) level
+    → (one : Hosted image level) (other : Hosted edited level)
+    → remaining (designOf image) level (happened image level one) ≡ remaining (designOf edited) level (happened edited level other)
+    → (view (designOf image) level (happened image level one) ≡ view (designOf edited) level (happened edited level other))
+    × (seenIn image level (one .end) ≡ seenIn edited level (other .end))
+neighbour-hosts-independent image edited h h′ checked accepted checked′ accepted′ level label shared one other same =
+    let matching = sym (remains-so image level one) ∙ same ∙ remains-so edited level other in
+    let both = meaning.independent-neighbours image edited (told-verdict image h checked accepted) (told-verdict edited h′ checked′ accepted′) level label shared (used image level one) (used edited level other) matching in
+    (views-so image level one ∙ both .0 ∙ sym (views-so edited level other), end-so image level one ∙ both .1 ∙ sym (end-so edited level other))
+
 -- Two hosts use one image that the library accepts. Where the same remains of both lists at a level, the views are equal, and the registers at or below
 -- it agree at the end.
 pub hosts-independent :
@@ -119,10 +146,7 @@ pub hosts-independent :
     → (view (designOf image) level (happened image level one) ≡ view (designOf image) level (happened image level other))
     × (seenIn image level (one .end) ≡ seenIn image level (other .end))
 hosts-independent image h checked accepted level label one other same =
-    let verdict-accepts = verdict-exact image .1 (told-accepted-exactly image h checked .0 accepted) in
-    let matching = sym (remains-so image level one) ∙ same ∙ remains-so image level other in
-    let both = meaning.independent-parties image verdict-accepts level label (used image level one) (used image level other) matching in
-    (views-so image level one ∙ both .0 ∙ sym (views-so image level other), end-so image level one ∙ both .1 ∙ sym (end-so image level other))
+    neighbour-hosts-independent image image h h checked accepted checked accepted level label refl one other same
 
 -- ---- what else a host may rely on
 -- A run may be cut: one of n and then one of m leave what one of n + m leaves. All three are accepted, each with its count, or all are refused alike.

@@ -1,6 +1,6 @@
 -- The promises about a replay, 02, E10, as a C host has them. Each takes what the exported functions are proved to leave (`ReplayContracts`, `Contracts`), and no more.
 use Prim.Native.Nat.{ℕ, _+_, _<_}
-use mathlib.Core.Path.{_≡_, sym, _∙_, ap}
+use mathlib.Core.Path.{_≡_, refl, sym, _∙_, ap}
 use mathlib.Core.List.{List, [], _∷_, map}
 use lib.ListN.{length}
 use Rattle.model.specs.Image.{AreBytes, designOf}
@@ -9,7 +9,7 @@ use Rattle.model.specs.Calls.{Lent, Left, areasOf}
 use Rattle.model.specs.Machine.{Cycle}
 use Rattle.model.specs.Refusals.{AnswersBy, WithinWidths}
 use Rattle.model.specs.Parties.{Call, resets, runs, perform, cycled, Seen, view, withUnseen}
-use Rattle.model.proofs.Exact.{verdict-exact}
+use Rattle.model.specs.Neighbours.{common}
 use Rattle.replay_model.specs.declared.TraceRecord.{TraceRecord}
 use Rattle.replay_model.specs.Traces.{replayed, supersededIn, tracePart, traceRest}
 use Rattle.replay_model.specs.Calls.{replay}
@@ -23,7 +23,7 @@ use Rattle.caisson.specs.declared.HostAnswer.{HostAnswer}
 use Rattle.caisson.specs.Told.{told, NumbersLeft}
 use Rattle.caisson.proofs.Contracts.{Checked, Called, AllCalled}
 use Rattle.caisson.proofs.ReplayContracts.{Replayed, HostedReplay}
-use Rattle.caisson.proofs.Promises.{told-accepted-exactly, called-told, called-leaves, all-called-ends, seenIn}
+use Rattle.caisson.proofs.Promises.{told-verdict, called-told, called-leaves, all-called-ends, seenIn}
 
 -- every one of some calls was accepted
 abbrev pub EachAccepted : (image : List ℕ) (calls : List Call) (before after : Lent) → AllCalled image before calls after → Type 0
@@ -177,6 +177,27 @@ module _ (image : List ℕ) (level n : ℕ) (host : HostedReplay image level n) 
       (replay-leaves image startedReplay (host .end) (host .trace) n (host .told) (host .replayed)
       ∙ ap (λ (lent : Lent). replay image lent (host .trace) n .lent) replay-started-so)
 
+-- 02, E14, "A neighbour edits his design": two hosts that replay, on one image each, which the library accepts, and the two have the same in common at a level.
+pub replay-neighbour-hosts-independent :
+    (image edited : List ℕ)
+    → (h h′ : HostAnswer)
+    → Checked image h
+    → told h ≡ record { number = 0; place = 0; count = 0 }
+    → Checked edited h′
+    → told h′ ≡ record { number = 0; place = 0; count = 0 }
+    → (level : ℕ)
+    → level < length (designOf image .rows)
+    → common (designOf image) level ≡ common (designOf edited) level
+    → (n : ℕ)
+    → (one : HostedReplay image level n) (other : HostedReplay edited level n)
+    → traceSeen (designOf image) level (one .trace) ≡ traceSeen (designOf edited) level (other .trace)
+    → (replaySeen image level n one ≡ replaySeen edited level n other) × (seenIn image level (one .end) ≡ seenIn edited level (other .end))
+replay-neighbour-hosts-independent image edited h h′ checked accepted checked′ accepted′ level label shared n one other same =
+    let both = meaning.independent-replay-neighbours image edited (told-verdict image h checked accepted) (told-verdict edited h′ checked′ accepted′) level label shared (replayUsed image level n one) (replayUsed edited level n other) n (replays-so image level n one) (replays-so edited level n other) same in (
+      replay-views-so image level n one ∙ both .0 ∙ sym (replay-views-so edited level n other),
+      replay-end-so image level n one ∙ both .1 ∙ sym (replay-end-so edited level n other),
+    )
+
 -- "Replayed from reset for the same n, traces equal in the records at or below a level give that level equal views where neither is refused"; and equal registers at or below the
 -- level at the end.
 pub replay-hosts-independent :
@@ -191,8 +212,4 @@ pub replay-hosts-independent :
     → traceSeen (designOf image) level (one .trace) ≡ traceSeen (designOf image) level (other .trace)
     → (replaySeen image level n one ≡ replaySeen image level n other) × (seenIn image level (one .end) ≡ seenIn image level (other .end))
 replay-hosts-independent image h checked accepted level label n one other same =
-    let verdict-accepts = verdict-exact image .1 (told-accepted-exactly image h checked .0 accepted) in
-    let both = meaning.independent-replays image verdict-accepts level label (replayUsed image level n one) (replayUsed image level n other) n (replays-so image level n one) (replays-so image level n other) same in (
-      replay-views-so image level n one ∙ both .0 ∙ sym (replay-views-so image level n other),
-      replay-end-so image level n one ∙ both .1 ∙ sym (replay-end-so image level n other),
-    )
+    replay-neighbour-hosts-independent image image h h checked accepted checked accepted level label refl n one other same

@@ -10,7 +10,7 @@ use Rattle.model.specs.Ports.{PortsKept}
 use Rattle.model.specs.Calls.{run}
 use Rattle.model.specs.Refusals.{AnswersBy, WithinWidths}
 use Rattle.journal_model.specs.Calls.{LentJournal, runJournalled, stepBack}
-use Rattle.journal_model.specs.Lists.{JournalCall, performJournalled, IndependentJournals}
+use Rattle.journal_model.specs.Lists.{JournalCall, performJournalled, IndependentJournals, IndependentJournalNeighbours}
 use Rattle.journal_model.specs.Rules.{journalTable, journalCount}
 use Rattle.journal_model.proofs.Exact.{journal-answers}
 use Rattle.journal_model.proofs.Unchanged.{journal-refused, back-none}
@@ -18,7 +18,7 @@ use Rattle.journal_model.proofs.Returning.{BackAt, back-by, Returned, b
 use Rattle.journal_model.proofs.Halves.{InHalves, halves}
 use Rattle.journal_model.proofs.Others.{OtherByte, others-kept}
 use Rattle.journal_model.proofs.Areas.{as-run, run-within-widths, back-within-widths, run-ports-kept}
-use Rattle.journal_model.proofs.Independence.Lists.{journals-theorem}
+use Rattle.journal_model.proofs.Independence.Lists.{journals-theorem, journals-across}
 
 -- "It refuses with 21, after 15, a journal under 4 bytes, or too short for its count and the cycles to run, or whose new count passes 32 bits, and with 22, after 21, a k
 -- above the count." "A saved state to be restored that is not sound is 14, judged after 22." Each call is accepted with its count exactly when every rule of its table is
@@ -37,6 +37,10 @@ journal-refused-leaves = journal-refused
 -- party equal views, and equal registers at or below its level at the end."
 pub independent-journals : IndependentJournals
 independent-journals = journals-theorem
+
+-- 02, E14, "A neighbour edits his design": the same across two designs that have the same in common at a level.
+pub independent-journal-neighbours : IndependentJournalNeighbours
+independent-journal-neighbours = journals-across
 
 -- "A journalled run is a run": where it is accepted, a run of the same areas is, with the same count, and leaves the same areas.
 pub journalled-as-run : (image : List ℕ) (lent : LentJournal) (n : ℕ) → numbersOf (runJournalled image lent n .answer) .number ≡ 0

@@ -12,6 +12,7 @@ use Rattle.model.specs.Values.{wordsOf}
 use Rattle.model.specs.Machine.{Cycle, cycles}
 use Rattle.model.specs.Calls.{Lent, Left, areasOf, reset}
 use Rattle.model.specs.Parties.{Call, perform, Event, cycled, eventsOf, Seen, Remaining, valuesSeen, view, remaining, RightLengths, withUnseen}
+use Rattle.model.specs.Neighbours.{common}
 use Rattle.journal_model.specs.Journals.{countIn}
 use Rattle.journal_model.specs.Calls.{LentJournal, LeftJournal, runJournalled, stepBack}
 
@@ -113,3 +114,16 @@ IndependentJournals =
     → (one other : JournalUse (designOf image))
     → journalRemains image level one ≡ journalRemains image level other
     → (journalViews image level one ≡ journalViews image level other) × (journalSeenAtEnd image level one ≡ journalSeenAtEnd image level other)
+
+-- 02, E14: the same across two designs that have the same in common at the level
+abbrev pub IndependentJournalNeighbours : Type 0
+IndependentJournalNeighbours =
+    (image edited : List ℕ)
+    → verdict image ≡ Accepted 0
+    → verdict edited ≡ Accepted 0
+    → (level : ℕ)
+    → level < length (designOf image .rows)
+    → common (designOf image) level ≡ common (designOf edited) level
+    → (one : JournalUse (designOf image)) (other : JournalUse (designOf edited))
+    → journalRemains image level one ≡ journalRemains edited level other
+    → (journalViews image level one ≡ journalViews edited level other) × (journalSeenAtEnd image level one ≡ journalSeenAtEnd edited level other)

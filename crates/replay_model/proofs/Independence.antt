@@ -12,11 +12,11 @@ use Rattle.model.specs.Machine.{Areas, Cycle, cycle}
 use Rattle.model.specs.Calls.{Lent, areasOf}
 use Rattle.model.specs.Parties.{cycled, Remaining, aWrite, aCycle, registerSeen, valuesSeen, view, remaining, Use, withUnseen, start, history, remains, views, seenAtEnd}
 use Rattle.model.proofs.Independence.Lists.{remaining-append}
-use Rattle.model.proofs.Independence.Theorem.{independent}
+use Rattle.model.proofs.Independence.Theorem.{independent-across}
 use Rattle.replay_model.specs.declared.TraceRecord.{TraceRecord}
 use Rattle.replay_model.specs.Traces.{kept, recordsOfCycle, withRecords}
 use Rattle.replay_model.specs.Calls.{replay}
-use Rattle.replay_model.specs.Views.{byHand, traceSeen, ReplayUse, replayStart, Replays, replayViews, replaySeenAtEnd, IndependentReplays}
+use Rattle.replay_model.specs.Views.{byHand, traceSeen, ReplayUse, replayStart, Replays, replayViews, replaySeenAtEnd, IndependentReplays, IndependentReplayNeighbours}
 use Rattle.replay_model.proofs.Laws.{bytes-are-bytes, kept-swap}
 use Rattle.replay_model.proofs.ByHand.{eventOf, view-cycles, Made, eventsByHand, cycles-by-hand, made-by-hand}
 
@@ -90,12 +90,15 @@ module _ (image : List ℕ) (level : ℕ) (u : ReplayUse (designOf image)) (n : 
   unfolding seenAtEnd start replayStart replaySeenAtEnd
   hand-at-end = ap (λ (left : Lent). valuesSeen d level (wordsOf (length (d .registers)) (left .registers))) (made .at-end)
 
-pub replays-independent : IndependentReplays
-replays-independent image accepted level isLabel one other n first second same =
-    let d = designOf image in
-    let remain : remains image level (handUse image level one n first) ≡ remains image level (handUse image level other n second) =
-    hand-remains image level one n first ∙ ap (λ (seen : List TraceRecord). remainsByHand seen 0 n) same ∙ sym (hand-remains image level other n second) in
-    let equal = independent image accepted level isLabel (handUse image level one n first) (handUse image level other n second) remain in (
-      sym (hand-views image level one n first) ∙ equal .0 ∙ hand-views image level other n second,
-      sym (hand-at-end image level one n first) ∙ equal .1 ∙ hand-at-end image level other n second,
+-- across two designs that have the same in common at the level, and so within one
+pub replays-across : IndependentReplayNeighbours
+replays-across image edited accepted accepted′ level isLabel common one other n first second same =
+    let remain : remains image level (handUse image level one n first) ≡ remains edited level (handUse edited level other n second) =
+    hand-remains image level one n first ∙ ap (λ (seen : List TraceRecord). remainsByHand seen 0 n) same ∙ sym (hand-remains edited level other n second) in
+    let equal = independent-across image edited accepted accepted′ level isLabel common (handUse image level one n first) (handUse edited level other n second) remain in (
+      sym (hand-views image level one n first) ∙ equal .0 ∙ hand-views edited level other n second,
+      sym (hand-at-end image level one n first) ∙ equal .1 ∙ hand-at-end edited level other n second,
     )
+
+pub replays-independent : IndependentReplays
+replays-independent image accepted level isLabel one other = replays-across image image accepted accepted level isLabel refl one other

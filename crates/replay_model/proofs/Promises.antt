@@ -13,13 +13,13 @@ use Rattle.replay_model.specs.declared.TraceRecord.{TraceRecord}
 use Rattle.replay_model.specs.Traces.{replayed, supersededIn, tracePart, traceRest}
 use Rattle.replay_model.specs.Calls.{replay}
 use Rattle.replay_model.specs.Rules.{replayTable}
-use Rattle.replay_model.specs.Views.{byHand, IndependentReplays}
+use Rattle.replay_model.specs.Views.{byHand, IndependentReplays, IndependentReplayNeighbours}
 use Rattle.replay_model.proofs.Exact.{replay-answers}
 use Rattle.replay_model.proofs.Unchanged.{replay-refused}
 use Rattle.replay_model.proofs.Latest.{latestOf, length-latest, latest-replays}
 use Rattle.replay_model.proofs.ByHand.{ByHand, as-by-hand}
 use Rattle.replay_model.proofs.Divided.{InParts, divided}
-use Rattle.replay_model.proofs.Independence.{replays-independent}
+use Rattle.replay_model.proofs.Independence.{replays-independent, replays-across}
 use Rattle.replay_model.proofs.Areas.{within, OtherPortsKept, other-ports-kept, none-left, AsRun, as-run}
 
 -- "It refuses with 23, after 15 and at the lowest such record, cycles that fall or reach n; a bad register or value is then 13 or 17, in one pass where the lowest bad record
@@ -60,6 +60,10 @@ replay-divided = divided
 -- or below the level at their end.
 pub independent-replays : IndependentReplays
 independent-replays = replays-independent
+
+-- 02, E14, "A neighbour edits his design": the same across two designs that have the same in common at a level.
+pub independent-replay-neighbours : IndependentReplayNeighbours
+independent-replay-neighbours = replays-across
 
 -- 02, E2: an accepted replay leaves every register within its width.
 pub replay-within-widths : (image : List ℕ) (lent : Lent) (trace : List TraceRecord) (n : ℕ) → numbersOf (replay image lent trace n .answer) .number ≡ 0

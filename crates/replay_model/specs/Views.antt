@@ -11,6 +11,7 @@ use Rattle.model.specs.Values.{wordsOf}
 use Rattle.model.specs.Answers.{numbersOf}
 use Rattle.model.specs.Calls.{Lent, areasOf, reset}
 use Rattle.model.specs.Parties.{Call, writes, runs, cycled, Seen, registerSeen, valuesSeen, view, RightLengths, withUnseen}
+use Rattle.model.specs.Neighbours.{common}
 use Rattle.replay_model.specs.declared.TraceRecord.{TraceRecord}
 use Rattle.replay_model.specs.Traces.{kept, recordsOfCycle, replayed}
 use Rattle.replay_model.specs.Calls.{replay}
@@ -66,3 +67,19 @@ IndependentReplays =
     → Replays image level other n
     → traceSeen (designOf image) level (one .trace) ≡ traceSeen (designOf image) level (other .trace)
     → (replayViews image level one n ≡ replayViews image level other n) × (replaySeenAtEnd image level one n ≡ replaySeenAtEnd image level other n)
+
+-- 02, E14: the same across two designs that have the same in common at the level
+abbrev pub IndependentReplayNeighbours : Type 0
+IndependentReplayNeighbours =
+    (image edited : List ℕ)
+    → verdict image ≡ Accepted 0
+    → verdict edited ≡ Accepted 0
+    → (level : ℕ)
+    → level < length (designOf image .rows)
+    → common (designOf image) level ≡ common (designOf edited) level
+    → (one : ReplayUse (designOf image)) (other : ReplayUse (designOf edited))
+    → (n : ℕ)
+    → Replays image level one n
+    → Replays edited level other n
+    → traceSeen (designOf image) level (one .trace) ≡ traceSeen (designOf edited) level (other .trace)
+    → (replayViews image level one n ≡ replayViews edited level other n) × (replaySeenAtEnd image level one n ≡ replaySeenAtEnd edited level other n)

@@ -20,10 +20,10 @@ use Rattle.model.specs.Parties.{Call, perform, eventsOf, valuesSeen}
 use Rattle.model.proofs.Independence.Relation.{startAreas, Bisimulation}
 use Rattle.model.proofs.Independence.Runs.{Related}
 use Rattle.model.proofs.Independence.Lists.{Follows, follows-lent, values-follow, call-leads, start-follows, related-cycles}
-use Rattle.model.proofs.Independence.Theorem.{related-runs}
+use Rattle.model.proofs.Independence.Theorem.{common-level, related-neighbours}
 use Rattle.journal_model.specs.Journals.{countLength, countIn, savedLength, savedOf, savedIn}
 use Rattle.journal_model.specs.Calls.{LentJournal, LeftJournal, savedBack, runJournalledAnswer, runJournalled, stepBackAnswer, restored, stepBack}
-use Rattle.journal_model.specs.Lists.{JournalCall, calls, journals, goesBack, performJournalled, JournalEvent, happened, journalEventsOf, journalEvents, journalsAtEnd, JournalUse, journalStart, journalHistory, journalRemains, journalViews, journalSeenAtEnd, IndependentJournals}
+use Rattle.journal_model.specs.Lists.{JournalCall, calls, journals, goesBack, performJournalled, JournalEvent, happened, journalEventsOf, journalEvents, journalsAtEnd, JournalUse, journalStart, journalHistory, journalRemains, journalViews, journalSeenAtEnd, IndependentJournals, IndependentJournalNeighbours}
 use Rattle.journal_model.specs.Rules.{RoomKeeps}
 use Rattle.journal_model.proofs.Laws.{length-savedIn, saved-recounted}
 use Rattle.journal_model.proofs.Accepted.{RunsJournalled, afterRun, accepted-runs, runs-leaves, after-saved, accepted-goes-back}
@@ -208,8 +208,24 @@ journals-independent image₁ image₂ accepted₁ accepted₂ level Related₁ 
     let at-end = rw e at (first .1) in
     (seen ∙ sym (second .0), at-end ∙ sym (second .1))
 
+-- across two designs that have the same in common at the level, and so within one
+pub journals-across : IndependentJournalNeighbours
+journals-across image edited accepted accepted′ level isLabel same one other matching =
+    let d₁ = designOf image in
+    let d₂ = designOf edited in
+    journals-independent
+    image
+    edited
+    accepted
+    accepted′
+    level
+    (Related d₁ d₂ level)
+    (Related d₂ d₂ level)
+    (related-neighbours image edited accepted accepted′ level isLabel same)
+    (related-neighbours edited edited accepted′ accepted′ level (common-level image edited level same isLabel) refl)
+    one
+    other
+    matching
+
 pub journals-theorem : IndependentJournals
-journals-theorem image accepted level isLabel one other e =
-    let d = designOf image in
-    let related = related-runs image accepted level isLabel in
-    journals-independent image image accepted accepted level (Related d d level) (Related d d level) related related one other e
+journals-theorem image accepted level isLabel one other matching = journals-across image image accepted accepted level isLabel refl one other matching
