@@ -21,4 +21,5 @@ pub mod Signed
 pub mod Calls
 pub mod Lists
 pub mod Views
+pub mod Neighbours
 pub mod Listings
