@@ -1,5 +1,6 @@
 //! Designs and gate tables as source text. `designs/README.md` documents the text form.
 
+pub mod compare;
 pub mod explain;
 pub mod gates;
 pub mod library;

@@ -1,8 +1,9 @@
 //! caisson: designs as source text, for the table format of document 01; and gate tables, of document 02.
 
+use caisson_tools::compare::compare;
 use caisson_tools::old;
 use caisson_tools::raise::{raise_table, raise_text};
-use caisson_tools::{assemble, assemble_placed, explain, gates, library, print, read};
+use caisson_tools::{assemble, assemble_placed, explain, gates, library, print, read, Table};
 use std::io::Write;
 use std::os::unix::fs::MetadataExt;
 use std::process::ExitCode;
@@ -14,20 +15,25 @@ const USAGE: &str = "usage: caisson assemble SOURCE TABLE
        caisson explain SOURCE.caisson
        caisson raise TABLE RAISED
        caisson raise SOURCE.caisson RAISED
-       caisson upgrade OLD NEW";
+       caisson upgrade OLD NEW
+       caisson compare OLD NEW [--level NUMBER]
+OLD and NEW of compare are each a TABLE or a SOURCE.caisson";
 
-/// How the name of a text ends. `explain` and `raise` take all else for a table.
+/// How the name of a text ends. `explain`, `raise` and `compare` take all else for a table.
 const TEXT: &str = ".caisson";
 
 /// What is said of a gate table where a design is needed.
-const NO_DESIGN: &str = "is a gate table; only a design can be raised or upgraded";
+const NO_DESIGN: &str = "is a gate table; only a design can be raised, upgraded or compared";
 
 const NO_TEXT: &str = "a table is raised to a table; `caisson print` makes a text of that";
 
 /// A table out of the limits may nest 8,191 nodes deep, more than the usual stack takes.
 const STACK: usize = 64 << 20;
 
-/// Ends with 0, with 1 where a design is refused, with 2 on any other failure.
+/// The status where a comparison says nothing for the level that was asked for.
+const NOT_SAID: u8 = 3;
+
+/// Ends with 0, with 1 where a design is refused, with 2 on any other failure, and with 3 as said above.
 fn main() -> ExitCode {
     let work = thread::Builder::new().stack_size(STACK).spawn(command);
     match work.expect("a thread starts").join() {
@@ -50,6 +56,8 @@ fn command() -> Result<ExitCode, String> {
         ["explain", table] => explain_table(table),
         ["raise", from, to] => raise_file(from, to),
         ["upgrade", old, new] => upgrade_file(old, new),
+        ["compare", old, new] => compare_files(old, new, None),
+        ["compare", old, new, "--level", level] => compare_files(old, new, Some(number(level)?)),
         _ => Err(USAGE.to_string()),
     }
 }
@@ -151,6 +159,72 @@ fn upgrade_file(old: &str, new: &str) -> Result<ExitCode, String> {
     let upgraded = old::upgrade(&image).map_err(|why| format!("{old}: {why}"))?;
     fs::write(new, upgraded).map_err(|error| format!("{new}: {error}"))?;
     Ok(ExitCode::SUCCESS)
+}
+
+/// One file under two names is taken for a slip: nothing would change for anyone.
+fn compare_files(old: &str, new: &str, level: Option<usize>) -> Result<ExitCode, String> {
+    if same_file(old, new) {
+        return Err(format!("{new}: is the old design itself"));
+    }
+    let (before, after) = match (judged(old)?, judged(new)?) {
+        (Ok(before), Ok(after)) => (before, after),
+        (before, after) => {
+            let refused = [before, after].into_iter().filter_map(Result::err);
+            let refused = refused.collect::<Vec<String>>().join("\n");
+            show(&format!("{refused}\nOnly accepted designs are compared.\n"))?;
+            return Ok(ExitCode::from(1));
+        }
+    };
+    let level = level.map(|level| label(old, &before, level)).transpose()?;
+    let comparison = compare(&before, &after);
+    let words = comparison.words(level);
+    show(&format!(
+        "Accepted: {old}, the old design, and {new}, the new one.\n{words}"
+    ))?;
+    match level {
+        Some(level) if !comparison.unchanged(level) => Ok(ExitCode::from(NOT_SAID)),
+        _ => Ok(ExitCode::SUCCESS),
+    }
+}
+
+/// The design of a file, or the words of the library's refusal.
+fn judged(path: &str) -> Result<Result<Table, String>, String> {
+    let (image, answer, words) = if path.ends_with(TEXT) {
+        let text = load_text(path)?;
+        if gates::is_text(&text) {
+            return Err(format!("{path}: {NO_DESIGN}"));
+        }
+        let (image, positions) =
+            assemble_placed(&text).map_err(|fault| format!("{path}: {fault}"))?;
+        let answer = library::check(&image);
+        let words = explain::explain_text(&text, &image, &positions, answer);
+        (image, answer, words)
+    } else {
+        let image = load_design(path)?;
+        let answer = library::check(&image);
+        let words = explain::explain(&image, answer);
+        (image, answer, words)
+    };
+    match answer.number {
+        0 => read(&image).map(Ok).map_err(|why| no_records(path, &why)),
+        _ => Ok(Err(format!("{path}: {words}"))),
+    }
+}
+
+fn number(level: &str) -> Result<usize, String> {
+    let digits = level.bytes().all(|byte| byte.is_ascii_digit());
+    let number = level.parse().ok().filter(|_| digits);
+    number.ok_or_else(|| format!("--level {level}: a level is the number of a label"))
+}
+
+fn label(path: &str, design: &Table, level: usize) -> Result<u8, String> {
+    let last = design.rows.len() - 1;
+    match level <= last {
+        true => Ok(level as u8),
+        false => Err(format!(
+            "{path}: level {level} is no label: the design has labels 0 to {last}"
+        )),
+    }
 }
 
 /// Two names of one file, also through links. What is not there yet is no other file.

@@ -22,6 +22,8 @@ fn run(arguments: &[&str]) -> (Option<i32>, String, String) {
     )
 }
 
+const NO_DESIGN: &str = "is a gate table; only a design can be raised, upgraded or compared";
+
 /// A file of the tests' own folder.
 fn made(name: &str) -> String {
     format!("{}/{name}", env!("CARGO_TARGET_TMPDIR"))
@@ -82,7 +84,7 @@ fn explain_knows_both_kinds() {
 }
 
 #[test]
-fn only_designs_are_raised_and_upgraded() {
+fn only_designs_are_raised_upgraded_and_compared() {
     let to = made("not_written.table");
     for arguments in [
         ["raise", "counter.table", &to],
@@ -91,9 +93,18 @@ fn only_designs_are_raised_and_upgraded() {
     ] {
         let (status, out, err) = run(&arguments);
         assert_eq!((status, out.as_str()), (Some(2), ""));
-        let words = "is a gate table; only a design can be raised or upgraded";
-        assert_eq!(err, format!("{}: {words}\n", arguments[1]));
+        assert_eq!(err, format!("{}: {NO_DESIGN}\n", arguments[1]));
         assert!(fs::metadata(&to).is_err());
+    }
+    for gates in ["counter.table", "counter.caisson"] {
+        for arguments in [
+            ["compare", gates, "lease.table"],
+            ["compare", "lease.table", gates],
+        ] {
+            let (status, out, err) = run(&arguments);
+            assert_eq!((status, out.as_str()), (Some(2), ""));
+            assert_eq!(err, format!("{gates}: {NO_DESIGN}\n"));
+        }
     }
 }
 

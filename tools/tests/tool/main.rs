@@ -2,6 +2,9 @@
 
 mod command_line;
 mod common;
+mod compare;
+mod compare_files;
+mod compare_levels;
 mod designs;
 mod from_the_end;
 mod gates;
