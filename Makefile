@@ -3,6 +3,7 @@ SOAK_DESIGN = designs/two_groups.table
 SOAK_SECONDS = 60
 SOAK_SEED = 1
 SOAK_LEVEL =
+SOAK_NEIGHBOUR =
 
 library = target/staticlib/libcaisson.a
 soak_sources = $(wildcard tests/soak/*.c) $(addprefix host/, box.c design.c journal.c numbers.c refusals.c say.c table.c)
@@ -47,19 +48,22 @@ tool: library
 		cargo build --quiet --release --offline --manifest-path tools/Cargo.toml
 
 # Two boxes side by side with unlike readings for one party, which also replay traces and go back by equal
-# numbers, for SOAK_SECONDS: at each level in turn, or at SOAK_LEVEL.
+# numbers, for SOAK_SECONDS: at each level in turn, or at SOAK_LEVEL. The second box runs SOAK_NEIGHBOUR, if given.
 soak: library
 	$(MAKE) target/soak/soak
 	target/soak/soak $(SOAK_DESIGN) --seconds $(SOAK_SECONDS) --seed $(SOAK_SEED) \
-		$(if $(SOAK_LEVEL),--level $(SOAK_LEVEL))
+		$(if $(SOAK_LEVEL),--level $(SOAK_LEVEL)) $(if $(SOAK_NEIGHBOUR),--neighbour $(SOAK_NEIGHBOUR))
 
 # The soak alone, with a library that is there already.
 target/soak/soak: $(soak_sources) $(wildcard tests/soak/*.h host/*.h) include/caisson.h $(library)
 	mkdir -p target/soak
 	$(soak_build) $(soak_sources) $(library) -o $@
 
-# The same with a run that leaks, and with a step back and a replay that do, for the test of the soak.
+# The same with a run that leaks, with one that leaks the design, and with a step back and a replay that leak, for
+# the test of the soak.
 target/soak/leaky: tests/soak/testdata/leaky_run.c target/soak/soak
+	$(soak_build) -Wl,--wrap=caisson_run $< $(soak_sources) $(library) -o $@
+target/soak/leaky_neighbour: tests/soak/testdata/leaky_neighbour.c target/soak/soak
 	$(soak_build) -Wl,--wrap=caisson_run $< $(soak_sources) $(library) -o $@
 target/soak/leaky_back: tests/soak/testdata/leaky_back.c target/soak/soak
 	$(soak_build) -Wl,--wrap=caisson_step_back $< $(soak_sources) $(library) -o $@

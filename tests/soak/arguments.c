@@ -6,17 +6,19 @@
 #include "say.h"
 
 const char arguments_usage[] =
-    "usage: soak DESIGN [--seconds N] [--seed N] [--level LABEL]\n"
-    "  --seconds N    run so long, 60 if not given, in equal parts for the levels\n"
-    "  --seed N       what chance starts from, 1 if not given\n"
-    "  --level LABEL  soak at this level only, not at each in turn\n"
-    "  --help         print this\n"
+    "usage: soak DESIGN [--neighbour DESIGN] [--seconds N] [--seed N] [--level LABEL]\n"
+    "  --neighbour DESIGN  what the second box runs: the design as a neighbour has edited it, with the\n"
+    "                      same labels, registers and states; soak at the levels that see no edited body\n"
+    "  --seconds N         run so long, 60 if not given, in equal parts for the levels\n"
+    "  --seed N            what chance starts from, 1 if not given\n"
+    "  --level LABEL       soak at this level only, not at each in turn\n"
+    "  --help              print this\n"
     "It ends with\n"
-    "  0  equal at every level that has a register in sight and a port out of sight\n"
-    "  1  the boxes differed, or the library refused the design or a call\n"
+    "  0  equal at every level that has a register in sight, and a port or all edited bodies out of sight\n"
+    "  1  the boxes differed, or the library refused a design or a call\n"
     "  2  wrong usage, an input that cannot be read, or an output that cannot be written\n"
     "  3  no difference, but at some level nothing in sight changes, so that none could have been\n"
-    "     seen; or no level could be tried\n";
+    "     seen, or no edited state had its turn; or no level could be tried\n";
 
 static bool wrong(const char *what, const char *argument)
 {
@@ -26,12 +28,15 @@ static bool wrong(const char *what, const char *argument)
 
 static bool takes_value(const char *name)
 {
-    return strcmp(name, "--seconds") == 0 || strcmp(name, "--seed") == 0 || strcmp(name, "--level") == 0;
+    return strcmp(name, "--neighbour") == 0 || strcmp(name, "--seconds") == 0 || strcmp(name, "--seed") == 0 ||
+           strcmp(name, "--level") == 0;
 }
 
 static bool valued_read(struct arguments *arguments, const char *name, const char *value)
 {
-    if (strcmp(name, "--seconds") == 0) {
+    if (strcmp(name, "--neighbour") == 0) {
+        arguments->neighbour = value;
+    } else if (strcmp(name, "--seconds") == 0) {
         if (!number_read_all(value, UINT32_MAX, &arguments->seconds) || arguments->seconds == 0)
             return wrong("--seconds takes a number of seconds from 1 on, not ", value);
     } else if (strcmp(name, "--seed") == 0) {

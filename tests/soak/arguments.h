@@ -8,14 +8,15 @@
 #include "caisson.h"
 
 enum ending {
-    ENDING_EQUAL = 0,     /* equal at every level with a register in sight and a port out of it */
-    ENDING_DIFFERENT = 1, /* the boxes differed, or the library refused the design or a call */
+    ENDING_EQUAL = 0,     /* equal at every level with a register in sight and a port or all edits out of it */
+    ENDING_DIFFERENT = 1, /* the boxes differed, or the library refused a design or a call */
     ENDING_INPUT = 2,     /* wrong usage, an input that cannot be read, an output that cannot be written */
-    ENDING_NOTHING = 3    /* no difference, but a level could not have shown one, or none was tried */
+    ENDING_NOTHING = 3    /* no difference, but a level or an edit could not have shown one, or none was tried */
 };
 
 struct arguments {
     const char *design;
+    const char *neighbour; /* of the second box; NULL where that has the same design */
     uint64_t seconds; /* for all levels together */
     uint64_t seed;
     uint64_t level; /* where one_level */

@@ -3,6 +3,7 @@
 #include <inttypes.h>
 #include <string.h>
 
+#include "neighbour.h"
 #include "refusals.h"
 #include "say.h"
 #include "table.h"
@@ -249,6 +250,16 @@ static bool random_back(struct pair *pair)
     return true;
 }
 
+/* Whether the next cycle of a box may run an edited body: the targets lead there. */
+static bool leads_to_edited(const struct pair *pair, const struct box *box)
+{
+    size_t state = 0;
+
+    while (!pair->edited[state] && box->targets[state] != state)
+        state = box->targets[state];
+    return pair->edited[state];
+}
+
 static bool sample(struct pair *pair)
 {
     if (!low_equal(pair)) {
@@ -260,6 +271,7 @@ static bool sample(struct pair *pair)
     pair->samples++;
     pair->high_differs += memcmp(pair->boxes[0].registers, pair->boxes[1].registers,
                                  pair->boxes[0].registers_length) != 0;
+    pair->edited_turns += leads_to_edited(pair, &pair->boxes[0]) || leads_to_edited(pair, &pair->boxes[1]);
     return true;
 }
 
@@ -279,13 +291,32 @@ static void sort_registers(struct pair *pair)
     }
 }
 
-bool pair_start(struct pair *pair, const uint8_t *image, size_t length, size_t level, uint64_t seed)
+static void find_edits(struct pair *pair, const uint8_t *other)
 {
-    *pair = (struct pair){.image = image, .level = level, .random = seed};
-    if (!accepted("reset", box_start(&pair->boxes[0], image, length), NULL) ||
-        !accepted("reset", box_start(&pair->boxes[1], image, length), NULL))
-        return false;
+    for (size_t state = 0; state < table_states(pair->image); state++) {
+        pair->edited[state] = !neighbour_same_body(pair->image, other, state);
+        pair->edited_count += pair->edited[state];
+    }
+}
+
+bool pair_hides_edits(const struct pair *pair, size_t *state)
+{
+    for (*state = 0; *state < table_states(pair->image); ++*state) {
+        if (pair->edited[*state] && neighbour_shows_edit(pair->image, pair->level, *state))
+            return false;
+    }
+    return true;
+}
+
+bool pair_start(struct pair *pair, const struct design *const designs[2], size_t level, uint64_t seed)
+{
+    *pair = (struct pair){.image = designs[0]->image, .level = level, .random = seed};
+    for (int box = 0; box < 2; box++) {
+        if (!accepted("reset", box_start(&pair->boxes[box], designs[box]->image, designs[box]->length), NULL))
+            return false;
+    }
     sort_registers(pair);
+    find_edits(pair, designs[1]->image);
     for (int box = 0; box < 2; box++) {
         size_t saved_length = pair->boxes[box].registers_length + pair->boxes[box].targets_length;
 

@@ -1,7 +1,7 @@
 /*
- * The soak: two boxes with one design run side by side for as long as it is told to, at each level of
- * the design in turn or at one. `soak --help` says how it is used and how it ends. Level and seed in
- * its output make the same calls again.
+ * The soak: two boxes with one design, or with a design and a neighbour's edit of it, run side by side for as
+ * long as it is told to, at each level of the design in turn or at one. `soak --help` says how it is used and how
+ * it ends. Level and seed in its output make the same calls again.
  */
 #define _POSIX_C_SOURCE 200809L
 
@@ -11,6 +11,7 @@
 
 #include "arguments.h"
 #include "design.h"
+#include "neighbour.h"
 #include "pair.h"
 #include "refusals.h"
 #include "say.h"
@@ -23,6 +24,7 @@
 /* What can be done at a level. */
 enum trial {
     TRIAL_READY,
+    TRIAL_SEEN,  /* an edited body is in sight */
     TRIAL_NONE,  /* nothing is out of sight, or nothing in sight */
     TRIAL_STILL, /* nothing in sight changes */
     TRIAL_BROKEN /* a call was refused */
@@ -35,22 +37,26 @@ struct level {
 
 struct soak {
     const struct arguments *arguments;
-    const struct design *design;
+    const struct design *designs[2]; /* of either box */
     struct level levels[CAISSON_LABELS];
     size_t first; /* of those asked for */
     size_t end;   /* behind the last */
     size_t ready;
     size_t still;
+    size_t idle; /* where no edited state had its turn */
 };
 
 /* Makes the two boxes of a level, and judges whether they could show anything. */
 static enum trial level_start(const struct soak *soak, size_t level, struct pair *pair)
 {
+    size_t state;
     bool can_differ;
 
-    if (!pair_start(pair, soak->design->image, soak->design->length, level, soak->arguments->seed))
+    if (!pair_start(pair, soak->designs, level, soak->arguments->seed))
         return TRIAL_BROKEN;
-    if (pair->high_count == 0 || pair->low_registers == 0)
+    if (!pair_hides_edits(pair, &state))
+        return TRIAL_SEEN;
+    if ((pair->high_count == 0 && pair->edited_count == 0) || pair->low_registers == 0)
         return TRIAL_NONE;
     if (!pair_can_differ(pair, &can_differ))
         return TRIAL_BROKEN;
@@ -77,6 +83,14 @@ static bool progress_print(const struct pair *pair, double seconds)
            fflush(stdout) == 0;
 }
 
+static bool edits_print(const struct pair *pair)
+{
+    return pair->edited_count == 0 ||
+           printf("  %zu %s another body in the second box; at %" PRIu64 " of the samples the targets led to one\n",
+                  pair->edited_count, pair->edited_count == 1 ? "state has" : "states have",
+                  pair->edited_turns) >= 0;
+}
+
 static bool summary_print(const struct pair *pair, double seconds)
 {
     return printf("level %zu: %" PRIu64 " cycles in each of two boxes, %" PRIu64 " port writes, %" PRIu64
@@ -87,6 +101,7 @@ static bool summary_print(const struct pair *pair, double seconds)
                   pair->journalled, pair->steps_back, pair->gone_back) >= 0 &&
            printf("  %" PRIu64 " replays in each box, of traces with %" PRIu64 " records in all\n", pair->replays,
                   pair->records) >= 0 &&
+           edits_print(pair) &&
            printf("  %.0f cycles a second in each box\n", (double)pair->cycles / seconds) >= 0 &&
            printf("  %.4f years of operation at 100 cycles a second\n",
                   (double)pair->cycles / CYCLES_A_SECOND / SECONDS_A_YEAR) >= 0 &&
@@ -119,27 +134,55 @@ static enum ending level_run(struct pair *pair, double seconds, uint64_t seed)
 /* Why a level is left out. */
 static bool left_out_print(const struct level *level)
 {
+    size_t state;
     const char *why = level->trial == TRIAL_STILL
                           ? "nothing in sight changes, whatever is written and run: no difference could be seen"
-                      : level->pair.high_count == 0 ? "no port is out of sight: nothing to try"
-                                                    : "no register is in sight: nothing to compare";
+                      : level->pair.high_count == 0 && level->pair.edited_count == 0
+                          ? "no port is out of sight: nothing to try"
+                          : "no register is in sight: nothing to compare";
 
+    if (!pair_hides_edits(&level->pair, &state))
+        return printf("level %zu: the other body of state %zu is in sight: nothing is promised\n", level->pair.level,
+                      state) >= 0 &&
+               fflush(stdout) == 0;
     return printf("level %zu: %s\n", level->pair.level, why) >= 0 && fflush(stdout) == 0;
+}
+
+static bool design_accepted(const struct design *design, const char *name)
+{
+    caisson_answer answer = caisson_check(design->image, design->length);
+
+    if (answer.number == CAISSON_ACCEPTED)
+        return true;
+    say("%s: ", name);
+    refusal_say(answer, NULL);
+    return false;
+}
+
+/* Both designs are accepted, and the second has the records of the first. */
+static enum ending designs_judge(const struct soak *soak)
+{
+    const struct arguments *arguments = soak->arguments;
+    const char *unlike;
+
+    if (!design_accepted(soak->designs[0], arguments->design) ||
+        (arguments->neighbour != NULL && !design_accepted(soak->designs[1], arguments->neighbour)))
+        return ENDING_DIFFERENT;
+    unlike = neighbour_unlike_records(soak->designs[0]->image, soak->designs[1]->image);
+    if (unlike == NULL)
+        return ENDING_EQUAL;
+    say("%s has other %s than %s: nothing is promised at any level\n", arguments->neighbour, unlike,
+        arguments->design);
+    return ENDING_NOTHING;
 }
 
 /* The levels asked for, made ready before the first is soaked, since they share the seconds. */
 static enum ending soak_start(struct soak *soak)
 {
     const struct arguments *arguments = soak->arguments;
-    size_t labels;
-    caisson_answer answer = caisson_check(soak->design->image, soak->design->length);
+    size_t seen = 0;
+    size_t labels = table_labels(soak->designs[0]->image);
 
-    if (answer.number != CAISSON_ACCEPTED) {
-        say("%s: ", arguments->design);
-        refusal_say(answer, NULL);
-        return ENDING_DIFFERENT;
-    }
-    labels = table_labels(soak->design->image);
     if (arguments->one_level && arguments->level >= labels) {
         say("level %" PRIu64 " is no label of the design, which has labels 0 to %zu\n", arguments->level, labels - 1);
         return ENDING_INPUT;
@@ -152,26 +195,39 @@ static enum ending soak_start(struct soak *soak)
             return ENDING_DIFFERENT;
         soak->ready += soak->levels[at].trial == TRIAL_READY;
         soak->still += soak->levels[at].trial == TRIAL_STILL;
+        seen += soak->levels[at].trial == TRIAL_SEEN;
     }
-    return ENDING_EQUAL;
+    if (seen < soak->end - soak->first)
+        return ENDING_EQUAL;
+    say("%s has other bodies than %s in sight of %s: nothing is promised\n", arguments->neighbour, arguments->design,
+        arguments->one_level ? "the level" : "every level");
+    return ENDING_NOTHING;
+}
+
+static bool names_print(const struct arguments *arguments)
+{
+    return printf("%s", arguments->design) >= 0 &&
+           (arguments->neighbour == NULL || printf(", neighbour %s", arguments->neighbour) >= 0) &&
+           printf(", seed %" PRIu64 "\n", arguments->seed) >= 0;
 }
 
 static enum ending soak_run(struct soak *soak)
 {
     enum ending ending = ENDING_EQUAL;
 
-    if (printf("%s, seed %" PRIu64 "\n", soak->arguments->design, soak->arguments->seed) < 0)
+    if (!names_print(soak->arguments))
         return ENDING_INPUT;
     for (size_t at = soak->first; at < soak->end && ending == ENDING_EQUAL; at++) {
         struct level *level = &soak->levels[at];
 
-        if (level->trial == TRIAL_READY)
+        if (level->trial == TRIAL_READY) {
             ending = level_run(&level->pair, (double)soak->arguments->seconds / (double)soak->ready,
                                soak->arguments->seed);
-        else if (!left_out_print(level))
+            soak->idle += level->pair.edited_count > 0 && level->pair.edited_turns == 0;
+        } else if (!left_out_print(level))
             ending = ENDING_INPUT;
     }
-    if (ending == ENDING_EQUAL && (soak->ready == 0 || soak->still > 0))
+    if (ending == ENDING_EQUAL && (soak->ready == 0 || soak->still > 0 || soak->idle > 0))
         return ENDING_NOTHING;
     return ending;
 }
@@ -194,7 +250,7 @@ static void soak_end(struct soak *soak)
 int main(int argc, char **argv)
 {
     static struct soak soak;
-    static struct design design;
+    static struct design designs[2];
     struct arguments arguments;
     enum ending ending;
 
@@ -202,11 +258,15 @@ int main(int argc, char **argv)
         return ENDING_INPUT;
     if (arguments.help)
         return finish(fputs(arguments_usage, stdout) == EOF ? ENDING_INPUT : ENDING_EQUAL);
-    if (design_load(&design, arguments.design) != STATUS_DONE)
+    if (design_load(&designs[0], arguments.design) != STATUS_DONE ||
+        (arguments.neighbour != NULL && design_load(&designs[1], arguments.neighbour) != STATUS_DONE))
         return ENDING_INPUT;
     soak.arguments = &arguments;
-    soak.design = &design;
-    ending = soak_start(&soak);
+    soak.designs[0] = &designs[0];
+    soak.designs[1] = arguments.neighbour == NULL ? &designs[0] : &designs[1];
+    ending = designs_judge(&soak);
+    if (ending == ENDING_EQUAL)
+        ending = soak_start(&soak);
     if (ending == ENDING_EQUAL)
         ending = soak_run(&soak);
     soak_end(&soak);

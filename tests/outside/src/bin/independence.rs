@@ -1,7 +1,9 @@
-//! Tries demand 3 on the library with random pairs of matching lists, of replays in an eighth of the time, and of
-//! runs of gate tables in the last quarter, for a bounded time.
+//! Tries demand 3 on the library with random pairs of matching lists, in an eighth of the time of lists and replays
+//! on a design and an edited one, in another of replays, and in the last quarter of runs of gate tables, for a
+//! bounded time.
 
 use caisson_tests::compare::arguments::Arguments;
+use caisson_tests::compare::edits::{edit_pairs_of_seed, EditFindings};
 use caisson_tests::compare::engine::LIBRARY;
 use caisson_tests::compare::gate_independence::{gate_pairs_of_seed, GateFindings};
 use caisson_tests::compare::groups::Groups;
@@ -17,7 +19,7 @@ fn main() -> ExitCode {
         return ExitCode::FAILURE;
     }
     let eighth = Duration::from_secs(arguments.seconds) / 8;
-    let end = Instant::now() + 5 * eighth;
+    let end = Instant::now() + 4 * eighth;
     println!("first seed {}", arguments.seed);
     let mut findings = Findings::default();
     let mut seed = arguments.seed;
@@ -30,6 +32,17 @@ fn main() -> ExitCode {
     }
     println!("last seed {}", seed - 1);
     findings.print();
+    let mut edits = EditFindings::default();
+    let end = Instant::now() + eighth;
+    let mut seed = arguments.seed;
+    while Instant::now() < end {
+        if let Err(difference) = edit_pairs_of_seed(&LIBRARY, seed, &mut edits) {
+            difference.report(&format!("seed {seed} of edits"));
+            return ExitCode::FAILURE;
+        }
+        seed += 1;
+    }
+    edits.print();
     let mut replays = ReplayFindings::default();
     let end = Instant::now() + eighth;
     let mut seed = arguments.seed;
@@ -52,7 +65,7 @@ fn main() -> ExitCode {
         seed += 1;
     }
     gates.print();
-    if !findings.able() || !replays.able() || !gates.able() {
+    if !findings.able() || !edits.able() || !replays.able() || !gates.able() {
         println!("FAILED: this test would not have found a difference");
         return ExitCode::FAILURE;
     }

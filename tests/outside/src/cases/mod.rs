@@ -2,6 +2,7 @@
 
 mod bindings;
 mod contents;
+mod edits;
 mod examples;
 mod gates;
 mod generator;

@@ -366,7 +366,7 @@ fn small_design(random: &mut Random) -> Table {
 
 /// Any areas, reset, and then any values within their widths in the registers not at or below the
 /// level; and an empty journal.
-fn start(stage: &Stage, level: u8, random: &mut Random) -> Areas {
+pub fn start(stage: &Stage, level: u8, random: &mut Random) -> Areas {
     let mut areas = Areas::new(stage.table, ROOM, random);
     stage.make(Call::Reset, &mut areas);
     areas.set_count(0);

@@ -7,6 +7,7 @@ pub mod calls;
 pub mod chance;
 pub mod children;
 pub mod difference;
+pub mod edits;
 pub mod engine;
 pub mod gate_reasons;
 pub mod groups;

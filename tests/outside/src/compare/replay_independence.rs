@@ -174,14 +174,14 @@ fn try_refused(
 }
 
 /// A replay from reset: what is seen, the areas after it and its answer.
-struct Watched {
-    seen: Seen,
-    areas: Areas,
-    answer: Answer,
+pub struct Watched {
+    pub seen: Seen,
+    pub areas: Areas,
+    pub answer: Answer,
 }
 
 /// Replays the first cycle from reset, the first two, and so on up to all.
-fn watch(
+pub fn watch(
     stage: &Stage,
     level: u8,
     trace: &[Record],
@@ -246,7 +246,7 @@ fn any_record(table: &Table, ports: &[u8], cycles: u32, random: &mut Random) -> 
 }
 
 /// The records at or below the level, in their order.
-fn low_trace(table: &Table, level: u8, cycles: u32, random: &mut Random) -> Vec<Record> {
+pub fn low_trace(table: &Table, level: u8, cycles: u32, random: &mut Random) -> Vec<Record> {
     let ports = ports(table, |label| table.flows(label, level));
     any_trace(table, &ports, cycles, random)
 }
@@ -263,7 +263,7 @@ fn any_trace(table: &Table, ports: &[u8], cycles: u32, random: &mut Random) -> V
 }
 
 /// The same records at or below the level, and any others between them.
-fn dressed(
+pub fn dressed(
     low: &[Record],
     table: &Table,
     level: u8,

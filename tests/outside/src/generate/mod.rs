@@ -2,6 +2,7 @@
 
 mod body;
 mod design;
+pub mod edit;
 pub mod faults;
 pub mod gates;
 mod lattice;

@@ -1,6 +1,7 @@
 //! A design as editable records. It may keep the rules or break any of them: it only knows
 //! how to be written as an image.
 
+mod bodies;
 mod build;
 pub mod gates;
 mod parameters;
