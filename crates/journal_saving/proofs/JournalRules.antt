@@ -12,7 +12,7 @@ use Rattle.model.proofs.Laws.Words.{length-bytesOf}
 use Rattle.design.specs.Words.{putWord}
 use Rattle.journal_model.specs.Journals.{countLength, countIn, allSavedBytes, journalFront, journalWith, recounted, savedLength, savedIn}
 use Rattle.journal_model.proofs.Laws.{saved-append, length-savedIn, saved-bytes}
-use Rattle.journal_saving.specs.Bytes.{overwrittenAt}
+use Rattle.encoding.specs.Parts.{overwrittenAt}
 
 -- the first word of a journal is its count
 pub count-put : (journal : List ℕ) (n : ℕ) → countLength ≤ length journal → putWord journal 0 n ≡ recounted n journal

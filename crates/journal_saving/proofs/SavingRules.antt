@@ -23,9 +23,9 @@ use Rattle.calls.proofs.CallRules.{bytes-left}
 use Rattle.journal_model.specs.Journals.{countLength, countIn, savedLength, savedBytes, allSavedBytes, journalWith, savedIn, savedBefore}
 use Rattle.journal_model.specs.Rules.{RoomKeeps}
 use Rattle.journal_model.proofs.Laws.{saved-append, length-run-saved}
-use Rattle.journal_saving.specs.Bytes.{overwrittenAt}
+use Rattle.encoding.specs.Parts.{overwrittenAt}
 use Rattle.journal_saving.specs.Saving.{CycleSaved}
-use Rattle.journal_saving.proofs.ByteRules.{over-none, over-behind}
+use Rattle.encoding.proofs.PartRules.{over-none, over-behind}
 use Rattle.journal_saving.proofs.JournalRules.{count-put, saved-behind}
 
 -- ---- one state

@@ -1,12 +1,7 @@
--- Parts of areas: bytes written over a part of others, and a part taken.
-use Prim.Native.Nat.{ℕ, _+_}
-use mathlib.Core.List.{List, _++_}
-use lib.ListN.{length, take, drop}
+-- A part of an area: so many bytes from a place on.
+use Prim.Native.Nat.{ℕ}
+use mathlib.Core.List.{List}
+use lib.ListN.{take, drop}
 
--- bytes with others written over them from a place on
-unfoldable pub overwrittenAt : ℕ → List ℕ → List ℕ → List ℕ
-overwrittenAt at part bytes = take at bytes ++ part ++ drop (at + length part) bytes
-
--- so many bytes from a place on
 unfoldable pub partOf : ℕ → ℕ → List ℕ → List ℕ
 partOf at size bytes = take size (drop at bytes)

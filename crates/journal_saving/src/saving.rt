@@ -1,11 +1,11 @@
 // Journalled cycles: before each the bytes of both areas go behind the states saved so far. The count
 // is raised once, behind the last.
-use crate::bytes::put;
 use crate::room::saved_count;
 use crate::room::saved_length;
 use crate::room::saved_place;
 use design::Design;
 use design::words::put_word;
+use encoding::parts::put;
 ghost use Prim.Native.Nat.{_+_, _*_, _≤_};
 ghost use mathlib.Core.Path.{_≡_};
 ghost use mathlib.Core.List.{_++_};
@@ -16,7 +16,7 @@ ghost use Rattle.design.specs.Resets.{lends};
 ghost use Rattle.machine.specs.Cycles.{Running, areasIn};
 ghost use Rattle.journal_model.specs.Journals.{savedLength, savedBytes, allSavedBytes, journalWith, savedIn, savedBefore};
 ghost use Rattle.journal_model.specs.Rules.{RoomKeeps};
-ghost use Rattle.journal_saving.specs.Bytes.{overwrittenAt};
+ghost use Rattle.encoding.specs.Parts.{overwrittenAt};
 ghost use Rattle.journal_saving.specs.Saving.{CycleSaved};
 
 // Both areas, registers first, from a place of the journal on.

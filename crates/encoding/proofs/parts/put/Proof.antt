@@ -1,9 +1,9 @@
 use Prim.Native.Nat.{_-_}
 use lib.ListN.{length}
-use Rattle.journal_saving.proofs.ByteRules.{PutSo, put-begins, put-inside, put-more, put-done}
+use Rattle.encoding.proofs.PartRules.{PutSo, put-begins, put-inside, put-more, put-done}
 use borrow.Author.Needs.{needs}
-use Rattle.journal_saving.proofs.bytes.put.Statement.{statement}
-use Rattle.journal_saving.proofs.bytes.put.Tie as tie
+use Rattle.encoding.proofs.parts.put.Statement.{statement}
+use Rattle.encoding.proofs.parts.put.Tie as tie
 
 abbrev Inv-loop : tie.InvT-loop
 Inv-loop part bytes₀ at i₀ bytes i = PutSo part bytes₀ at i bytes
