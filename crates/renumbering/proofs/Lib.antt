@@ -1,0 +1,11 @@
+-- What holds of designs under new numbers.
+pub mod Trees
+pub mod Unnumbered
+pub mod States
+pub mod Scopes
+pub mod Labels
+pub mod Bodies
+pub mod Uses
+pub mod Nodes
+pub mod Keeps
+pub mod Running

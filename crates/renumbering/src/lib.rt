@@ -1,0 +1,1 @@
+// Designs under new numbers: their meaning stands in specs/, what holds of them in proofs/.
