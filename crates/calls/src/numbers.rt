@@ -31,6 +31,7 @@ pub fn number(refusal: Refusal) -> u32
         Refusal::JournalArea => 21,
         Refusal::StepsBack => 22,
         Refusal::TraceCycle => 23,
+        Refusal::OutputArea => 24,
         Refusal::GateDirectory => 25,
         Refusal::GateWire => 26,
     }

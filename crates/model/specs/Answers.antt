@@ -1,7 +1,7 @@
 -- The number and the values that document 01 gives to each case of an answer. The promises about answers go through these definitions.
 use Prim.Native.Nat.{ℕ}
 use Rattle.model.specs.declared.Refusal.{Refusal}
-use Rattle.model.specs.declared.Refusal.the-variants.{Directory, LabelRow, RegisterRecord, StateRecord, NodeRecord, NodeUse, Depth, Shape, ChildLabel, AssignFlow, GotoFlow, FallFlow, NoPort, Area, CycleCount, PortAssigned, PortValue, NoRaising, Parameter, RaiseParameters, JournalArea, StepsBack, TraceCycle, GateDirectory, GateWire}
+use Rattle.model.specs.declared.Refusal.the-variants.{Directory, LabelRow, RegisterRecord, StateRecord, NodeRecord, NodeUse, Depth, Shape, ChildLabel, AssignFlow, GotoFlow, FallFlow, NoPort, Area, CycleCount, PortAssigned, PortValue, NoRaising, Parameter, RaiseParameters, JournalArea, StepsBack, TraceCycle, OutputArea, GateDirectory, GateWire}
 use Rattle.model.specs.declared.Answer.{Answer}
 use Rattle.model.specs.declared.Answer.the-variants.{Accepted, Refused}
 
@@ -36,6 +36,8 @@ numberOf JournalArea = 21
 numberOf StepsBack = 22
 -- 02, E10
 numberOf TraceCycle = 23
+-- 02, E11
+numberOf OutputArea = 24
 -- 02, E13
 numberOf GateDirectory = 25
 numberOf GateWire = 26

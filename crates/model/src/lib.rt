@@ -44,6 +44,7 @@ pub enum Refusal {
     JournalArea,
     StepsBack,
     TraceCycle,
+    OutputArea,
     GateDirectory,
     GateWire,
 }

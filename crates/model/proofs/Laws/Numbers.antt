@@ -7,7 +7,7 @@ use mathlib.Core.List.{[], _∷_}
 use native.Mathlib.Omega.{arith}
 use lib.ListN.{getD}
 use Rattle.model.specs.declared.Refusal.{Refusal}
-use Rattle.model.specs.declared.Refusal.the-variants.{Directory, LabelRow, RegisterRecord, StateRecord, NodeRecord, NodeUse, Depth, Shape, ChildLabel, AssignFlow, GotoFlow, FallFlow, NoPort, Area, CycleCount, PortAssigned, PortValue, NoRaising, Parameter, RaiseParameters, JournalArea, StepsBack, TraceCycle, GateDirectory, GateWire}
+use Rattle.model.specs.declared.Refusal.the-variants.{Directory, LabelRow, RegisterRecord, StateRecord, NodeRecord, NodeUse, Depth, Shape, ChildLabel, AssignFlow, GotoFlow, FallFlow, NoPort, Area, CycleCount, PortAssigned, PortValue, NoRaising, Parameter, RaiseParameters, JournalArea, StepsBack, TraceCycle, OutputArea, GateDirectory, GateWire}
 use Rattle.model.specs.declared.Answer.{Answer}
 use Rattle.model.specs.declared.Answer.the-variants.{Accepted, Refused}
 use Rattle.model.specs.Answers.{Numbers, numberOf, numbersOf}
@@ -39,7 +39,7 @@ numbered n =
     ∷ JournalArea
     ∷ StepsBack
     ∷ TraceCycle
-    ∷ Directory
+    ∷ OutputArea
     ∷ GateDirectory
     ∷ GateWire
     ∷ [])
@@ -70,6 +70,7 @@ numbered-back RaiseParameters = refl
 numbered-back JournalArea = refl
 numbered-back StepsBack = refl
 numbered-back TraceCycle = refl
+numbered-back OutputArea = refl
 numbered-back GateDirectory = refl
 numbered-back GateWire = refl
 
