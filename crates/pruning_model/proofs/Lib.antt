@@ -10,3 +10,5 @@ pub mod Images
 pub mod Exact
 pub mod Written
 pub mod Promises
+pub mod Opened
+pub mod Boundaries
