@@ -1,0 +1,3 @@
+-- Laws of pruning.
+pub mod WritingRules
+pub mod StageRules
