@@ -12,3 +12,5 @@ pub mod JournalContracts
 pub mod JournalPromises
 pub mod ReplayContracts
 pub mod ReplayPromises
+pub mod PruneContracts
+pub mod PrunePromises

@@ -28,12 +28,12 @@ pub record OutSlices : Type 0 where
   pub out : Gone
 
 -- the arguments, at entry and at exit
-abbrev raiseWith : OutSlices → List ℕ → List ℕ → RefT (List ℕ) × (RefT (List ℕ) × Unit {0})
-raiseWith s image out = (holds (s .image) image, (holds (s .out) out, tt))
+abbrev pub withOut : OutSlices → List ℕ → List ℕ → RefT (List ℕ) × (RefT (List ℕ) × Unit {0})
+withOut s image out = (holds (s .image) image, (holds (s .out) out, tt))
 
 -- The exported raising was called with this image and this second area, answered h and left the area so: its postcondition holds.
 abbrev pub RaiseCalled : List ℕ → List ℕ → HostAnswer → List ℕ → Type 0
-RaiseCalled image before h after = (κs : Lfts 2) × (s : OutSlices) × raise-reads.Post κs (raiseWith s image before) h (raiseWith s image after)
+RaiseCalled image before h after = (κs : Lfts 2) × (s : OutSlices) × raise-reads.Post κs (withOut s image before) h (withOut s image after)
 
 pub raise-called : (image before : List ℕ) (h : HostAnswer) (after : List ℕ) → RaiseCalled image before h after → toldLeftOut h after ≡ outInNumbers (raise image before)
-raise-called image before h after (κs, s, post) = raise-tie κs (raiseWith s image before) h (raiseWith s image after) post
+raise-called image before h after (κs, s, post) = raise-tie κs (withOut s image before) h (withOut s image after) post

@@ -12,6 +12,7 @@ ghost use Rattle.gates_model.specs.Calls.{gatesCheck, gatesReset, gatesCycle};
 ghost use Rattle.journal_model.specs.Calls.{runJournalled, stepBack};
 ghost use Rattle.journal.specs.Stages.{lendsJournal};
 ghost use Rattle.replay_model.specs.Calls.{replay as replayOf};
+ghost use Rattle.pruning_model.specs.Calls.{prune};
 ghost use Rattle.caisson.specs.Told.{told, toldLeft, inNumbers, toldLeftRegisters, registersInNumbers, toldLeftOut, outInNumbers};
 ghost use Rattle.caisson.specs.ToldGates.{toldLeftFlipFlops, flipFlopsInNumbers};
 ghost use Rattle.caisson.specs.ToldJournal.{toldLeftJournal, journalInNumbers};
@@ -161,6 +162,15 @@ pub extern "C" fn caisson_raise(image: &[u8], out: &mut [u8]) -> HostAnswer
     ensures { λ r. ⌜ toldLeftOut r (now (out .exit)) ≡ outInNumbers (raise (now (image .entry)) (now (out .entry))) ⌝ }
 {
     let answer = raising::raise(image, out);
+    in_numbers(answer)
+}
+
+// The image with only what can run, over the beginning of a second area.
+#[no_mangle]
+pub extern "C" fn caisson_prune(image: &[u8], out: &mut [u8]) -> HostAnswer
+    ensures { λ r. ⌜ toldLeftOut r (now (out .exit)) ≡ outInNumbers (prune (now (image .entry)) (now (out .entry))) ⌝ }
+{
+    let answer = pruning::prune(image, out);
     in_numbers(answer)
 }
 
