@@ -5,7 +5,8 @@
  * A design is a binary image of at most CAISSON_LARGEST_IMAGE bytes. The library keeps no state and
  * allocates nothing: a call works on the slices that it is lent and on its own stack, ends, and
  * relies on no earlier call. Each call makes its image checks again. The stack that a call takes is
- * measured, not proved: `make stack` shows less than 34 KB on the deepest design.
+ * measured, not proved: `make stack` shows less than 34 KB on the deepest design, and for caisson_prune, which
+ * has tables of its own beside those of the image checks, less than 41 KB.
  *
  * A slice is a pointer and a length in bytes, that of a port trace in records. The pointer may be NULL where
  * the length is 0. The slices of one call must not overlap. Nothing is read or written outside them.
@@ -27,9 +28,9 @@
  * of them, whatever its number. Whether that of 14 is a register or a state, its words below say. That of
  * 19 is a state where the record of one breaks the rule, else a node. That of 13 and 17 is a register in a
  * port write and a record in a replay.
- * `count` is the cycles that were run or gone back, the records that a replay superseded or the length that
- * was asked for, and 0 on every refusal. A refusal changes no byte of the areas, nor of a journal, nor of the
- * area that caisson_raise writes.
+ * `count` is the cycles that were run or gone back, the records that a replay superseded, the length that
+ * was asked for or the bytes of a pruned image, and 0 on every refusal. A refusal changes no byte of the
+ * areas, nor of a journal, nor of the area that caisson_raise or caisson_prune writes.
  *
  * The state of a design is two areas that the host owns and lends to each call: registers,
  * CAISSON_WORD bytes each, least significant byte first; and targets, one byte for each state, with
@@ -104,7 +105,7 @@ extern "C" {
 
 /* The version of the library and the number of the image's format. CHANGELOG.md says when each moves;
    docs/FORMAT.md has the format byte by byte. */
-#define CAISSON_VERSION "3.2.1"
+#define CAISSON_VERSION "3.3.0"
 #define CAISSON_FORMAT 3
 
 /* Limits of a design table. */
@@ -157,8 +158,8 @@ extern "C" {
 #define CAISSON_UNTRUSTED 1u
 
 /* What is wrong, and where `place` points. 1 to 12, 16 and 19 are about the image: they are the image
-   checks. 21 and 22 are about journals, 23 about port traces, 25 and 26 about gate tables.
-   caisson_refusals.def has the same words for a program to show. */
+   checks. 21 and 22 are about journals, 23 about port traces, 24 about output areas, 25 and 26 about gate
+   tables. caisson_refusals.def has the same words for a program to show. */
 enum caisson_refusal {
     CAISSON_ACCEPTED = 0,
     /* The directory, a count of records or the length of a section is wrong. The directory is five
@@ -235,12 +236,12 @@ enum caisson_refusal {
        0 or the number of a register. Of the states along the current targets, from the root to a
        state without children, each parameter is bound to a register that the design has, that is no
        port and whose label lies within the bounds. The area for a raised image is exactly as long
-       as the image. A journalled run and a replay judge what a run does. Going back judges the
-       lengths of both areas before 21, and after 22 values, targets and bindings as a run does, not
-       those of the areas but those of the saved state that it is to restore. A gate table is lent
-       one byte for each input and two for each flip-flop; only their lengths are judged by 14.
-       Place: 0 for a length; the lowest register for a value; the lowest state for a target or a
-       binding. */
+       as the image; that for a pruned one is judged by 24. A journalled run and a replay judge what
+       a run does. Going back judges the lengths of both areas before 21, and after 22 values,
+       targets and bindings as a run does, not those of the areas but those of the saved state that
+       it is to restore. A gate table is lent one byte for each input and two for each flip-flop;
+       only their lengths are judged by 14. Place: 0 for a length; the lowest register for a value;
+       the lowest state for a target or a binding. */
     CAISSON_AREA = 14,
     /* A run asks for more than 1,000,000 cycles. It refuses a journalled run and a replay too.
        Going back has no such limit. Place: 0. */
@@ -289,6 +290,10 @@ enum caisson_refusal {
        none. With no cycles to replay every record is refused. It is judged after 15, and before 13
        and 17. Place: the lowest such record of the trace, numbered from 0. */
     CAISSON_TRACE_CYCLE = 23,
+    /* An output area is shorter than what is written to it. For a pruned image it is never so where
+       it is as long as the image that is pruned. A longer one is accepted, and its bytes beyond
+       what is written keep their values. It is judged after the image checks. Place: 0. */
+    CAISSON_OUTPUT_AREA = 24,
     /* The directory of a gate table, a count of records or the length of a section is wrong. The
        directory is three pairs of 16-bit offset and length, sorted: the first offset is 12, each
        later one the sum of the pair before it, and the last section ends at the table's end. The
@@ -309,7 +314,7 @@ typedef struct {
     size_t place;    /* where; 0 on acceptance */
     size_t count;    /* accepted: of a run its cycles, with a journal or without, of going back the cycles
                         gone back, of a replay the records superseded, of a length call the length in
-                        bytes, of every other call 0; refused: 0 */
+                        bytes, of a pruning the bytes of the result, of every other call 0; refused: 0 */
 } caisson_answer;
 
 /* A record of a port trace: a port write to be made before a cycle. */
@@ -505,6 +510,38 @@ caisson_answer caisson_step_back(const uint8_t *image, size_t image_len,
 CAISSON_LOOK_AT_ANSWER
 caisson_answer caisson_raise(const uint8_t *image, size_t image_len, /* the image to raise */
                              uint8_t *out, size_t out_len);          /* where the raised one goes */
+
+/*
+ * Drops what can never run: writes the image with the reached states only, and answers its length in bytes as
+ * `count`.
+ *
+ * Reached are the root, the default child of a reached state that holds a fall, and the states that the gotos
+ * of a reached state name; no others are. A state holds the falls and gotos that stand anywhere in its body,
+ * also in a branch that no value takes. So no child of a state that is not reached is reached, and none of a
+ * state that holds no fall.
+ *
+ * The result has all labels and all registers of the image, its reached states with the commands and the
+ * expressions of their bodies, and nothing else. States, commands and expressions are closed up: each family
+ * is numbered from 0 without gaps, in the order that it had, and whatever names one of them has the new number.
+ * The arguments of a goto are registers or parameters and stay. caisson_check accepts the result. From reset,
+ * port writes and runs answer the same on both images and leave the same registers, and each cycle walks the
+ * same states, under the new numbers. Pruning the result again changes nothing more, and an image all of whose
+ * states are reached comes back unchanged, byte for byte.
+ *
+ * The result is a design of its own. Its register area is as long as that of the image; its target area has
+ * CAISSON_TARGET_LENGTH bytes for each state that stays, with the new numbers in them. So neither areas nor
+ * journals are taken over: a host that goes over to the result resets, and begins with an empty journal.
+ *
+ * `out` may be longer than the result, and its bytes beyond the result keep their values. One as long as the
+ * image is never too short, so that CAISSON_LARGEST_IMAGE bytes are enough for every image. What it held
+ * before does not matter, and on a refusal no byte of it is written. It must not overlap the image, as said
+ * above of all slices: what is written where they overlap is not defined. Refusals: the image checks, as from
+ * caisson_check, for states that would go too; then 24 with place 0 where `out` is shorter than the result. How
+ * long that would be, 24 does not tell.
+ */
+CAISSON_LOOK_AT_ANSWER
+caisson_answer caisson_prune(const uint8_t *image, size_t image_len, /* the image to prune */
+                             uint8_t *out, size_t out_len);          /* where the pruned one goes */
 
 /*
  * Gate tables: logic as NAND gates with trust marks.

@@ -1,6 +1,6 @@
-/* Every refusal in words, at each kind of place, and two that no library of today gives: one between them
-   and one behind. Then some of a replay, and 14 of a box in a design that is named, whose register 0 has less than 32 bits: at a
-   state, for its target and for its binding, and at a register. */
+/* Every refusal in words, at each kind of place, and two numbers that no library of today refuses by: 0, and the
+   one behind them all. Then some of a replay, and 14 of a box in a design that is named, whose register 0 has less
+   than 32 bits: at a state, for its target and for its binding, and at a register. */
 #include "design.h"
 #include "refusals.h"
 
@@ -15,7 +15,7 @@ static void each_number(void)
 
     for (uint32_t i = 0; i < count; i++)
         refusal_say((caisson_answer){numbers[i], 5, 0}, NULL);
-    refusal_say((caisson_answer){CAISSON_TRACE_CYCLE + 1, 5, 0}, NULL);
+    refusal_say((caisson_answer){CAISSON_ACCEPTED, 5, 0}, NULL);
     refusal_say((caisson_answer){numbers[count - 1] + 1, 5, 0}, NULL);
     refusal_say((caisson_answer){CAISSON_NODE_RECORD, CAISSON_EXPRESSION_PLACE - 1, 0}, NULL);
     refusal_say((caisson_answer){CAISSON_NODE_RECORD, CAISSON_EXPRESSION_PLACE, 0}, NULL);

@@ -12,7 +12,7 @@
 enum { CYCLES = 1000, EVERY = 100, STACK = 1 << 20, PAGE = 4096, PAINT = 0xA5 };
 
 /* One byte more than the largest image has, so that a longer file is refused. */
-static uint8_t image[CAISSON_LARGEST_IMAGE + 1u], raised[CAISSON_LARGEST_IMAGE + 1u];
+static uint8_t image[CAISSON_LARGEST_IMAGE + 1u], written[CAISSON_LARGEST_IMAGE + 1u];
 static uint8_t registers[CAISSON_REGISTERS * CAISSON_WORD], targets[CAISSON_STATES * CAISSON_TARGET_LENGTH];
 static uint8_t journal[CAISSON_JOURNAL_COUNT_LENGTH + CYCLES * (sizeof registers + sizeof targets)];
 static size_t image_len, registers_len, targets_len;
@@ -79,7 +79,12 @@ static void *step_back(void *unused) {
 }
 
 static void *raise_labels(void *unused) {
-    answer = caisson_raise(image, image_len, raised, image_len);
+    answer = caisson_raise(image, image_len, written, image_len);
+    return unused;
+}
+
+static void *prune(void *unused) {
+    answer = caisson_prune(image, image_len, written, image_len);
     return unused;
 }
 
@@ -205,6 +210,7 @@ int main(int count, char **paths) {
                                                  {"replay", replay},
                                                  {"run_journalled", run_journalled},
                                                  {"step_back", step_back},
+                                                 {"prune", prune},
                                                  {"raise", raise_labels}};
     static const struct measured of_gates[] = {
         {"gates_check", gates_check}, {"gates_reset", gates_reset}, {"gates_cycle", gates_cycle}};
