@@ -9,6 +9,7 @@ mod numbering;
 mod operator;
 mod positions;
 mod print;
+pub mod prune;
 pub mod raise;
 mod table;
 mod text;

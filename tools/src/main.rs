@@ -2,12 +2,14 @@
 
 use caisson_tools::compare::compare;
 use caisson_tools::old;
+use caisson_tools::prune::{prune_table, prune_text};
 use caisson_tools::raise::{raise_table, raise_text};
 use caisson_tools::{assemble, assemble_placed, explain, gates, library, print, read, Table};
 use std::io::Write;
 use std::os::unix::fs::MetadataExt;
+use std::path::PathBuf;
 use std::process::ExitCode;
-use std::{env, fs, io, thread};
+use std::{env, fs, io, process, thread};
 
 const USAGE: &str = "usage: caisson assemble SOURCE TABLE
        caisson print TABLE
@@ -15,17 +17,22 @@ const USAGE: &str = "usage: caisson assemble SOURCE TABLE
        caisson explain SOURCE.caisson
        caisson raise TABLE RAISED
        caisson raise SOURCE.caisson RAISED
+       caisson prune TABLE PRUNED
+       caisson prune SOURCE.caisson PRUNED
        caisson upgrade OLD NEW
        caisson compare OLD NEW [--level NUMBER]
 OLD and NEW of compare are each a TABLE or a SOURCE.caisson";
 
-/// How the name of a text ends. `explain`, `raise` and `compare` take all else for a table.
+/// How the name of a text ends. `explain`, `raise`, `prune` and `compare` take all else for a table.
 const TEXT: &str = ".caisson";
 
 /// What is said of a gate table where a design is needed.
-const NO_DESIGN: &str = "is a gate table; only a design can be raised, upgraded or compared";
+const NO_DESIGN: &str =
+    "is a gate table; only a design can be raised, pruned, upgraded or compared";
 
 const NO_TEXT: &str = "a table is raised to a table; `caisson print` makes a text of that";
+
+const NO_PRUNED_TEXT: &str = "a design is pruned to a table; `caisson print` makes a text of that";
 
 /// A table out of the limits may nest 8,191 nodes deep, more than the usual stack takes.
 const STACK: usize = 64 << 20;
@@ -55,6 +62,7 @@ fn command() -> Result<ExitCode, String> {
         ["explain", text] if text.ends_with(TEXT) => explain_text(text),
         ["explain", table] => explain_table(table),
         ["raise", from, to] => raise_file(from, to),
+        ["prune", from, to] => prune_file(from, to),
         ["upgrade", old, new] => upgrade_file(old, new),
         ["compare", old, new] => compare_files(old, new, None),
         ["compare", old, new, "--level", level] => compare_files(old, new, Some(number(level)?)),
@@ -144,6 +152,47 @@ fn raise_file(from: &str, to: &str) -> Result<ExitCode, String> {
     }
     show(&raised.words)?;
     Ok(status(raised.answer))
+}
+
+/// Writes a table; nothing where the design is refused, or where the tool has other words than the library.
+fn prune_file(from: &str, to: &str) -> Result<ExitCode, String> {
+    if same_file(from, to) {
+        return Err(format!("{to}: is the design itself, and would be lost"));
+    }
+    if to.ends_with(TEXT) {
+        return Err(format!("{to}: {NO_PRUNED_TEXT}"));
+    }
+    let pruned = if from.ends_with(TEXT) {
+        let source = load_text(from)?;
+        if gates::is_text(&source) {
+            return Err(format!("{from}: {NO_DESIGN}"));
+        }
+        prune_text(&source).map_err(|fault| format!("{from}: {fault}"))?
+    } else {
+        prune_table(&load_design(from)?)
+    };
+    let words = pruned.words.map_err(|why| format!("{from}: {why}"))?;
+    if pruned.answer.number == 0 {
+        replace(to, &pruned.image).map_err(|error| format!("{to}: {error}"))?;
+    }
+    show(&words)?;
+    Ok(status(pruned.answer))
+}
+
+/// Writes a file beside the one named and then puts it in its place, so that there is never a part of it under
+/// the name. What is there and is no file, such as a pipe, is written to.
+fn replace(path: &str, bytes: &[u8]) -> io::Result<()> {
+    let place = fs::canonicalize(path).unwrap_or_else(|_| PathBuf::from(path));
+    if fs::metadata(&place).is_ok_and(|found| !found.is_file()) {
+        return fs::write(&place, bytes);
+    }
+    let mut beside = place.clone().into_os_string();
+    beside.push(format!(".{}.part", process::id()));
+    let replaced = fs::write(&beside, bytes).and_then(|()| fs::rename(&beside, &place));
+    if replaced.is_err() {
+        let _ = fs::remove_file(&beside);
+    }
+    replaced
 }
 
 fn status(answer: library::Answer) -> ExitCode {

@@ -15,6 +15,7 @@ pub fn describe(image: &[u8], number: u32, place: usize) -> String {
     };
     match rules::place(&table, number, place) {
         None if number == 20 => parameters::holders(&table),
+        None if number == 24 => NO_FAULT.to_string(),
         None => directory(image, "a count is out of its limits"),
         Some(Place::Label(place)) => label(&table, place),
         Some(Place::Register(place)) => register(&table, place),
@@ -51,6 +52,9 @@ pub fn describe(image: &[u8], number: u32, place: usize) -> String {
         }
     }
 }
+
+/// Of an area that the image was to be written to.
+const NO_FAULT: &str = "The image is not at fault: a longer area takes what is written.\n";
 
 fn directory(image: &[u8], why: &str) -> String {
     let pairs: Vec<String> = pairs::<5>(image)

@@ -57,7 +57,7 @@ mod tests {
         let rows = WORDS.split("\nCAISSON_REFUSAL(").skip(1);
         let numbers = rows.map(|row| row.split(',').next().unwrap().parse().unwrap());
         let numbers: Vec<u32> = numbers.collect();
-        assert!(numbers.starts_with(&[1, 2, 3]) && numbers.ends_with(&[25, 26]));
+        assert!(numbers.starts_with(&[1, 2, 3]) && numbers.ends_with(&[24, 25, 26]));
         for &number in &numbers {
             let words = rule(number);
             assert!(
@@ -66,7 +66,7 @@ mod tests {
             );
             assert!(!words.starts_with("The tool has no words"), "{number}");
         }
-        for none in [0, 24, 27] {
+        for none in [0, 27] {
             assert_eq!(rule(none), "The tool has no words for this number.");
         }
         assert_eq!(
@@ -90,7 +90,7 @@ mod tests {
         assert_eq!(place(16, 1_023), Some(Place::Command(1_023)));
         assert_eq!(place(5, 1_024), Some(Place::Expression(0)));
         assert_eq!(place(19, 1_023), Some(Place::Command(1_023)));
-        for nothing in [0, 1, 13, 17, 18, 20, 21, 22, 23, 25, 26, 99] {
+        for nothing in [0, 1, 13, 17, 18, 20, 21, 22, 23, 24, 25, 26, 99] {
             assert_eq!(place(nothing, 0), None, "{nothing}");
         }
     }

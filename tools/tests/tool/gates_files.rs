@@ -22,7 +22,8 @@ fn run(arguments: &[&str]) -> (Option<i32>, String, String) {
     )
 }
 
-const NO_DESIGN: &str = "is a gate table; only a design can be raised, upgraded or compared";
+const NO_DESIGN: &str =
+    "is a gate table; only a design can be raised, pruned, upgraded or compared";
 
 /// A file of the tests' own folder.
 fn made(name: &str) -> String {
@@ -84,11 +85,13 @@ fn explain_knows_both_kinds() {
 }
 
 #[test]
-fn only_designs_are_raised_upgraded_and_compared() {
+fn only_designs_are_raised_pruned_upgraded_and_compared() {
     let to = made("not_written.table");
     for arguments in [
         ["raise", "counter.table", &to],
         ["raise", "counter.caisson", &to],
+        ["prune", "counter.table", &to],
+        ["prune", "counter.caisson", &to],
         ["upgrade", "counter.table", &to],
     ] {
         let (status, out, err) = run(&arguments);

@@ -14,6 +14,8 @@ mod known_tables;
 mod odd_tables;
 mod parameters;
 mod parameters_explained;
+mod prune;
+mod prune_files;
 mod raise;
 mod raise_chains;
 mod raise_files;
