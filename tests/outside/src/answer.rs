@@ -9,7 +9,8 @@ pub struct Answer {
     pub number: u32,
     /// The offending label, register, state, node or record; an expression is 1,024 plus its number.
     pub place: usize,
-    /// The cycles done by a run, the records superseded in a replay, the length told of an area; 0 otherwise.
+    /// The cycles done by a run, the records superseded in a replay, the length told of an area, or that of a
+    /// pruned image; 0 otherwise.
     pub count: usize,
 }
 

@@ -37,6 +37,7 @@ extern "C" {
         cycles: u32,
     ) -> Answer;
     fn caisson_raise(image: *const u8, image_len: usize, out: *mut u8, out_len: usize) -> Answer;
+    fn caisson_prune(image: *const u8, image_len: usize, out: *mut u8, out_len: usize) -> Answer;
 }
 
 extern "C" {
@@ -246,6 +247,15 @@ pub fn raise(image: &[u8], out: &mut [u8]) -> Answer {
 /// Its answer about the empty image as a C host may lend it, and no area.
 pub fn raise_null() -> Answer {
     unsafe { caisson_raise(ptr::null(), 0, ptr::null_mut(), 0) }
+}
+
+pub fn prune(image: &[u8], out: &mut [u8]) -> Answer {
+    unsafe { caisson_prune(image.as_ptr(), image.len(), lend(out), out.len()) }
+}
+
+/// Its answer about the empty image as a C host may lend it, and no area.
+pub fn prune_null() -> Answer {
+    unsafe { caisson_prune(ptr::null(), 0, ptr::null_mut(), 0) }
 }
 
 pub fn gates_check(table: &[u8]) -> Answer {

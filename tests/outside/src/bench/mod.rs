@@ -7,6 +7,7 @@ mod subjects;
 pub mod check;
 pub mod gates;
 pub mod journals;
+pub mod prune;
 pub mod raise;
 pub mod replays;
 pub mod reset;

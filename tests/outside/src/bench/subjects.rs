@@ -2,7 +2,7 @@
 
 use super::chains::random_chain;
 use crate::compare::passes::Passes;
-use crate::designs::{lease, longest_chain};
+use crate::designs::{going_down, going_round, largest, lease, longest_chain};
 use crate::generate;
 use crate::generate::faults::leaking;
 use crate::generate::random::Random;
@@ -10,7 +10,7 @@ use crate::generate::{design, lowered, Size};
 use crate::reference;
 use crate::reference::image::Image;
 use crate::reference::labels::Labels;
-use crate::reference::limits::MOST_REGISTERS;
+use crate::reference::limits::{MOST_REGISTERS, MOST_STATES};
 use crate::table::Table;
 
 /// So many images of one size, taken in turns: a processor that meets one image again and
@@ -117,6 +117,38 @@ pub fn for_raising() -> Vec<Subject> {
             &mut (1..).map(random_chain).filter_map(raised_late),
         ),
     ]
+}
+
+/// Designs of a quarter and a half of the largest's states and of all of them, every one reached; as large ones
+/// with half of their states spare, and some whose states are reached from the highest number down.
+pub fn for_pruning() -> Vec<Subject> {
+    let largest = largest();
+    let of = |name, table: &Table| Subject {
+        name,
+        images: (1..=IMAGES)
+            .map(|seed| {
+                let mut table = table.clone();
+                table.renumber(&mut Random::new(seed));
+                accepted(&table)
+            })
+            .collect(),
+    };
+    let first = |part| going_round(&largest, MOST_STATES * part / 4 - 1);
+    vec![
+        of("quarter", &pruned(&first(1))),
+        of("half", &pruned(&first(2))),
+        of("largest", &largest),
+        of("half spare", &first(2)),
+        of("downwards", &going_down(&largest)),
+    ]
+}
+
+/// The design without the states that are not reached.
+fn pruned(table: &Table) -> Table {
+    let image = table.image();
+    let mut out = vec![0; image.len()];
+    let count = reference::prune(&image, &mut out).count;
+    Table::open(&out[..count]).expect("an accepted image")
 }
 
 /// Its image, if it has an accepted raising: in some random designs too few assignments read a register.

@@ -1,6 +1,6 @@
 //! Compares the library with the reference on random images, on random lists of calls, on random replays, on
-//! random raisings and on random gate tables, for a bounded time: a tenth for replays, and equal parts of the
-//! rest.
+//! random raisings, on random prunings and on random gate tables, for a bounded time: a tenth for replays, a
+//! tenth for prunings, and equal parts of the rest.
 
 use caisson_tests::compare::arguments::Arguments;
 use caisson_tests::compare::check;
@@ -8,14 +8,16 @@ use caisson_tests::compare::difference::Difference;
 use caisson_tests::compare::engine::LIBRARY;
 use caisson_tests::compare::gates;
 use caisson_tests::compare::lists;
+use caisson_tests::compare::pruning;
 use caisson_tests::compare::raising;
 use caisson_tests::compare::replays;
 use std::process::ExitCode;
 use std::time::{Duration, Instant};
 
-/// The part of the time that a comparison has; replays meet all they have to in less.
-const PART: f64 = 0.225;
+/// The part of the time that a comparison has; replays and prunings meet all they have to in less.
+const PART: f64 = 0.2;
 const PART_OF_REPLAYS: f64 = 0.1;
+const PART_OF_PRUNINGS: f64 = 0.1;
 
 fn main() -> ExitCode {
     let arguments = Arguments::read(40);
@@ -24,6 +26,7 @@ fn main() -> ExitCode {
         && compare_lists(&arguments)
         && compare_replays(&arguments)
         && compare_raisings(&arguments)
+        && compare_prunings(&arguments)
         && compare_gates(&arguments);
     if equal {
         println!("no difference");
@@ -114,6 +117,20 @@ fn compare_raisings(arguments: &Arguments) -> bool {
     }
     let equal = each_seed(arguments, PART, |seed| {
         raising::raisings_of_seed(seed, &mut tallies)
+    });
+    tallies.print();
+    equal && all_met(tallies.missing())
+}
+
+fn compare_prunings(arguments: &Arguments) -> bool {
+    let mut tallies = pruning::Tallies::default();
+    let fixed = pruning::about_null().and_then(|()| pruning::fixed_images(&LIBRARY, &mut tallies));
+    if let Err(difference) = fixed {
+        difference.report("the fixed prunings");
+        return false;
+    }
+    let equal = each_seed(arguments, PART_OF_PRUNINGS, |seed| {
+        pruning::prunings_of_seed(&LIBRARY, seed, &mut tallies)
     });
     tallies.print();
     equal && all_met(tallies.missing())

@@ -13,6 +13,7 @@ mod lease;
 mod lengths;
 mod parameters;
 mod ports;
+mod pruning;
 mod raising;
 mod reading;
 mod replay_leaks;

@@ -58,8 +58,8 @@ impl Tallies {
     pub fn missing(&self) -> Vec<String> {
         let mut missing = Vec::new();
         for (call, tally) in CALLS.iter().zip(&self.0) {
-            // These take no area, no register, no value, no cycle count and no journal, and raise nothing.
-            for what in tally.missing(&[13, 14, 15, 17, 18, 20, 21, 22, 23]) {
+            // These take no area, no register, no value, no cycle count and no journal, and raise and prune nothing.
+            for what in tally.missing(&[13, 14, 15, 17, 18, 20, 21, 22, 23, 24]) {
                 missing.push(format!("{}: {what}", call.name));
             }
         }

@@ -16,6 +16,7 @@ pub struct Engine {
     pub run_journalled: Journalled,
     pub step_back: Journalled,
     pub replay: Replay,
+    pub prune: fn(&[u8], &mut [u8]) -> Answer,
 }
 
 /// The calls on journals.
@@ -32,6 +33,7 @@ pub const LIBRARY: Engine = Engine {
     run_journalled: library::run_journalled,
     step_back: library::step_back,
     replay: library::replay,
+    prune: library::prune,
 };
 
 pub const REFERENCE: Engine = Engine {
@@ -42,6 +44,7 @@ pub const REFERENCE: Engine = Engine {
     run_journalled: reference::run_journalled,
     step_back: reference::step_back,
     replay: reference::replay,
+    prune: reference::prune,
 };
 
 impl Engine {

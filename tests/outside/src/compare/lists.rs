@@ -41,15 +41,23 @@ impl Tallies {
     pub fn missing(&self) -> Vec<String> {
         let mut missing = Vec::new();
         for (name, tally, never) in [
-            ("reset", &self.reset, &[13, 15, 17, 18, 20, 21, 22, 23][..]),
-            ("port write", &self.write_port, &[15, 18, 20, 21, 22, 23]),
-            ("run", &self.run, &[13, 17, 18, 20, 21, 22, 23]),
+            (
+                "reset",
+                &self.reset,
+                &[13, 15, 17, 18, 20, 21, 22, 23, 24][..],
+            ),
+            (
+                "port write",
+                &self.write_port,
+                &[15, 18, 20, 21, 22, 23, 24],
+            ),
+            ("run", &self.run, &[13, 17, 18, 20, 21, 22, 23, 24]),
             (
                 "journalled run",
                 &self.run_journalled,
-                &[13, 17, 18, 20, 22, 23],
+                &[13, 17, 18, 20, 22, 23, 24],
             ),
-            ("step back", &self.step_back, &[13, 15, 17, 18, 20, 23]),
+            ("step back", &self.step_back, &[13, 15, 17, 18, 20, 23, 24]),
         ] {
             for what in tally.missing(never) {
                 missing.push(format!("{name}: {what}"));

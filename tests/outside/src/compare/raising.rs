@@ -10,9 +10,9 @@ use crate::generate::{chained, design, faults, lowered, parameterised, Size};
 use crate::reference::image::{Image, INNER};
 use crate::{designs, library, reference};
 
-/// The numbers that raising never gives: the flow is not asked, and no port, run, register, journal
-/// or trace is.
-const NEVER: &[u32] = &[10, 11, 12, 13, 15, 17, 21, 22, 23];
+/// The numbers that raising never gives: the flow is not asked, and no port, run, register, journal,
+/// trace or pruning is.
+const NEVER: &[u32] = &[10, 11, 12, 13, 15, 17, 21, 22, 23, 24];
 
 #[derive(Default)]
 pub struct Tallies(Tally);

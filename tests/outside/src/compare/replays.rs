@@ -31,8 +31,8 @@ const BY_HAND: usize = 30;
 /// So many records of a trace are shown with a difference.
 const SHOWN: usize = 40;
 
-/// The numbers that a replay never gives: no label is raised, and there is no journal.
-pub const NEVER: &[u32] = &[18, 20, 21, 22];
+/// The numbers that a replay never gives: no label is raised, nothing is pruned, and there is no journal.
+pub const NEVER: &[u32] = &[18, 20, 21, 22, 24];
 
 #[derive(Default)]
 pub struct Tallies(Tally);

@@ -1,9 +1,10 @@
 //! A design with every count at its limit.
 
+use crate::reference::image::GOTO;
 use crate::reference::limits::{
     MOST_COMMANDS, MOST_EXPRESSIONS, MOST_LABELS, MOST_REGISTERS, MOST_STATES, WIDEST,
 };
-use crate::table::Table;
+use crate::table::{Node, Table};
 
 /// The labels are a chain, the odd registers ports, the widths 32 or 9 to 22. The root falls; each
 /// other state assigns seven or eight times and goes to the next.
@@ -51,4 +52,30 @@ fn assign(table: &mut Table) -> u16 {
         value = table.add(value, constant);
     }
     table.assign((number % 5 * 14 % MOST_REGISTERS) as u8, value)
+}
+
+/// The largest design with its states going round among the first ones, up to this state: no state behind it is
+/// reached.
+pub fn going_round(largest: &Table, last: usize) -> Table {
+    let mut table = largest.clone();
+    let onward = (last + 1) as u8;
+    let goto = |node: &&mut Node| node.kind == GOTO && node.which == onward;
+    if let Some(node) = table.commands.iter_mut().find(goto) {
+        node.which = 1;
+    }
+    table
+}
+
+/// The same states, reached from the highest number down.
+pub fn going_down(largest: &Table) -> Table {
+    let mut table = largest.clone();
+    let gotos = table.commands.iter_mut().filter(|node| node.kind == GOTO);
+    // In the order of their states; the first of them goes to the last state.
+    for (before, node) in gotos.enumerate() {
+        node.which = match before {
+            0 => (MOST_STATES - 1) as u8,
+            _ => before as u8,
+        };
+    }
+    table
 }

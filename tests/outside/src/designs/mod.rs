@@ -12,7 +12,7 @@ mod spare;
 mod valve;
 
 pub use chain::longest_chain;
-pub use largest::largest;
+pub use largest::{going_down, going_round, largest};
 pub use leaks::{fall_before_assignment, two_bodies};
 pub use level::level;
 pub use parameters::{exchange, hidden_choice, line, one_group};

@@ -1,5 +1,5 @@
 //! Images with the verdict that a sentence of document 01 or 02, a decided point or a worked design
-//! gives them, operations with their values, and raisings. They are asserted of the reference, and stored
+//! gives them, operations with their values, raisings, and prunings. They are asserted of the reference, and stored
 //! for the proved program.
 
 mod arguments;
@@ -11,6 +11,7 @@ mod nodes;
 mod operations;
 mod parameters;
 mod ports;
+pub mod pruning;
 pub mod raising;
 mod reading;
 mod records;

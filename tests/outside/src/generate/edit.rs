@@ -25,7 +25,8 @@ pub fn edited(table: &Table, states: &[usize], random: &mut Random) -> Table {
     edited
 }
 
-fn write_body(table: &mut Table, state: usize, random: &mut Random) {
+/// A new body that keeps every rule.
+pub fn write_body(table: &mut Table, state: usize, random: &mut Random) {
     let size = odd(7, random);
     let mut author = Author::new(table, random);
     author.write_state(state, size);

@@ -10,7 +10,9 @@ pub mod parameters;
 mod raising;
 pub mod random;
 mod size;
+mod spare;
 
 pub use design::{any_design, design, full_of_parameters, parameterised};
 pub use raising::{chained, lowered};
 pub use size::Size;
+pub use spare::{lively, with_spares};

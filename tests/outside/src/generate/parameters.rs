@@ -9,9 +9,15 @@ use crate::table::Table;
 /// Gives states that are no default children parameters, and states that have some in scope the label of
 /// one.
 pub fn add_parameters(random: &mut Random, table: &mut Table) {
+    let states: Vec<usize> = (1..table.states.len()).collect();
+    add_parameters_to(random, table, &states);
+}
+
+/// To some of these states, which stand in order, and below which only these stand.
+pub fn add_parameters_to(random: &mut Random, table: &mut Table, states: &[usize]) {
     let share = *random.pick(&[30, 70, 100]);
     let labelled = *random.pick(&[20, 50, 80]);
-    for state in 1..table.states.len() {
+    for &state in states {
         let outer = table.scope(state).len();
         if !is_default_child(table, state) && outer < MOST_PARAMETERS && random.percent(share) {
             // Often one, so that a state below has room for another.

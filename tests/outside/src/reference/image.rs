@@ -76,6 +76,23 @@ impl State {
         }
     }
 
+    pub fn bytes(&self) -> [u8; STATE_BYTES] {
+        let [c0, c1] = self.command.to_le_bytes();
+        let [one, other] = self.bounds;
+        let (parent, label, count) = (self.parent, self.label, self.count);
+        [
+            parent,
+            label,
+            c0,
+            c1,
+            count,
+            one.lower,
+            one.upper,
+            other.lower,
+            other.upper,
+        ]
+    }
+
     /// The pairs that the count uses, and those that it does not.
     pub fn pairs(&self) -> (&[Bounds], &[Bounds]) {
         let used = usize::from(self.count).min(MOST_PARAMETERS);
@@ -103,6 +120,13 @@ impl Node {
             b: u16::from_le_bytes([b0, b1]),
             c: u16::from_le_bytes([c0, c1]),
         }
+    }
+
+    pub fn bytes(&self) -> [u8; NODE_BYTES] {
+        let [a0, a1] = self.a.to_le_bytes();
+        let [b0, b1] = self.b.to_le_bytes();
+        let [c0, c1] = self.c.to_le_bytes();
+        [self.kind, self.which, a0, a1, b0, b1, c0, c1]
     }
 
     /// A goto's arguments: the fields that so many parameters of the named state use, and the others.

@@ -1,4 +1,4 @@
-//! Document 01 with requests E1 to E4, E6 to E10 and E13 of document 02, implemented for clarity: tables and passes
+//! Document 01 with requests E1 to E4, E6 to E11 and E13 of document 02, implemented for clarity: tables and passes
 //! over node numbers, no recursion in the checker, so that it shares as little as possible with the
 //! proved library.
 
@@ -15,6 +15,7 @@ mod listing;
 pub mod machine;
 mod nodes;
 mod operations;
+mod prune;
 mod raise;
 mod records;
 pub mod refusal;
@@ -25,6 +26,7 @@ pub mod scopes;
 pub use calls::{check, registers_length, reset, run, targets_length, walk, write_port};
 pub use journals::{run_journalled, step_back};
 pub use listing::listing;
+pub use prune::{prune, reached};
 pub use raise::{raise, with_labels};
 pub use replays::replay;
 pub use rules::{context_flows, flow_faults};

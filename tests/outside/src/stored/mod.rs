@@ -9,6 +9,7 @@ mod journals;
 mod lease;
 mod parameters;
 mod ports;
+mod pruning;
 mod raising;
 mod record;
 mod runs;
@@ -48,5 +49,6 @@ fn records() -> Vec<Record> {
     gates::add(&mut script);
     gate_refusals::add(&mut script);
     journals::add(&mut script);
+    pruning::add(&mut script);
     script.end()
 }

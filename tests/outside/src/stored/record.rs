@@ -23,6 +23,11 @@ pub enum Record {
     Journal(Vec<u8>),
     RunJournalled(u32),
     StepBack(u32),
+    /// Prunes the image into an area of so many bytes, each of which is this before.
+    Prune {
+        length: u32,
+        fill: u8,
+    },
     /// A record of no kind.
     Bad,
 }
@@ -47,7 +52,8 @@ impl Record {
             Record::Journal(area) => record(11, area.len() as u32, 0, &[area]),
             Record::RunJournalled(cycles) => record(12, *cycles, 0, &[]),
             Record::StepBack(cycles) => record(13, *cycles, 0, &[]),
-            Record::Bad => record(14, 0, 0, &[]),
+            Record::Prune { length, fill } => record(14, *length, (*fill).into(), &[]),
+            Record::Bad => record(15, 0, 0, &[]),
         }
     }
 }

@@ -107,6 +107,11 @@ impl Script {
         self.add(Record::StepBack(cycles))
     }
 
+    pub fn prune(&mut self, length: usize, fill: u8) -> &mut Script {
+        let length = length as u32;
+        self.add(Record::Prune { length, fill })
+    }
+
     /// The design, and one cycle for each pair of values in the ports r1 and r2.
     pub fn pairs(&mut self, table: &Table, pairs: &[(u32, u32)]) {
         self.design(table).reset();

@@ -77,6 +77,11 @@ impl Lent {
                 self.journalled("journal", reference::run_journalled, *cycles)
             }
             Record::StepBack(cycles) => self.journalled("back", reference::step_back, *cycles),
+            Record::Prune { length, fill } => {
+                let mut out = vec![*fill; *length as usize];
+                let answer = reference::prune(&self.image, &mut out);
+                answered(&format!("prune {length}"), answer) + &line("out", &out)
+            }
             Record::Bad => "bad record\n".to_string(),
         }
     }
