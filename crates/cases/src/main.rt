@@ -25,6 +25,8 @@
 //      line `  journal` with the journal's bytes.
 //  13  step back by a cycles. Printed as `back A: NUMBER PLACE COUNT`, then the areas and the line
 //      `  journal`.
+//  14  the image is pruned into an area of a bytes, at most 25,653, each of which is b % 256 before.
+//      Printed as `prune A: NUMBER PLACE COUNT`, then a line `  out` with the area's bytes.
 //
 // Numbers that a kind does not use are not looked at. The areas are two lines, `  registers` and
 // `  targets`, each with its bytes as numbers. Before the first record that brings them, the image,
@@ -34,6 +36,7 @@
 // answers whether all of it was written.
 mod gate_records;
 mod journal_records;
+mod prune_records;
 
 use calls::numbers::number;
 use design::Design;
@@ -359,6 +362,7 @@ fn followed(
         6 => raised(image, a, (head.b % 256) as u8, lent),
         7 | 8 | 9 | 10 => gate_records::followed(table, flipflops, kind, a, lent),
         11 | 12 | 13 => journal_records::followed(image, registers, targets, journal, head, lent),
+        14 => prune_records::pruned(image, a, (head.b % 256) as u8, lent),
         _ => bad(),
     }
 }
