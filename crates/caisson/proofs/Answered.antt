@@ -8,9 +8,8 @@ use Rattle.model.specs.declared.Answer.the-variants.{Accepted, Refused}
 use Rattle.model.specs.Answers.{Numbers, numberOf, numbersOf}
 use Rattle.model.specs.Calls.{Left, LeftRegisters}
 use Rattle.design.specs.Resets.{lends}
-use Rattle.model.specs.Raising.{LeftOut}
+use Rattle.model.specs.Raising.{LeftOut, leftOutAs}
 use Rattle.calls.specs.Stages.{leftAs, leftRegistersAs}
-use Rattle.raising.specs.Stages.{leftOutAs}
 use Rattle.caisson.specs.declared.HostAnswer.{HostAnswer}
 use Rattle.caisson.specs.Told.{told, toldLeft, inNumbers, toldLeftRegisters, registersInNumbers, toldLeftOut, outInNumbers}
 

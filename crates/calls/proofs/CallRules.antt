@@ -18,7 +18,7 @@ use Rattle.model.specs.declared.Answer.{Answer}
 use Rattle.model.specs.declared.Answer.the-variants.{Accepted, Refused}
 use Rattle.model.specs.Limits.{cyclesMax, wordLength, targetLength}
 use Rattle.model.specs.Indices.{lowestFailing}
-use Rattle.model.specs.Image.{Design as Table, Registers, Register, AreBytes, word32At, designOf, registerAt}
+use Rattle.model.specs.Image.{Design as Table, Register, AreBytes, word32At, designOf, registerAt}
 use Rattle.model.specs.States.{isPort}
 use Rattle.model.specs.Parameters.{hasParameters}
 use Rattle.model.specs.Rules.{Keeps}
@@ -42,7 +42,7 @@ use Rattle.design.specs.Kept.{StatesKept, RecordsKept}
 use Rattle.design.specs.Words.{putWord}
 use Rattle.design.specs.Resets.{Defaults, lends}
 use Rattle.design.specs.Scopes.{Scopes}
-use Rattle.design.proofs.Laws.{registers-count, states-count, register-inside, register-in}
+use Rattle.design.proofs.Laws.{registers-count, registers-most, states-count, register-inside, register-in}
 use Rattle.design.proofs.ResetRules.{states-few}
 use Rattle.design.proofs.ScopeRules.{empty-scopes, no-parameters}
 use Rattle.design.proofs.WordRules.{words-at, words-put, length-put}
@@ -52,12 +52,9 @@ use Rattle.machine.specs.Cycles.{Running, areasIn}
 use Rattle.checker.proofs.Accepted.{accepted-known}
 use Rattle.calls.specs.Stages.{leftAs, leftRegistersAs, resetOn, writePortOn, soundOn, runOn, runSound}
 
-pub registers-few : {image : List ℕ} {x : Design} → Describes image x → x .registers ≤ 64
-registers-few d = omega (arith, d .registers, d .directory .sections Registers)
-
 -- ---- the lengths that an image asks for
 pub area-fits : {image : List ℕ} {x : Design} → Describes image x → Fits w64 (4 * x .registers)
-area-fits d = let few = registers-few d in record { fits = omega arith }
+area-fits d = let few = registers-most d in record { fits = omega arith }
 
 pub registers-bytes : {image : List ℕ} {x : Design} {n : ℕ} → Describes image x → n ≡ wordLength * x .registers → Accepted n ≡ Accepted (wordLength * length (designOf image .registers))
 registers-bytes d e = ap Accepted (rw (← registers-count d) e)

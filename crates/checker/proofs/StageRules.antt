@@ -21,6 +21,7 @@ use Rattle.model.specs.Image.{Design as Table, directoryKept, designOf}
 use Rattle.model.specs.Lattice.{labelKept}
 use Rattle.model.specs.States.{registerKept, stateKept}
 use Rattle.model.specs.Kinds.{commandKept, expressionKept}
+use Rattle.model.specs.Nodes.{commandOf}
 use Rattle.model.specs.Flow.{flowAnswer}
 use Rattle.model.specs.Rules.{DirectoryKeeps}
 use Rattle.model.specs.Verdict.{_before_, refusedAt, commandsFirst, lowestNode, designStructure, structure, verdict}
@@ -34,7 +35,7 @@ use Rattle.design.specs.Describes.{Describes}
 use Rattle.design.proofs.Laws.{expressions-count, expressions-most}
 use Rattle.design.specs.Kept.{LatticeKept, RegistersKept, StatesKept, ParametersKept, RecordsKept}
 use Rattle.design.specs.Scopes.{Scopes}
-use Rattle.checker_nodes.specs.Tables.{commandOf, countUses, CommandsPassed, ExpressionsPassed, NodesPassed, NodesFresh, NodesTold}
+use Rattle.checker_nodes.specs.Tables.{countUses, CommandsPassed, ExpressionsPassed, NodesPassed, NodesFresh, NodesTold}
 use Rattle.checker_nodes.proofs.CountRules.{count-append}
 use Rattle.checker_nodes.proofs.UseRules.{command-uses-told, expression-uses-told}
 use Rattle.checker_nodes.proofs.DepthRules.{command-depths-told, expression-depths-told}

@@ -4,18 +4,12 @@ use mathlib.Core.Path.{_≡_, refl}
 use mathlib.Core.Logic.{_⊎_, inl, inr, ⊎-elim}
 use mathlib.Core.Bool.{Bool, true, false}
 use native.Mathlib.Omega.{arith}
-use mathlib.Core.List.{List}
 use lib.Dec.{ltb}
-use lib.ListN.{length}
 use borrow.Author.Tests.{lt-ltb, le-ltb, ltb-true, ltb-false}
 use Rattle.model.specs.declared.Found.the-variants.{At, Nowhere}
 use Rattle.model.specs.Indices.{lower, lowestOf}
-use Rattle.model.specs.Limits.{registersMax, commandsMax}
-use Rattle.model.specs.Image.{designOf}
+use Rattle.model.specs.Limits.{commandsMax}
 use Rattle.model.specs.Shape.{chargedUnless}
-use Rattle.design.specs.declared.Design.{Design}
-use Rattle.design.specs.Describes.{Describes}
-use Rattle.design.proofs.Laws.{registers-count, registers-most, commands-count, commands-most}
 use Rattle.checker_bodies.specs.Places.{placeUnless, foundAmong}
 
 -- ---- what a place says
@@ -60,13 +54,3 @@ pub found-charged : {commands n : ℕ} (b : Bool) → n < commands → commands 
 unfolding lowestOf
 found-charged true l m = found-nowhere m
 found-charged false l m = found-at l
-
--- ---- a design has no more registers and no more commands than a table can have
-pub registers-few : {image : List ℕ} {x : Design} → Describes image x → length (designOf image .registers) ≤ registersMax
-registers-few d = let count = registers-count d in let most = registers-most d in omega arith
-
-pub commands-few : {image : List ℕ} {x : Design} → Describes image x → length (designOf image .commands) ≤ commandsMax
-commands-few d =
-    let count = commands-count d in
-    let most = commands-most d in
-    omega arith

@@ -29,11 +29,11 @@ use Rattle.design.specs.Records.{nodeIn, stateIn}
 use Rattle.design.specs.Kept.{StatesKept}
 use Rattle.design.specs.Resets.{Defaults, Filled}
 use Rattle.design.proofs.ResetRules.{filled-none, filled-within, alone, not-alone}
-use Rattle.design.proofs.Laws.{states-count, commands-count}
+use Rattle.design.proofs.Laws.{states-count, commands-count, commands-few}
 use Rattle.design.proofs.FieldRules.{parent-is, body-is, body-below, command-at, command-place-inside, command-below, command-kind-of, item-is, a-is, b-is, c-is, command-holds, named-state, sequence-a-below, sequence-b-below, branch-b-below, branch-c-below, lower-command}
 use Rattle.checker_bodies.specs.Places.{placeUnless, foundAmong}
 use Rattle.checker_bodies.specs.Shapes.{Judged, judgedOf, sequencedOf, branchedOf, judgementOf, fallsIn, judgementMost, judgedAmong, sequencedAs, branchedAs, Judging, Going, ShapeKnown, StateShaped, ShapesPassed}
-use Rattle.checker_bodies.proofs.PlaceRules.{found-nowhere, found-lower, found-charged, commands-few}
+use Rattle.checker_bodies.proofs.PlaceRules.{found-nowhere, found-lower, found-charged}
 
 -- ---- siblings
 and-known : {w : Bool} (a b c : Bool) → w ≡ true → (a && b && c) ≡ (a && (b && w && c))

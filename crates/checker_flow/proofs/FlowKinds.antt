@@ -32,11 +32,10 @@ use Rattle.design.specs.Records.{nodeIn, stateIn, stateEnd}
 use Rattle.design.specs.Kept.{RecordsKept, ParametersKept}
 use Rattle.design.specs.Labels.{LabelsKept}
 use Rattle.design.specs.Scopes.{inheritedScope, LabelByte, ScopesBelow, Scopes}
-use Rattle.design.proofs.Laws.{states-count, expressions-count, state-inside, state-in}
+use Rattle.design.proofs.Laws.{states-count, expressions-count, state-inside, state-in, registers-few, commands-few}
 use Rattle.design.proofs.FieldRules.{body-is, body-below, command-at, command-place-inside, command-below, same-command, command-kind-is, command-kind-of, item-is, a-is, b-is, c-is, command-holds, named-state, condition, sequence-a-below, sequence-b-below, branch-b-below, branch-c-below, lower-command, expression-at}
 use Rattle.design.proofs.BoundRules.{state-label-byte, labels-few}
 use Rattle.checker_bodies.specs.Places.{placeUnless}
-use Rattle.checker_bodies.proofs.PlaceRules.{registers-few, commands-few}
 use Rattle.checker_flow.specs.Masks.{MaskOf, Masks}
 use Rattle.checker_flow.specs.Flows.{BodiesKept, CommandScoped, Named, Entered, labelIn, ReadsMask, FirstFault, AssignFault, Gathering, Assigning, Flowing, Going, answerAmong, FirstAt}
 use Rattle.checker_flow.proofs.MaskRules.{flows-each-relabelled, mask-both, byte-small, named-entered}

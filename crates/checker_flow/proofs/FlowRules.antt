@@ -27,11 +27,10 @@ use Rattle.model.proofs.Laws.Trees.{expr-constant, expr-register, expr-binary, 
 use Rattle.design.specs.declared.Design.{Design}
 use Rattle.design.specs.Records.{nodeIn}
 use Rattle.design.specs.Describes.{Describes}
-use Rattle.design.proofs.Laws.{commands-count, expressions-count, command-in}
+use Rattle.design.proofs.Laws.{commands-count, expressions-count, command-in, registers-few, commands-few}
 use Rattle.design.proofs.FieldRules.{command-below, same-command, item-is, a-is, assigned-byte, assigned-expression, expression-at, expression-place-inside, expression-kind-is, read-is, first-is, second-is, expression-holds, read-byte, operation, operand-a-below, operand-b-below, lower-expression}
 use Rattle.design.proofs.BoundRules.{labels-few}
 use Rattle.checker_bodies.specs.Places.{placeUnless}
-use Rattle.checker_bodies.proofs.PlaceRules.{registers-few, commands-few}
 use Rattle.checker_flow.specs.Masks.{MaskOf, Masks}
 use Rattle.checker_flow.specs.Flows.{Named, Entered, labelIn, ReadsMask, AssignFault, Gathering, Assigning, answerAmong, FirstAt}
 use Rattle.checker_flow.proofs.MaskRules.{flows-each-relabelled, mask-both, mask-none, named-byte, byte-entered, byte-label-small, label-is, label-byte}

@@ -29,7 +29,7 @@ use Rattle.design.proofs.FieldRules.{command-kind-is, command-kind-of, a-is, b-
 use Rattle.design.proofs.ResetRules.{filled-none, filled-within, filled-to}
 use Rattle.checker_nodes.specs.Tables.{depthEntry, Depths, ShallowWhere}
 use Rattle.checker_nodes.proofs.CountRules.{failing-same}
-use Rattle.checker_nodes.proofs.PartRules.{operation-a, operation-b}
+use Rattle.design.proofs.PartRules.{operation-a, operation-b}
 
 -- ---- the table
 -- a loop over so many nodes as the design has is at its end

@@ -1,19 +1,21 @@
 -- A rule of a node, tested by its kind byte on the fields that the accessors read, is the meaning's rule.
 use Prim.Native.Nat.{ℕ, _+_, _≤_, _<_}
-use mathlib.Core.Path.{_≡_, _∙_, ap}
+use mathlib.Core.Path.{_≡_, refl, sym, _∙_, ap}
 use mathlib.Core.Logic.{_⊎_, inl, inr, ⊎-elim}
-use mathlib.Core.Bool.{Bool, false, _&&_, _||_}
+use mathlib.Core.Bool.{Bool, false, _&&_, _||_, not}
 use mathlib.Core.List.{List}
 use native.Mathlib.Omega.{arith}
 use lib.Dec.{leb, ltb, eqb}
 use Rattle.model.specs.Limits.{parameterRegister, bindingLength}
 use Rattle.model.specs.Image.{Node, designOf, commandAt, expressionAt}
 use Rattle.model.specs.Kinds.{CommandKind, ExpressionKind, commandKind, expressionKind, commandHolds, expressionHolds, commandKept, expressionKept}
+use Rattle.model.proofs.Laws.Booleans.{not-false}
 use Rattle.model.proofs.Laws.Kinds.{kind-skips, kind-assigns, kind-sequences, kind-falls, kind-goes, kind-branches, no-command-kind, expressionKinds, kind-constants, kind-reads, kind-operates, no-expression-kind}
 use Rattle.design.specs.declared.Design.{Design}
 use Rattle.design.specs.Records.{nodeIn}
 use Rattle.design.specs.Describes.{Describes}
-use Rattle.design.proofs.Laws.{registers-count, states-count, expressions-count, command-in, expression-in}
+use Rattle.design.specs.RecordsAt.{CommandAt, ExpressionAt}
+use Rattle.design.proofs.Laws.{registers-count, states-count, commands-count, expressions-count, command-in, expression-in}
 
 -- a register byte, among so many registers
 abbrev RegisterTest : ℕ → ℕ → Bool
@@ -168,3 +170,14 @@ module _ {image : List ℕ} {x : Design} (d : Describes image x) where
 pub ruleset command-rules = (command-fields, command-bare, command-assign, command-sequence, command-goto, command-branch, command-unknown)
 
 pub ruleset expression-rules = (expression-fields, expression-constant, expression-register, expression-operation, expression-unknown)
+
+-- ---- a node that has just been judged
+module _ {image : List ℕ} {x : Design} {n : ℕ} {b : Bool} (h : not b ≡ false) where
+  pub judged-command : b ≡ commandKept (designOf image) n → n < x .commands → Describes image x → CommandAt image x (x .«commands_at») n
+  judged-command e l d = record { describes = d; node = l; kept = sym e ∙ not-false b h; begins = refl }
+
+  pub judged-expression : b ≡ expressionKept (designOf image) n → n < x .expressions → Describes image x → ExpressionAt image x (x .«expressions_at») n
+  judged-expression e l d = record { describes = d; node = l; kept = sym e ∙ not-false b h; begins = refl }
+
+-- the counts of a design, for `search`
+pub ruleset counts = (states-count, commands-count, expressions-count)

@@ -1,4 +1,4 @@
--- The nodes that a record uses, the tables that the loops over the nodes fill, and what the tables then tell.
+-- The tables that the loops over the nodes fill, and what the tables then tell.
 use Prim.Native.Nat.{ℕ, min, _+_, _≤_, _<_}
 use mathlib.Core.Path.{_≡_}
 use mathlib.Core.Bool.{Bool}
@@ -9,26 +9,13 @@ use Rattle.model.specs.declared.Found.{Found}
 use Rattle.model.specs.declared.Found.the-variants.{At, Nowhere}
 use Rattle.model.specs.Indices.{lowestFailing, joinBelow}
 use Rattle.model.specs.Limits.{depthMax}
-use Rattle.model.specs.Image.{Design, designOf, stateAt, commandAt, expressionAt}
-use Rattle.model.specs.Kinds.{commandKind, expressionKind, commandKept, expressionKept}
+use Rattle.model.specs.Image.{Design, designOf}
+use Rattle.model.specs.Kinds.{commandKept, expressionKept}
 use Rattle.model.specs.Trees.{exprOf, cmdOf, exprDepth, cmdDepth}
-use Rattle.model.specs.Nodes.{commandParts, expressionsOf, expressionParts, commandUsedOnce, expressionUsedOnce, commandDepthKept, expressionDepthKept}
+use Rattle.model.specs.Nodes.{partsOf, valuesOf, operandsOf, commandUsedOnce, expressionUsedOnce, commandDepthKept, expressionDepthKept}
 use Rattle.model.specs.Verdict.{lowestNode}
 use Rattle.design.specs.declared.Design.{Design as Described}
 use Rattle.design.specs.Resets.{Filled}
-
--- the command that a state uses, the commands and the expressions that a command uses, and the expressions that an expression uses
-abbrev pub commandOf : Design → ℕ → List ℕ
-commandOf d s = stateAt d s .command ∷ []
-
-abbrev pub partsOf : Design → ℕ → List ℕ
-partsOf d n = commandParts (commandKind (commandAt d n .kind)) (commandAt d n)
-
-abbrev pub expressionOf : Design → ℕ → List ℕ
-expressionOf d n = expressionsOf (commandKind (commandAt d n .kind)) (commandAt d n)
-
-abbrev pub operandsOf : Design → ℕ → List ℕ
-operandsOf d n = expressionParts (expressionKind (expressionAt d n .kind)) (expressionAt d n)
 
 -- how many nodes a pass has behind it, of so many, where it found this
 abbrev pub passed : Found → ℕ → ℕ
@@ -56,7 +43,7 @@ countUses table (k ∷ ks) = countUses (countUse table k) ks
 pub record CommandsPassed (d : Design) (f : Found) (uses₀ uses expressionUses₀ expressionUses depths₀ depths : List ℕ) : Type 0 where
   pub found : f ≡ lowestFailing (commandKept d) (length (d .commands))
   pub counted : uses ≡ countUses uses₀ (joinBelow (partsOf d) (passed f (length (d .commands))))
-  pub expressions-counted : expressionUses ≡ countUses expressionUses₀ (joinBelow (expressionOf d) (passed f (length (d .commands))))
+  pub expressions-counted : expressionUses ≡ countUses expressionUses₀ (joinBelow (valuesOf d) (passed f (length (d .commands))))
   pub filled : Filled (λ k. depthEntry (cmdDepth (cmdOf d k))) depths₀ (passed f (length (d .commands))) depths
 
 pub record ExpressionsPassed (d : Design) (f : Found) (uses₀ uses depths₀ depths : List ℕ) : Type 0 where

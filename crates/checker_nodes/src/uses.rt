@@ -9,10 +9,11 @@ ghost use lib.Dec.{eqb};
 ghost use lib.ListN.{length, getD};
 ghost use Rattle.model.specs.Indices.{lowestFailing, joinBelow};
 ghost use Rattle.model.specs.Image.{designOf};
+ghost use Rattle.model.specs.Nodes.{commandOf, partsOf, valuesOf, operandsOf};
 ghost use Rattle.design.specs.Describes.{Describes};
 ghost use Rattle.design.specs.RecordsAt.{CommandAt, ExpressionAt};
 ghost use Rattle.design.specs.Kept.{StatesKept};
-ghost use Rattle.checker_nodes.specs.Tables.{commandOf, partsOf, expressionOf, operandsOf, countUse, countUses};
+ghost use Rattle.checker_nodes.specs.Tables.{countUse, countUses};
 
 // One use more than a count.
 fn one_more(uses: u8) -> u8
@@ -62,7 +63,7 @@ pub fn use_parts(table: &mut [u8], image: &[u8], design: Design, n: usize)
 // Command n uses the expression that is its part.
 pub fn use_command_expression(table: &mut [u8], image: &[u8], design: Design, n: usize)
     requires { ⌜ CommandAt (now image) design (design .«commands_at») n × (design .expressions ≤ length (now table)) ⌝ }
-    ensures { λ r. ⌜ now (table .exit) ≡ countUses (now (table .entry)) (expressionOf (designOf (now (image .entry))) n) ⌝ }
+    ensures { λ r. ⌜ now (table .exit) ≡ countUses (now (table .entry)) (valuesOf (designOf (now (image .entry))) n) ⌝ }
 {
     let at = design.commands_at;
     let kind = Design::kind(image, at, n);

@@ -32,9 +32,8 @@ use Rattle.design.specs.Describes.{Describes}
 use Rattle.design.specs.Kept.{CommandsKept, ExpressionsKept, ParametersKept, RecordsKept}
 use Rattle.design.specs.RecordsAt.{CommandAt}
 use Rattle.design.specs.Scopes.{NoParameters}
-use Rattle.design.proofs.Laws.{registers-count, register-in, state-in, expression-in}
+use Rattle.design.proofs.Laws.{registers-count, register-in, state-in, expression-in, registers-few}
 use Rattle.design.proofs.FieldRules.{command-at, command-kind-is, command-kind-of, item-is, a-is, b-is}
-use Rattle.checker_bodies.proofs.PlaceRules.{registers-few}
 use Rattle.checker_scopes.specs.Plain.{plainState, isInner, plainAs, plainCommand, plainExpression, plainDesign}
 
 -- ---- a record as the code tests it

@@ -4,7 +4,7 @@ use mathlib.Core.Path.{_≡_, _∙_, ap}
 use mathlib.Core.List.{List}
 use native.Mathlib.Omega.{arith}
 use lib.ListN.{length, set}
-use Rattle.model.specs.Image.{Registers, Register, designOf}
+use Rattle.model.specs.Image.{Register, designOf}
 use Rattle.model.specs.Lattice.{registerLabel}
 use Rattle.model.specs.Labelling.{relabelled}
 use Rattle.model.proofs.Laws.Labelling.{relabelled-own}
@@ -43,7 +43,3 @@ module _ {image old : List ℕ} {x : Design} (d : Describes image x) where
     -- the design with them is itself
     pub own-labels : relabelled (designOf image) table ≡ designOf image
     own-labels = let count = registers-count d in relabelled-own (designOf image) table (λ r l. filled .done r (omega arith))
-
--- a table for the most registers has an entry for each
-pub registers-few : {image : List ℕ} {x : Design} → Describes image x → x .registers ≤ 64
-registers-few d = omega (arith, d .registers, d .directory .sections Registers)

@@ -129,6 +129,12 @@ module _ {image : List ℕ} {x : Design} (d : Describes image x) where
   pub expressions-most : x .expressions ≤ expressionsMax
   expressions-most = omega (arith, d .expressions, d .directory .sections Expressions)
 
+  pub registers-few : length (designOf image .registers) ≤ registersMax
+  registers-few = let count = registers-count in let most = registers-most in omega arith
+
+  pub commands-few : length (designOf image .commands) ≤ commandsMax
+  commands-few = let count = commands-count in let most = commands-most in omega arith
+
   -- ---- records stand inside the image
   pub row-inside : {i : ℕ} → i < x .labels → rowEnd i ≤ length image
   row-inside l = omega (arith, d .labels, d .directory)

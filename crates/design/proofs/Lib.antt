@@ -1,6 +1,7 @@
 -- Laws that tie the accessors and the directory to the meaning, and of words and reset. The crates above cite them.
 pub mod Laws
 pub mod FieldRules
+pub mod PartRules
 pub mod StateRules
 pub mod ShiftRules
 pub mod WordRules

@@ -8,7 +8,7 @@ use Rattle.model.specs.Image.{Design as Table, designOf}
 use Rattle.model.specs.States.{registerKept, stateKept}
 use Rattle.model.specs.Kinds.{commandKept, expressionKept}
 use Rattle.model.specs.Parameters.{parametersKept}
-use Rattle.model.specs.Rules.{IsLattice}
+use Rattle.model.specs.Rules.{IsLattice, StructureKeeps}
 use Rattle.design.specs.declared.Design.{Design}
 use Rattle.design.specs.Describes.{Describes}
 
@@ -39,3 +39,8 @@ pub record RecordsKept (image : List ℕ) (x : Design) : Type 0 where
   pub states : StatesKept (designOf image)
   pub commands : CommandsKept (designOf image)
   pub expressions : ExpressionsKept (designOf image)
+
+-- and what all passes up to the flow have: the structure is judged too
+pub record Structured (image : List ℕ) (x : Design) : Type 0 where
+  pub records : RecordsKept image x
+  pub structure : StructureKeeps (designOf image)

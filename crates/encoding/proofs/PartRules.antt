@@ -1,13 +1,14 @@
 -- Bytes written over others leave as many bytes, and a part behind a part is one part. A part is copied byte by byte: its first bytes stand over those they replace, and the others are
 -- as they were.
-use Prim.Native.Nat.{ℕ, _+_, _≤_, _<_}
+use Prim.Native.Nat.{ℕ, _+_, _-_, _≤_, _<_}
 use mathlib.Core.Path.{_≡_, refl, sym, _∙_, ap}
 use mathlib.Core.List.{List, [], _++_, append-nil, append-assoc}
 use native.Mathlib.Omega.{arith}
 use native.Mathlib.Numerals.{add-one}
 use lib.ListN.{length, getD, set, take, drop, length-append, length-drop, length-set, take-append-drop, drop-of-length-le}
-use lib.Seq.{paste, paste-zero, paste-suc, take-length, length-take-le, take-at, drop-append-add, drop-drop}
-use Rattle.encoding.specs.Parts.{overwrittenAt}
+use lib.Seq.{paste, paste-zero, paste-suc, take-length, length-take-le, take-at, drop-append-add, drop-drop, getD-drop, getD-append-add}
+use Rattle.model.specs.Image.{byteAt}
+use Rattle.encoding.specs.Parts.{overwrittenAt, over}
 
 module _ (at : ℕ) (bytes : List ℕ) where
   front-long : (part : List ℕ) → at ≤ length bytes → length (take at bytes ++ part) ≡ at + length part
@@ -47,6 +48,21 @@ unfolding overwrittenAt
 over-whole part bytes e =
     let behind : drop (0 + length part) bytes ≡ [] = drop-of-length-le bytes {i = 0 + length part} (omega arith) in
     rw (behind, append-nil part)
+
+-- a part from the first place on stands over the beginning
+pub over-beginning : (part bytes : List ℕ) → overwrittenAt 0 part bytes ≡ over part bytes
+unfolding overwrittenAt over
+over-beginning part bytes = let none : 0 + length part ≡ length part = omega arith in rw none
+
+-- behind the bytes that are put over the beginning of an area everything stays
+pub beyond-over : (bytes out : List ℕ) (i : ℕ) → length bytes ≤ i → byteAt (over bytes out) i ≡ byteAt out i
+unfolding over
+beyond-over bytes out i behind =
+    let place : i ≡ length bytes + (i - length bytes) = omega arith in
+    ap (byteAt (bytes ++ drop (length bytes) out)) place
+    ∙ getD-append-add bytes (drop (length bytes) out) (i - length bytes) 0
+    ∙ getD-drop (length bytes) out (i - length bytes) 0
+    ∙ ap (byteAt out) (sym place)
 
 -- ---- a part copied
 -- the first i bytes of a part are written over others

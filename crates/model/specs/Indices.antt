@@ -63,6 +63,11 @@ module _ {A : Type 0} where
   joinBelow f zero = []
   joinBelow f (suc n) = joinBelow f n ++ f n
 
+  -- the lists of f for each entry of a list, joined
+  unfoldable pub joinEach : (ℕ → List A) → List ℕ → List A
+  joinEach f [] = []
+  joinEach f (x ∷ xs) = f x ++ joinEach f xs
+
 -- Recursion over numbers: `step n below` says the value at n from the values below n; at n or above, `below` gives `none`.
 module _ {A : Type 0} (none : A) (step : ℕ → (ℕ → A) → A) where
   unfoldable pub upTo : ℕ → ℕ → A

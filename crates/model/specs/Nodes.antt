@@ -37,18 +37,27 @@ expressionParts reads x = []
 expressionParts (operates o) x = x .a ∷ x .b ∷ []
 expressionParts unknownExpression x = []
 
+-- what the records of a design use: state s its command, command n commands and expressions, and expression n expressions
+abbrev pub commandOf : Design → ℕ → List ℕ
+commandOf d s = stateAt d s .command ∷ []
+
+abbrev pub partsOf : Design → ℕ → List ℕ
+partsOf d n = commandParts (commandKind (commandAt d n .kind)) (commandAt d n)
+
+abbrev pub valuesOf : Design → ℕ → List ℕ
+valuesOf d n = expressionsOf (commandKind (commandAt d n .kind)) (commandAt d n)
+
+abbrev pub operandsOf : Design → ℕ → List ℕ
+operandsOf d n = expressionParts (expressionKind (expressionAt d n .kind)) (expressionAt d n)
+
 module _ (d : Design) where
   -- every use of a command, by a state or by a command
   unfoldable pub commandUses : List ℕ
-  commandUses =
-      joinBelow (λ s. stateAt d s .command ∷ []) (length (d .states))
-      ++ joinBelow (λ n. commandParts (commandKind (commandAt d n .kind)) (commandAt d n)) (length (d .commands))
+  commandUses = joinBelow (commandOf d) (length (d .states)) ++ joinBelow (partsOf d) (length (d .commands))
 
   -- every use of an expression, by a command or by an expression
   unfoldable pub expressionUses : List ℕ
-  expressionUses =
-      joinBelow (λ n. expressionsOf (commandKind (commandAt d n .kind)) (commandAt d n)) (length (d .commands))
-      ++ joinBelow (λ n. expressionParts (expressionKind (expressionAt d n .kind)) (expressionAt d n)) (length (d .expressions))
+  expressionUses = joinBelow (valuesOf d) (length (d .commands)) ++ joinBelow (operandsOf d) (length (d .expressions))
 
   -- refusal 6: "node not used exactly once"
   unfoldable pub commandUsedOnce : ℕ → Bool

@@ -105,6 +105,10 @@ pub record LeftOut : Type 0 where
   pub answer : Answer
   pub out : List ℕ
 
+-- the same of an answer and bytes that are at hand
+abbrev pub leftOutAs : Answer → List ℕ → LeftOut
+leftOutAs answer out = record { answer = answer; out = out }
+
 -- "No lent byte changes" on a refusal
 abbrev pub leavesOut : Answer → List ℕ → List ℕ → LeftOut
 leavesOut (Accepted count) out made = record { answer = Accepted count; out = made }

@@ -13,27 +13,29 @@ use Rattle.model.specs.Limits.{nodeLength}
 use Rattle.model.specs.Image.{Design, designOf}
 use Rattle.model.specs.Rules.{DirectoryKeeps, Keeps}
 use Rattle.model.specs.Verdict.{_before_, refusedAt, verdict}
-use Rattle.model.specs.Raising.{LeftOut}
+use Rattle.model.specs.Raising.{LeftOut, leftOutAs}
 use Rattle.design.specs.declared.Design.{Design as Described}
 use Rattle.design.specs.Describes.{Describes}
+use Rattle.design.specs.Kept.{Structured}
 use Rattle.design.proofs.Laws.{labels-count, registers-count, commands-most, expressions-most}
 use Rattle.design.proofs.ResetRules.{states-few}
 use Rattle.checker.proofs.Accepted.{accepted-known}
+use Rattle.encoding.specs.Parts.{over}
 use Rattle.pruning_model.specs.Reached.{reached as reachedIn}
 use Rattle.pruning_model.specs.Pruned.{closedUp, commandStays, expressionStays, pruned, prunedImage}
-use Rattle.pruning_model.specs.Calls.{over, pruneAnswer, prune}
+use Rattle.pruning_model.specs.Calls.{pruneAnswer, prune}
 use Rattle.pruning_model.proofs.Closing.{closed-at-most}
-use Rattle.pruning_steps.specs.Marks.{Pruning, Marked, Numbered, isMarked}
+use Rattle.pruning_steps.specs.Marks.{Marked, Numbered, isMarked}
 use Rattle.pruning_steps.proofs.NumberingRules.{marked-closed, marked-numbered}
 use Rattle.pruning.specs.Tables.{AllMarked, AllNumbered, Resized, Result}
-use Rattle.pruning.specs.Stages.{leftOutAs, pruneOn}
+use Rattle.pruning.specs.Stages.{pruneOn}
 use Rattle.pruning.proofs.WritingRules.{states-left, commands-left, expressions-left, pruned-begin, result-length}
 
 -- ---- an accepted image
 pub accepted-directory : {image : List ℕ} → Keeps image → DirectoryKeeps image
 accepted-directory keeps = keeps .directory
 
-pub accepted-pruning : {image : List ℕ} {x : Described} → Keeps image → Describes image x → Pruning image x
+pub accepted-pruning : {image : List ℕ} {x : Described} → Keeps image → Describes image x → Structured image x
 accepted-pruning keeps describes = record { records = accepted-known keeps describes; structure = keeps .design .structure }
 
 -- ---- what the tables give
@@ -58,7 +60,7 @@ module _ {d : Design} {x : Described} {reached commands expressions : List ℕ} 
       }
 
 -- no more than there were
-module _ {image : List ℕ} {x : Described} (here : Pruning image x) where
+module _ {image : List ℕ} {x : Described} (here : Structured image x) where
   pub states-fit : (marks : List ℕ) {n : ℕ} → n ≡ closedUp (isMarked marks) (x .states) → n ≤ 64
   states-fit marks e = omega (arith, closed-at-most (isMarked marks) (x .states), states-few (here .records .describes))
 

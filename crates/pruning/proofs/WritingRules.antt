@@ -11,31 +11,25 @@ use Rattle.model.specs.Limits.{directoryLength, labelLength, registerLength, st
 use Rattle.model.specs.Image.{AreBytes, Labels, Registers, designOf}
 use Rattle.design.specs.declared.Design.{Design as Described}
 use Rattle.design.specs.Describes.{Describes}
+use Rattle.design.specs.Kept.{Structured}
 use Rattle.design.proofs.Laws.{labels-count, registers-count, states-count, commands-count, expressions-count}
 use Rattle.encoding.specs.Encoding.{recordsBytes, rowBytes, registerBytes, stateBytes, nodeBytes, statesAt, imageLength, directoryBytes, statesFront, commandsFront, expressionsFront, imageOf}
 use Rattle.encoding.specs.Encodable.{WithinLimits}
-use Rattle.encoding.specs.Parts.{overwrittenAt}
+use Rattle.encoding.specs.Parts.{overwrittenAt, over}
 use Rattle.encoding.specs.Writers.{Sizes}
 use Rattle.encoding.proofs.Records.{row-encodes, register-encodes}
 use Rattle.encoding.proofs.Sections.{length-records, section-sized}
 use Rattle.encoding.proofs.Directories.{directory-sized}
 use Rattle.encoding.proofs.RoundTrip.{states-front, commands-front, expressions-front, image-length, design-limits, design-image}
-use Rattle.encoding.proofs.PartRules.{put-behind}
+use Rattle.encoding.proofs.PartRules.{put-behind, over-beginning}
 use Rattle.pruning_model.specs.Reached.{reached}
 use Rattle.pruning_model.specs.Pruned.{closedUp, staying, commandStays, expressionStays, pruned, prunedImage}
-use Rattle.pruning_model.specs.Calls.{over}
 use Rattle.pruning_model.proofs.Closing.{closed-at-most, length-staying}
 use Rattle.pruning_model.specs.Pruned.{stateWritten, commandWritten, expressionWritten}
-use Rattle.pruning_steps.specs.Marks.{Pruning}
 use Rattle.pruning.specs.Tables.{Result}
 use Rattle.pruning.specs.Parts.{keptBytes, Near, ResultPut}
 
--- bytes from the beginning of an area on
-over-beginning : (part bytes : List ℕ) → overwrittenAt 0 part bytes ≡ over part bytes
-unfolding overwrittenAt over
-over-beginning part bytes = let none : 0 + length part ≡ length part = omega arith in rw none
-
-module _ {image : List ℕ} {x : Described} (here : Pruning image x) where
+module _ {image : List ℕ} {x : Described} (here : Structured image x) where
   describes : Describes image x
   describes = here .records .describes
 
@@ -204,7 +198,7 @@ module _ {image : List ℕ} {x : Described} (here : Pruning image x) where
 
 -- labels and registers copied, where every byte of the image is one
 pub kept-put : (image : List ℕ) → ((i : ℕ) → Fits w8 (getD image i 0)) → {x : Described} {after : List ℕ} (out : List ℕ)
-    → Pruning image x
+    → Structured image x
     → after ≡ overwrittenAt directoryLength (take (x .«states_at» - directoryLength) (drop directoryLength image)) out
     → after ≡ overwrittenAt directoryLength (keptBytes (designOf image)) out
 kept-put image bytes out here e = e ∙ ap (λ part. overwrittenAt directoryLength part out) (kept-is here (λ i. bytes i .fits))

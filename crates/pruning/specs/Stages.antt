@@ -1,18 +1,14 @@
--- What pruning leaves, as its answer and the bytes of the output area; and the call from the point where the image is accepted on.
+-- The call from the point where the image is accepted on.
 use Prim.Native.Nat.{ℕ}
 use mathlib.Core.List.{List}
 use lib.Dec.{leb}
 use lib.ListN.{length}
 use Rattle.model.specs.declared.Refusal.the-variants.{OutputArea}
-use Rattle.model.specs.declared.Answer.{Answer}
 use Rattle.model.specs.declared.Answer.the-variants.{Accepted}
 use Rattle.model.specs.Verdict.{_before_, refusedAt, atZeroUnless}
 use Rattle.model.specs.Raising.{LeftOut, leavesOut}
+use Rattle.encoding.specs.Parts.{over}
 use Rattle.pruning_model.specs.Pruned.{prunedImage}
-use Rattle.pruning_model.specs.Calls.{over}
-
-abbrev pub leftOutAs : Answer → List ℕ → LeftOut
-leftOutAs answer out = record { answer = answer; out = out }
 
 unfoldable pub pruneOn : List ℕ → List ℕ → LeftOut
 pruneOn image out =

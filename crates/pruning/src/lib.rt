@@ -16,10 +16,11 @@ ghost use mathlib.Core.Path.{_≡_};
 ghost use Rattle.model.specs.Limits.{nodeLength};
 ghost use Rattle.model.specs.Image.{designOf};
 ghost use Rattle.model.specs.Rules.{Keeps};
+ghost use Rattle.model.specs.Raising.{leftOutAs};
+ghost use Rattle.design.specs.Kept.{Structured};
 ghost use Rattle.pruning_model.specs.Calls.{prune as pruneOf};
-ghost use Rattle.pruning_steps.specs.Marks.{Pruning};
 ghost use Rattle.pruning.specs.Tables.{AllMarked, AllNumbered, Resized, Result};
-ghost use Rattle.pruning.specs.Stages.{leftOutAs, pruneOn};
+ghost use Rattle.pruning.specs.Stages.{pruneOn};
 
 // Where so many nodes end that begin at a place.
 fn nodes_end(at: usize, nodes: usize) -> usize
@@ -61,7 +62,7 @@ fn prune_numbered(
     expression_numbers: &[u16],
     out: &mut [u8],
 ) -> Answer
-    requires { ⌜ Pruning (now image) design
+    requires { ⌜ Structured (now image) design
         × Result (designOf (now image)) result
         × AllMarked (designOf (now image)) design (now reached) (now commands) (now expressions)
         × AllNumbered (designOf (now image)) design (now «state_numbers») (now «command_numbers») (now «expression_numbers») ⌝ }
@@ -95,7 +96,7 @@ fn prune_marked(
     expressions: &[u8],
     out: &mut [u8],
 ) -> Answer
-    requires { ⌜ Pruning (now image) design × AllMarked (designOf (now image)) design (now reached) (now commands) (now expressions) ⌝ }
+    requires { ⌜ Structured (now image) design × AllMarked (designOf (now image)) design (now reached) (now commands) (now expressions) ⌝ }
     ensures { λ a. ⌜ leftOutAs a (now (out .exit)) ≡ pruneOn (now (image .entry)) (now (out .entry)) ⌝ }
 {
     let mut state_numbers = [0u16; Design::STATES];

@@ -10,18 +10,18 @@ ghost use mathlib.Core.Path.{_≡_};
 ghost use lib.ListN.{length};
 ghost use Rattle.model.specs.Limits.{directoryLength};
 ghost use Rattle.model.specs.Image.{designOf};
+ghost use Rattle.design.specs.Kept.{Structured};
 ghost use Rattle.encoding.specs.Encoding.{statesFront, commandsFront, expressionsFront};
-ghost use Rattle.encoding.specs.Parts.{overwrittenAt};
+ghost use Rattle.encoding.specs.Parts.{overwrittenAt, over};
 ghost use Rattle.pruning_model.specs.Reached.{reached as reachedIn};
 ghost use Rattle.pruning_model.specs.Pruned.{commandStays, pruned, prunedImage};
-ghost use Rattle.pruning_model.specs.Calls.{over};
-ghost use Rattle.pruning_steps.specs.Marks.{Pruning, Marked, Numbered};
+ghost use Rattle.pruning_steps.specs.Marks.{Marked, Numbered};
 ghost use Rattle.pruning.specs.Tables.{AllMarked, AllNumbered, Result};
 ghost use Rattle.pruning.specs.Parts.{keptBytes, Near, ResultPut};
 
 // Labels and registers, as they stand in the image.
 fn put_kept(image: &[u8], design: Design, out: &mut [u8])
-    requires { ⌜ Pruning (now image) design × (design .«states_at» ≤ length (now out)) ⌝ }
+    requires { ⌜ Structured (now image) design × (design .«states_at» ≤ length (now out)) ⌝ }
     ensures { λ _. ⌜ now (out .exit) ≡ overwrittenAt directoryLength (keptBytes (designOf (now (image .entry)))) (now (out .entry)) ⌝ }
 {
     let end = design.states_at;
@@ -55,7 +55,7 @@ fn put_result(result: Design, out: &mut [u8])
 
 // All that stands in front of the states.
 fn write_front(image: &[u8], design: Design, result: Design, out: &mut [u8])
-    requires { ⌜ Pruning (now image) design
+    requires { ⌜ Structured (now image) design
         × Result (designOf (now image)) result
         × (length (prunedImage (now image)) ≤ length (now out)) ⌝ }
     ensures { λ _. ⌜ now (out .exit) ≡ overwrittenAt 0 (statesFront (pruned (designOf (now (image .entry))))) (now (out .entry)) ⌝ }
@@ -74,7 +74,7 @@ fn write_to_commands(
     command_numbers: &[u16],
     out: &mut [u8],
 )
-    requires { ⌜ Pruning (now image) design
+    requires { ⌜ Structured (now image) design
         × Result (designOf (now image)) result
         × Marked (reachedIn (designOf (now image))) (design .states) (now reached)
         × Numbered (reachedIn (designOf (now image))) (design .states) (now «state_numbers»)
@@ -107,7 +107,7 @@ fn write_to_expressions(
     expression_numbers: &[u16],
     out: &mut [u8],
 )
-    requires { ⌜ Pruning (now image) design
+    requires { ⌜ Structured (now image) design
         × Result (designOf (now image)) result
         × Marked (reachedIn (designOf (now image))) (design .states) (now reached)
         × Marked (commandStays (designOf (now image))) (design .commands) (now commands)
@@ -150,7 +150,7 @@ pub fn write(
     expression_numbers: &[u16],
     out: &mut [u8],
 )
-    requires { ⌜ Pruning (now image) design
+    requires { ⌜ Structured (now image) design
         × Result (designOf (now image)) result
         × AllMarked (designOf (now image)) design (now reached) (now commands) (now expressions)
         × AllNumbered (designOf (now image)) design (now «state_numbers») (now «command_numbers») (now «expression_numbers»)

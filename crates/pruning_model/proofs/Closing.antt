@@ -10,7 +10,7 @@ use native.Mathlib.Nat.{zero-add, add-zero}
 use native.Mathlib.Decide.{decLt}
 use lib.ListN.{length, getD, length-map}
 use Rattle.model.proofs.Laws.Booleans.{decide}
-use Rattle.model.proofs.Laws.Indices.{below-suc, nothing-below-zero}
+use Rattle.model.proofs.Laws.Indices.{below-suc, nothing-below-zero, getD-written}
 use Rattle.pruning_model.specs.Pruned.{closedUp, stayingFrom, staying}
 
 -- ---- new numbers
@@ -168,11 +168,6 @@ module _ {A : Type 0} (stays : ℕ → Bool) where
 
 -- ---- the entries that stay, each written anew
 module _ {A B : Type 0} (f : A → B) where
-  getD-written : (xs : List A) (k : ℕ) (x : A) (y : B) → k < length xs → getD (map f xs) k y ≡ f (getD xs k x)
-  getD-written [] k x y l = absurd (nothing-below-zero l)
-  getD-written (z ∷ zs) zero x y l = refl
-  getD-written (z ∷ zs) (suc k) x y l = getD-written zs k x y (omega arith)
-
   module _ (stays : ℕ → Bool) (xs : List A) where
     written-length : length (map f (staying stays xs)) ≡ closedUp stays (length xs)
     written-length = length-map (staying stays xs) f ∙ length-staying stays xs
@@ -188,7 +183,7 @@ module _ {A B : Type 0} (f : A → B) where
 
     pub written-is : (i : ℕ) (x : A) (y : B) → i < length xs → stays i ≡ true → getD (map f (staying stays xs)) (closedUp stays i) y ≡ f (getD xs i x)
     written-is i x y l h =
-        getD-written (staying stays xs) (closedUp stays i) x y (rw length-staying (closed-order stays i (length xs) h l)) ∙ ap f (getD-staying stays i xs x h l)
+        getD-written f (staying stays xs) (closedUp stays i) x y (rw length-staying (closed-order stays i (length xs) h l)) ∙ ap f (getD-staying stays i xs x h l)
 
 -- where all stay, and what is written anew is as it was, the list is as it was
 module _ {A : Type 0} (f : A → A) where

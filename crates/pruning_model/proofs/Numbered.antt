@@ -1,48 +1,19 @@
--- The numbers of a tree, for commands and for expressions alike: its own number, and with a number those of its parts, which are lower. So what is used, with all that has a
--- number in its tree, is closed under parts, and whatever is in it is used or a part of something in it.
-use Prim.Native.Nat.{ℕ, zero, suc, _≤_, _<_}
+-- The numbers that are listed of a tree are those in it: its own number, and with a number those of its parts, which are lower.
+use Prim.Native.Nat.{ℕ, zero, suc, _<_}
 use mathlib.Core.Path.{_≡_, refl}
-use mathlib.Core.Logic.{_↔_, _⊎_, inl, inr, ⊎-elim}
+use mathlib.Core.Logic.{_↔_, _⊎_, inl, inr}
 use mathlib.Core.Bool.{Bool, true, false}
-use mathlib.Core.List.{List, [], _∷_, List·Memᴰ, List·Memᴰ·head, List·Memᴰ·tail, List·Memᴰ·not-nil, List·Memᴰ·cases-cons, List·Memᴰ·append-cases, Memᴰ·append-left, Memᴰ·append-right}
+use mathlib.Core.List.{List, [], _∷_, List·Memᴰ, List·Memᴰ·head, List·Memᴰ·tail, List·Memᴰ·not-nil, List·Memᴰ·cases-cons}
 use native.Mathlib.Omega.{arith}
 use lib.Dec.{ltb}
 use borrow.Author.Tests.{ltb-true}
-use Rattle.model.specs.Indices.{recursively}
+use Rattle.model.specs.Indices.{joinEach}
+use Rattle.model.proofs.Laws.Among.{among-each, each-cases}
 use Rattle.model.proofs.Laws.Indices.{recursively-step, onlyBelow, only-below-at, nothing-below-zero}
-use Rattle.pruning_model.specs.Pruned.{joinEach, numbersIn}
-
--- ---- lists joined for each entry
-module _ (f : ℕ → List ℕ) where
-  pub among-each : {x k : ℕ} {xs : List ℕ} → List·Memᴰ k xs → List·Memᴰ x (f k) → List·Memᴰ x (joinEach f xs)
-  unfolding joinEach
-  among-each {xs = y ∷ ys} (List·Memᴰ·head e) h = Memᴰ·append-left (joinEach f ys) (rw e at h)
-  among-each {xs = y ∷ ys} (List·Memᴰ·tail m) h = Memᴰ·append-right (f y) (among-each m h)
-
-  pub each-cases : (x : ℕ) (xs : List ℕ) → List·Memᴰ x (joinEach f xs) → (k : ℕ) × List·Memᴰ k xs × List·Memᴰ x (f k)
-  unfolding joinEach
-  each-cases x [] h = absurd (List·Memᴰ·not-nil h)
-  each-cases x (y ∷ ys) h =
-      ⊎-elim
-      (λ (k : List·Memᴰ x (f y)). (y, List·Memᴰ·head refl, k))
-      (λ (k : List·Memᴰ x (joinEach f ys)). let found = each-cases x ys k in (found .0, List·Memᴰ·tail (found .1), found .2))
-      (List·Memᴰ·append-cases (f y) h)
-
--- ---- the numbers of a tree
--- m is n, or a part, with a lower number, of one that is in the tree of n
-pub data InTree (parts : ℕ → List ℕ) (n : ℕ) : ℕ → Type 0 where
-  itself : InTree parts n n
-  part : {m p : ℕ} → InTree parts n m → List·Memᴰ p (parts m) → p < m → InTree parts n p
+use Rattle.renumbering.proofs.InTrees.{InTree, itself, part, tree-through}
+use Rattle.pruning_model.specs.Pruned.{numbersIn}
 
 module _ (parts : ℕ → List ℕ) where
-  tree-through : {n q m : ℕ} → InTree parts n q → InTree parts q m → InTree parts n m
-  tree-through h itself = h
-  tree-through h (part k p l) = part (tree-through h k) p l
-
-  pub tree-below : {n m : ℕ} → InTree parts n m → m ≤ n
-  tree-below itself = omega arith
-  tree-below (part h p l) = let below = tree-below h in omega arith
-
   numbers-step : (n : ℕ) → numbersIn parts n ≡ n ∷ joinEach (onlyBelow [] n (numbersIn parts)) (parts n)
   numbers-step n = recursively-step [] (λ k part. k ∷ joinEach part (parts k)) n
 
@@ -81,7 +52,7 @@ module _ (parts : ℕ → List ℕ) where
           → (m ≡ n) ⊎ ((k : ℕ) × List·Memᴰ k (parts n) × (k < n) × List·Memᴰ m (numbersIn parts k))
           → InTree parts n m
       go lower (inl e) = rw e itself
-      go lower (inr (k, p, b, t)) = tree-through (part itself p b) (lower k (omega arith) t)
+      go lower (inr (k, p, b, t)) = tree-through parts (part itself p b) (lower k (omega arith) t)
 
   -- with a number its parts are listed
   numbers-part : (f n m p : ℕ) → n < f → List·Memᴰ m (numbersIn parts n) → List·Memᴰ p (parts m) → p < m → List·Memᴰ p (numbersIn parts n)
@@ -101,23 +72,3 @@ module _ (parts : ℕ → List ℕ) where
 
   pub numbers-iff : (n m : ℕ) → List·Memᴰ m (numbersIn parts n) ↔ InTree parts n m
   numbers-iff n m = (numbers-in (suc n) n m (omega arith), in-numbers)
-
--- ---- all that is in the tree of something used
-pub record Held (Used : ℕ → Type 0) (parts : ℕ → List ℕ) (n : ℕ) : Type 0 where
-  pub top : ℕ
-  pub used : Used top
-  pub tree : InTree parts top n
-
-module _ {Used : ℕ → Type 0} {parts : ℕ → List ℕ} (Stays : ℕ → Type 0) (is : (n : ℕ) → Stays n ↔ Held Used parts n) where
-  pub stays-used : {n : ℕ} → Used n → Stays n
-  stays-used {n} h = is n .1 (record { top = n; used = h; tree = itself })
-
-  pub stays-part : {n p : ℕ} → Stays n → List·Memᴰ p (parts n) → p < n → Stays p
-  stays-part {n} {p} h k l = let held = is n .0 h in is p .1 (record { top = held .top; used = held .used; tree = part (held .tree) k l })
-
-  pub stays-cases : (n : ℕ) → Stays n → Used n ⊎ ((m : ℕ) × Stays m × List·Memᴰ n (parts m))
-  stays-cases n h = go (is n .0 h .used) (is n .0 h .tree)
-    where
-      go : {top k : ℕ} → Used top → InTree parts top k → Used k ⊎ ((m : ℕ) × Stays m × List·Memᴰ k (parts m))
-      go u itself = inl u
-      go {top} u (part {m} {p} t k l) = inr (m, is m .1 (record { top = top; used = u; tree = t }), k)

@@ -66,21 +66,21 @@ module _ (d : Design) (s : ℕ) where
   goto-shaped (HoldsGoto.in-then h) shape = goto-shaped h (shape .1)
   goto-shaped (HoldsGoto.in-else h) shape = goto-shaped h (shape .2)
 
-  pub fall-leads : {q : ℕ} {c : Cmd} → HoldsFall c → DefaultChild d s q → List·Memᴰ q (leadsTo d s c)
+  pub fall-leads : {q : ℕ} {c : Cmd} → HoldsFall c → DefaultChild d s q → List·Memᴰ q (leadsTo (defaultTarget d s) c)
   unfolding leadsTo
   fall-leads {q} HoldsFall.itself child = List·Memᴰ·head (sym (default-is d s q (child .child) (child .lowest)))
-  fall-leads (HoldsFall.in-first {q = q} h) child = Memᴰ·append-left (leadsTo d s q) (fall-leads h child)
-  fall-leads (HoldsFall.in-second {p = p} h) child = Memᴰ·append-right (leadsTo d s p) (fall-leads h child)
-  fall-leads (HoldsFall.in-then {q = q} h) child = Memᴰ·append-left (leadsTo d s q) (fall-leads h child)
-  fall-leads (HoldsFall.in-else {p = p} h) child = Memᴰ·append-right (leadsTo d s p) (fall-leads h child)
+  fall-leads (HoldsFall.in-first {q = q} h) child = Memᴰ·append-left (leadsTo (defaultTarget d s) q) (fall-leads h child)
+  fall-leads (HoldsFall.in-second {p = p} h) child = Memᴰ·append-right (leadsTo (defaultTarget d s) p) (fall-leads h child)
+  fall-leads (HoldsFall.in-then {q = q} h) child = Memᴰ·append-left (leadsTo (defaultTarget d s) q) (fall-leads h child)
+  fall-leads (HoldsFall.in-else {p = p} h) child = Memᴰ·append-right (leadsTo (defaultTarget d s) p) (fall-leads h child)
 
-  pub goto-leads : {t : ℕ} {c : Cmd} → HoldsGoto t c → List·Memᴰ t (leadsTo d s c)
+  pub goto-leads : {t : ℕ} {c : Cmd} → HoldsGoto t c → List·Memᴰ t (leadsTo (defaultTarget d s) c)
   unfolding leadsTo
   goto-leads HoldsGoto.itself = List·Memᴰ·head refl
-  goto-leads (HoldsGoto.in-first {q = q} h) = Memᴰ·append-left (leadsTo d s q) (goto-leads h)
-  goto-leads (HoldsGoto.in-second {p = p} h) = Memᴰ·append-right (leadsTo d s p) (goto-leads h)
-  goto-leads (HoldsGoto.in-then {q = q} h) = Memᴰ·append-left (leadsTo d s q) (goto-leads h)
-  goto-leads (HoldsGoto.in-else {p = p} h) = Memᴰ·append-right (leadsTo d s p) (goto-leads h)
+  goto-leads (HoldsGoto.in-first {q = q} h) = Memᴰ·append-left (leadsTo (defaultTarget d s) q) (goto-leads h)
+  goto-leads (HoldsGoto.in-second {p = p} h) = Memᴰ·append-right (leadsTo (defaultTarget d s) p) (goto-leads h)
+  goto-leads (HoldsGoto.in-then {q = q} h) = Memᴰ·append-left (leadsTo (defaultTarget d s) q) (goto-leads h)
+  goto-leads (HoldsGoto.in-else {p = p} h) = Memᴰ·append-right (leadsTo (defaultTarget d s) p) (goto-leads h)
 
   -- and it leads to nothing else
   abbrev pub LeadsTo : ℕ → Cmd → Type 0
@@ -98,10 +98,10 @@ module _ (d : Design) (s : ℕ) where
   leads-parts f g k l (inr (inl h)) = inl (g (h .0), h .1)
   leads-parts f g k l (inr (inr h)) = inr (l h)
 
-  leads-either : {t : ℕ} {p q : Cmd} → (List·Memᴰ t (leadsTo d s p) → LeadsTo t p) → (List·Memᴰ t (leadsTo d s q) → LeadsTo t q) → List·Memᴰ t (leadsTo d s p ++ leadsTo d s q) → LeadsTo t p ⊎ LeadsTo t q
-  leads-either {t} {p} {q} f g h = ⊎-elim (λ (k : List·Memᴰ t (leadsTo d s p)). inl (f k)) (λ (k : List·Memᴰ t (leadsTo d s q)). inr (g k)) (List·Memᴰ·append-cases (leadsTo d s p) h)
+  leads-either : {t : ℕ} {p q : Cmd} → (List·Memᴰ t (leadsTo (defaultTarget d s) p) → LeadsTo t p) → (List·Memᴰ t (leadsTo (defaultTarget d s) q) → LeadsTo t q) → List·Memᴰ t (leadsTo (defaultTarget d s) p ++ leadsTo (defaultTarget d s) q) → LeadsTo t p ⊎ LeadsTo t q
+  leads-either {t} {p} {q} f g h = ⊎-elim (λ (k : List·Memᴰ t (leadsTo (defaultTarget d s) p)). inl (f k)) (λ (k : List·Memᴰ t (leadsTo (defaultTarget d s) q)). inr (g k)) (List·Memᴰ·append-cases (leadsTo (defaultTarget d s) p) h)
 
-  pub leads-cases : {t : ℕ} (c : Cmd) → Shaped d s c → List·Memᴰ t (leadsTo d s c) → LeadsTo t c
+  pub leads-cases : {t : ℕ} (c : Cmd) → Shaped d s c → List·Memᴰ t (leadsTo (defaultTarget d s) c) → LeadsTo t c
   unfolding leadsTo
   leads-cases (skip n) shape h = absurd (List·Memᴰ·not-nil h)
   leads-cases (assign n r e) shape h = absurd (List·Memᴰ·not-nil h)

@@ -9,11 +9,12 @@ use Rattle.model.specs.Image.{Design, noState, noNode}
 use Rattle.model.specs.States.{parent}
 use Rattle.model.specs.Rules.{StructureKeeps}
 use Rattle.renumbering.specs.Renumbers.{Renumbers}
+use Rattle.renumbering.proofs.Parts.{part-below, operand-below}
 use Rattle.pruning_model.specs.Reached.{Reached, root, fallen, reached}
 use Rattle.pruning_model.specs.Pruned.{commandStays, expressionStays, newState, newCommand, newExpression, pruned, stateWritten, commandWritten, expressionWritten}
 use Rattle.pruning_model.proofs.Closing.{closed-zero, closed-order, closed-apart, written-new, written-all, written-fewer, written-is}
 use Rattle.pruning_model.proofs.Reached.{reached-state, reached-parent, reached-iff}
-use Rattle.pruning_model.proofs.Nodes.{CommandStays, ExpressionStays, part-below, operand-below, body-stays, part-stays, command-used, value-stays, operand-stays, expression-used, named-reached}
+use Rattle.pruning_model.proofs.Nodes.{CommandStays, ExpressionStays, body-stays, part-stays, command-used, value-stays, operand-stays, expression-used, named-reached}
 
 module _ (d : Design) (keeps : StructureKeeps d) (some : 0 < length (d .states)) where
   parent-reached : (s : ℕ) → Reached d s → Reached d (parent d s)
@@ -39,7 +40,9 @@ module _ (d : Design) (keeps : StructureKeeps d) (some : 0 < length (d .states))
         root-stays = root;
         root-first = closed-zero (reached d);
         parent-stays = parent-reached;
-        parent-falls = λ s h other. reached-parent d keeps some h other .1;
+        default-beside = λ s q h other child.
+            let (above, falls) = reached-parent d keeps some h other in
+            fallen above (reached-state d keeps some above) falls child;
         default-stays = λ s q h f child. fallen h (reached-state d keeps some h) f child;
         body-stays = λ s. body-stays d keeps some;
         commands-old = λ n h. h .0;

@@ -1,92 +1,23 @@
 -- Where every state is reached, nothing goes: every node is used, by a state or by a node of a higher number, and on the way up there is a state in the end. So every number stays
 -- what it was, and the pruned design is the design.
-use Prim.Native.Nat.{ℕ, zero, suc, _+_, _≤_, _<_}
-use mathlib.Core.Path.{_≡_, refl, sym}
-use mathlib.Core.Logic.{⊎-elim}
-use mathlib.Core.Bool.{Bool, true, false}
-use mathlib.Core.List.{List, [], _∷_, _++_, List·Memᴰ, List·Memᴰ·head, List·Memᴰ·tail, List·Memᴰ·eq-of-singleton, List·Memᴰ·append-cases}
+use Prim.Native.Nat.{ℕ, _<_}
+use mathlib.Core.Path.{_≡_}
+use mathlib.Core.List.{List·Memᴰ·eq-of-singleton}
 use native.Mathlib.Omega.{arith}
 use native.Mathlib.Decide.{ℕ-discrete}
-use lib.Dec.{eqb}
 use lib.ListN.{length}
-use borrow.Author.Tests.{eqb-true}
-use Rattle.model.specs.Indices.{occurrences, joinBelow}
-use Rattle.model.specs.Image.{Design, State, Node, noState, noNode, stateAt, commandAt, expressionAt}
-use Rattle.model.specs.Kinds.{CommandKind, skips, assigns, sequences, falls, goes, branches, unknownCommand, ExpressionKind, constants, reads, unknownExpression, operates, commandKind, expressionKind}
+use Rattle.model.specs.Image.{Design, noState, noNode, stateAt, commandAt, expressionAt}
+use Rattle.model.specs.Kinds.{commandKind, expressionKind}
 use Rattle.model.specs.States.{parent}
-use Rattle.model.specs.Nodes.{commandUses, expressionUses}
-use Rattle.model.specs.Rules.{CommandHolds, ExpressionHolds, StructureKeeps}
-use Rattle.model.proofs.Laws.Among.{join-cases}
-use Rattle.renumbering.specs.Renumbering.{renumberedState, renumberedCommand, renumberedExpression}
-use Rattle.renumbering.specs.Renumbers.{partsOf, valuesOf, operandsOf}
+use Rattle.model.specs.Nodes.{commandOf, partsOf, valuesOf, operandsOf, commandUses, expressionUses}
+use Rattle.model.specs.Rules.{StructureKeeps}
+use Rattle.renumbering.proofs.Parts.{part-below, operand-below, parent-exists}
+use Rattle.renumbering.proofs.Kept.{all-stay, state-same, command-same, expression-same}
 use Rattle.pruning_model.specs.Reached.{Reached, reached}
 use Rattle.pruning_model.specs.Pruned.{commandStays, expressionStays, newState, newCommand, newExpression, pruned, stateWritten, commandWritten, expressionWritten}
 use Rattle.pruning_model.proofs.Closing.{closed-same, written-same}
 use Rattle.pruning_model.proofs.Reached.{reached-iff}
-use Rattle.pruning_model.proofs.Nodes.{CommandStays, ExpressionStays, part-below, operand-below, body-stays, part-stays, value-stays, operand-stays}
-
--- ---- every node stays, for commands and for expressions alike
-occurs : (n : ℕ) (xs : List ℕ) → 0 < occurrences n xs → List·Memᴰ n xs
-unfolding occurrences
-occurs n [] l = absurd (omega arith)
-occurs n (x ∷ xs) l = go (eqb x n) refl (occurs n xs) l
-  where
-    go :
-        (b : Bool)
-        → eqb x n ≡ b
-        → (0 < occurrences n xs → List·Memᴰ n xs)
-        → 0 < elim b [ true ↦ suc (occurrences n xs) | false ↦ occurrences n xs ]
-        → List·Memᴰ n (x ∷ xs)
-    go true e later k = List·Memᴰ·head (sym (eqb-true x n e))
-    go false e later k = List·Memᴰ·tail (later k)
-
--- nodes of a family, `count` of them, each used by one of so many owners or by a higher node
-module _ (Stays : ℕ → Type 0) (owners count : ℕ) (used parts : ℕ → List ℕ)
-    (once : (n : ℕ) → n < count → occurrences n (joinBelow used owners ++ joinBelow parts count) ≡ 1)
-    (lower : (n p : ℕ) → n < count → List·Memᴰ p (parts n) → p < n)
-    (used-stays : (o n : ℕ) → o < owners → List·Memᴰ n (used o) → Stays n)
-    (part-stays : (n p : ℕ) → Stays n → List·Memᴰ p (parts n) → Stays p) where
-  all-above : (f n : ℕ) → n < count → count ≤ n + f → Stays n
-  all-above zero n l k = absurd (omega arith)
-  all-above (suc f) n l k =
-      ⊎-elim
-      (λ (h : List·Memᴰ n (joinBelow used owners)). let (o, below, m) = join-cases used n owners h in used-stays o n below m)
-      (λ (h : List·Memᴰ n (joinBelow parts count)).
-      let (o, below, m) = join-cases parts n count h in
-      let above = lower o n below m in
-      part-stays o n (all-above f o below (omega arith)) m)
-      (List·Memᴰ·append-cases (joinBelow used owners) (occurs n _ (omega (arith, once n l))))
-
-  all-stay : (n : ℕ) → n < count → Stays n
-  all-stay n l = all-above count n l (omega arith)
-
--- ---- records whose numbers stay are as they were
-module _ (state command expression : ℕ → ℕ) where
-  state-same : (x : State) → state (x .parent) ≡ x .parent → command (x .command) ≡ x .command → renumberedState state command expression x ≡ x
-  unfolding renumberedState
-  state-same x above body = rw (above, body)
-
-  module _ (d : Design) (n : ℕ) (expressions : (e : ℕ) → e < length (d .expressions) → expression e ≡ e) where
-    command-same :
-        ((s : ℕ) → s < length (d .states) → state s ≡ s)
-        → ((m : ℕ) → m < n → command m ≡ m)
-        → (kind : CommandKind) (x : Node) → CommandHolds d n kind x → renumberedCommand state command expression kind x ≡ x
-    unfolding renumberedCommand
-    command-same states commands skips x h = refl
-    command-same states commands assigns x h = rw (expressions (x .a) (h .1))
-    command-same states commands sequences x h = rw (commands (x .a) (h .1), commands (x .b) (h .2))
-    command-same states commands falls x h = refl
-    command-same states commands goes x h = rw (states (x .item) (h .0))
-    command-same states commands branches x h = rw (expressions (x .a) (h .1), commands (x .b) (h .2), commands (x .c) (h .3))
-    command-same states commands unknownCommand x h = absurd h
-
-  module _ (d : Design) (n : ℕ) (expressions : (e : ℕ) → e < n → expression e ≡ e) where
-    expression-same : (kind : ExpressionKind) (x : Node) → ExpressionHolds d n kind x → renumberedExpression state command expression kind x ≡ x
-    unfolding renumberedExpression
-    expression-same constants x h = refl
-    expression-same reads x h = refl
-    expression-same (operates o) x h = rw (expressions (x .a) (h .1), expressions (x .b) (h .2))
-    expression-same unknownExpression x h = absurd h
+use Rattle.pruning_model.proofs.Nodes.{CommandStays, ExpressionStays, body-stays, part-stays, value-stays, operand-stays}
 
 -- ---- the whole design
 module _ (d : Design) (keeps : StructureKeeps d) (some : 0 < length (d .states)) (all : (s : ℕ) → s < length (d .states) → Reached d s) where
@@ -97,7 +28,7 @@ module _ (d : Design) (keeps : StructureKeeps d) (some : 0 < length (d .states))
       (CommandStays d)
       (length (d .states))
       (length (d .commands))
-      (λ s. stateAt d s .command ∷ [])
+      (commandOf d)
       (partsOf d)
       (keeps .commands-used)
       (part-below d keeps)
@@ -128,16 +59,9 @@ module _ (d : Design) (keeps : StructureKeeps d) (some : 0 < length (d .states))
   pub same-expression : (e : ℕ) → e < length (d .expressions) → newExpression d e ≡ e
   same-expression e l = closed-same (expressionStays d) (length (d .expressions)) (λ i k. expressions-stay i k .1) e (omega arith)
 
-  parent-state : (s : ℕ) → s < length (d .states) → parent d s < length (d .states)
-  parent-state s l = go (ℕ-discrete s 0)
-    where
-      go : Dec (s ≡ 0) → parent d s < length (d .states)
-      go (yes e) = omega (arith, keeps .states s l .root-parent e)
-      go (no e) = omega (arith, keeps .states s l .parent-below e)
-
   states-written : (s : ℕ) → s < length (d .states) → stateWritten d (stateAt d s) ≡ stateAt d s
   states-written s l =
-      state-same (newState d) (newCommand d) (newExpression d) (stateAt d s) (same-state (parent d s) (parent-state s l)) (same-command (stateAt d s .command) (keeps .states s l .command))
+      state-same (newState d) (newCommand d) (newExpression d) (stateAt d s) (same-state (parent d s) (parent-exists d keeps s l)) (same-command (stateAt d s .command) (keeps .states s l .command))
 
   commands-written : (n : ℕ) → n < length (d .commands) → commandWritten d (commandAt d n) ≡ commandAt d n
   commands-written n l =

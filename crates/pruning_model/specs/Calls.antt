@@ -1,18 +1,15 @@
 -- 02, E11: the call. One function from everything lent to the answer and every byte of the output area afterwards, refusals included.
 use Prim.Native.Nat.{ℕ}
-use mathlib.Core.List.{List, _++_}
+use mathlib.Core.List.{List}
 use lib.Dec.{leb}
-use lib.ListN.{length, drop}
+use lib.ListN.{length}
 use Rattle.model.specs.declared.Refusal.the-variants.{OutputArea}
 use Rattle.model.specs.declared.Answer.{Answer}
 use Rattle.model.specs.declared.Answer.the-variants.{Accepted}
 use Rattle.model.specs.Verdict.{_before_, refusedAt, atZeroUnless, verdict}
 use Rattle.model.specs.Raising.{LeftOut, leavesOut}
+use Rattle.encoding.specs.Parts.{over}
 use Rattle.pruning_model.specs.Pruned.{prunedImage}
-
--- bytes over the beginning of an area: "output bytes beyond the result keep their values"
-unfoldable pub over : List ℕ → List ℕ → List ℕ
-over bytes out = bytes ++ drop (length bytes) out
 
 module _ (image out : List ℕ) where
   -- "It refuses with 24, after the image checks, an output area shorter than the result." Decided: at place 0, and the count is the bytes of the result.
@@ -22,6 +19,6 @@ module _ (image out : List ℕ) where
       before refusedAt OutputArea (atZeroUnless (leb (length (prunedImage image)) (length out)))
       before Accepted (length (prunedImage image))
 
-  -- "Write the image with only these"
+  -- "Write the image with only these", and "output bytes beyond the result keep their values"
   unfoldable pub prune : LeftOut
   prune = leavesOut pruneAnswer out (over (prunedImage image) out)

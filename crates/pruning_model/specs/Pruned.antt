@@ -1,15 +1,15 @@
 -- 02, E11: "Write the image with only these, numbers closed up and their nodes kept in order."
 use Prim.Native.Nat.{ℕ, zero, suc, _+_}
 use mathlib.Core.Bool.{Bool, _&&_, cond}
-use mathlib.Core.List.{List, [], _∷_, _++_, map}
+use mathlib.Core.List.{List, [], _∷_, map}
 use lib.ListN.{length}
-use Rattle.model.specs.Indices.{someBelow, recursively}
+use Rattle.model.specs.Indices.{someBelow, joinEach, recursively}
 use Rattle.model.specs.Image.{State, Node, Design, stateAt, designOf}
 use Rattle.model.specs.Kinds.{commandKind, expressionKind}
 use Rattle.model.specs.Values.{oneOrZero}
+use Rattle.model.specs.Nodes.{partsOf, valuesOf, operandsOf}
 use Rattle.encoding.specs.Encoding.{imageOf}
 use Rattle.renumbering.specs.Renumbering.{renumberedState, renumberedCommand, renumberedExpression}
-use Rattle.renumbering.specs.Renumbers.{partsOf, valuesOf, operandsOf}
 use Rattle.pruning_model.specs.Reached.{among, reached}
 
 -- ---- "numbers closed up"
@@ -26,11 +26,6 @@ module _ {A : Type 0} (stays : ℕ → Bool) where
 
   abbrev pub staying : List A → List A
   staying xs = stayingFrom 0 xs
-
--- the lists of f for each entry, joined
-unfoldable pub joinEach : (ℕ → List ℕ) → List ℕ → List ℕ
-joinEach f [] = []
-joinEach f (x ∷ xs) = f x ++ joinEach f xs
 
 -- ---- "their nodes"
 -- the numbers of a tree: its own, and those of its parts

@@ -33,18 +33,19 @@ unfoldable pub among : ℕ → List ℕ → Bool
 among n [] = false
 among n (x ∷ xs) = eqb x n || among n xs
 
-module _ (d : Design) where
-  -- the states that a command of s leads to: a fall to the default child of s, and a goto to the state it names
-  unfoldable pub leadsTo : ℕ → Cmd → List ℕ
-  leadsTo s (skip n) = []
-  leadsTo s (assign n r e) = []
-  leadsTo s (sequence n p q) = leadsTo s p ++ leadsTo s q
-  leadsTo s (fall n) = defaultTarget d s ∷ []
-  leadsTo s (goto n t a b) = t ∷ []
-  leadsTo s (branch n e p q) = leadsTo s p ++ leadsTo s q
+-- the states that a command leads to: a fall to the child that is given, and a goto to the state it names
+unfoldable pub leadsTo : ℕ → Cmd → List ℕ
+leadsTo child (skip n) = []
+leadsTo child (assign n r e) = []
+leadsTo child (sequence n p q) = leadsTo child p ++ leadsTo child q
+leadsTo child (fall n) = child ∷ []
+leadsTo child (goto n t a b) = t ∷ []
+leadsTo child (branch n e p q) = leadsTo child p ++ leadsTo child q
 
+module _ (d : Design) where
+  -- the states that the body of s leads to: a fall to its default child
   unfoldable pub successors : ℕ → List ℕ
-  successors s = leadsTo s (bodyOf d s)
+  successors s = leadsTo (defaultTarget d s) (bodyOf d s)
 
   -- one round: the states that are marked, and those that a marked state leads to
   unfoldable pub spread : List Bool → List Bool

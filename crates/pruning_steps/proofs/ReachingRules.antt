@@ -19,7 +19,7 @@ use Rattle.model.specs.Limits.{statesMax}
 use Rattle.model.specs.Image.{Design, designOf, commandAt}
 use Rattle.model.specs.States.{isChild, hasChild, defaultTarget}
 use Rattle.model.specs.Kinds.{sequences, falls, goes, branches, commandKind}
-use Rattle.model.specs.Trees.{Cmd, skip, assign, sequence, fall, goto, branch, cmdOf, bodyOf}
+use Rattle.model.specs.Trees.{cmdOf, bodyOf}
 use Rattle.model.specs.Rules.{StructureKeeps, CommandHolds}
 use Rattle.model.specs.Values.{oneOrZero}
 use Rattle.model.proofs.Laws.Booleans.{decide, true-or-false, not-true}
@@ -28,6 +28,7 @@ use Rattle.model.proofs.Laws.Passes.{Missed}
 use Rattle.model.proofs.Laws.States.{child-of, default-cases}
 use Rattle.model.proofs.Laws.Trees.{cmd-skip, cmd-assign, cmd-sequence, cmd-fall, cmd-goto, cmd-branch}
 use Rattle.design.specs.declared.Design.{Design as Described}
+use Rattle.design.specs.Kept.{Structured}
 use Rattle.design.specs.Records.{stateIn, nodeIn}
 use Rattle.design.specs.RecordsAt.{CommandAt}
 use Rattle.design.specs.Resets.{Defaults}
@@ -38,8 +39,8 @@ use Rattle.pruning_model.specs.Pruned.{closedUp}
 use Rattle.pruning_model.specs.Reached.{Reached, root, fallen, gone, leadsTo, successors, reached}
 use Rattle.pruning_model.proofs.Closing.{count-rests}
 use Rattle.pruning_model.proofs.Reached.{LeadsTo, leads-cases, fall-leads, goto-leads, reached-least, reached-state, reached-iff}
-use Rattle.pruning_steps.specs.Marks.{Pruning, Marked}
-use Rattle.pruning_steps.specs.Reaching.{found, foundAll, waits, leadsBy, Finding}
+use Rattle.pruning_steps.specs.Marks.{Marked}
+use Rattle.pruning_steps.specs.Reaching.{found, foundAll, waits, Finding}
 
 -- ---- a state is found
 module _ (marks : List ℕ) (t : ℕ) where
@@ -124,15 +125,6 @@ all-marked marks (t ∷ ts) k m l z =
     (List·Memᴰ·cases-cons m)
 
 -- ---- a command, from its parts
-leads-given : (d : Design) (s : ℕ) (c : Cmd) → leadsBy (defaultTarget d s) c ≡ leadsTo d s c
-unfolding leadsBy leadsTo
-leads-given d s (skip n) = refl
-leads-given d s (assign n r e) = refl
-leads-given d s (sequence n p q) = rw (leads-given d s p, leads-given d s q) refl
-leads-given d s (fall n) = refl
-leads-given d s (goto n t a b) = refl
-leads-given d s (branch n e p q) = rw (leads-given d s p, leads-given d s q) refl
-
 module _ {image marks : List ℕ} {place n child : ℕ} (here : Finding image place n child marks) where
   at : CommandAt image (here .design) place n
   at = here .command
@@ -172,15 +164,15 @@ module _ {image marks : List ℕ} {place n child : ℕ} (here : Finding image pl
       → k ≡ nodeIn image place n .kind
       → a ≡ nodeIn image place n .a
       → b ≡ nodeIn image place n .b
-      → middle ≡ foundAll marks (leadsBy child (cmdOf (designOf image) a))
-      → after ≡ foundAll middle (leadsBy child (cmdOf (designOf image) b))
-      → after ≡ foundAll marks (leadsBy child (cmdOf (designOf image) n))
-  unfolding commandKind leadsBy
+      → middle ≡ foundAll marks (leadsTo child (cmdOf (designOf image) a))
+      → after ≡ foundAll middle (leadsTo child (cmdOf (designOf image) b))
+      → after ≡ foundAll marks (leadsTo child (cmdOf (designOf image) n))
+  unfolding commandKind leadsTo
   sequence-finds {a = a} {b = b} kind byte fa fb first second =
       let tree = cmd-sequence (designOf image) n (command-kind-of at sequences kind byte refl) (command-holds at kind byte .1) (command-holds at kind byte .2) in
-      let p = leadsBy child (cmdOf (designOf image) a) in
-      let q = leadsBy child (cmdOf (designOf image) b) in
-      let parts : p ++ q ≡ leadsBy child (cmdOf (designOf image) n) = rw (tree, ← (a-is at fa), ← (b-is at fb)) refl in
+      let p = leadsTo child (cmdOf (designOf image) a) in
+      let q = leadsTo child (cmdOf (designOf image) b) in
+      let parts : p ++ q ≡ leadsTo child (cmdOf (designOf image) n) = rw (tree, ← (a-is at fa), ← (b-is at fb)) refl in
       second ∙ ap (λ (m : List ℕ). foundAll m q) first ∙ found-append marks p q ∙ ap (foundAll marks) parts
 
   pub branch-finds :
@@ -189,29 +181,29 @@ module _ {image marks : List ℕ} {place n child : ℕ} (here : Finding image pl
       → k ≡ nodeIn image place n .kind
       → b ≡ nodeIn image place n .b
       → c ≡ nodeIn image place n .c
-      → middle ≡ foundAll marks (leadsBy child (cmdOf (designOf image) b))
-      → after ≡ foundAll middle (leadsBy child (cmdOf (designOf image) c))
-      → after ≡ foundAll marks (leadsBy child (cmdOf (designOf image) n))
-  unfolding commandKind leadsBy
+      → middle ≡ foundAll marks (leadsTo child (cmdOf (designOf image) b))
+      → after ≡ foundAll middle (leadsTo child (cmdOf (designOf image) c))
+      → after ≡ foundAll marks (leadsTo child (cmdOf (designOf image) n))
+  unfolding commandKind leadsTo
   branch-finds {b = b} {c = c} kind byte fb fc first second =
       let tree = cmd-branch (designOf image) n (command-kind-of at branches kind byte refl) (command-holds at kind byte .2) (command-holds at kind byte .3) in
-      let p = leadsBy child (cmdOf (designOf image) b) in
-      let q = leadsBy child (cmdOf (designOf image) c) in
-      let parts : p ++ q ≡ leadsBy child (cmdOf (designOf image) n) = rw (tree, ← (b-is at fb), ← (c-is at fc)) refl in
+      let p = leadsTo child (cmdOf (designOf image) b) in
+      let q = leadsTo child (cmdOf (designOf image) c) in
+      let parts : p ++ q ≡ leadsTo child (cmdOf (designOf image) n) = rw (tree, ← (b-is at fb), ← (c-is at fc)) refl in
       second ∙ ap (λ (m : List ℕ). foundAll m q) first ∙ found-append marks p q ∙ ap (foundAll marks) parts
 
-  pub fall-finds : {k : ℕ} {after : List ℕ} → k ≡ 3 → k ≡ nodeIn image place n .kind → after ≡ found marks child → after ≡ foundAll marks (leadsBy child (cmdOf (designOf image) n))
-  unfolding commandKind leadsBy foundAll
+  pub fall-finds : {k : ℕ} {after : List ℕ} → k ≡ 3 → k ≡ nodeIn image place n .kind → after ≡ found marks child → after ≡ foundAll marks (leadsTo child (cmdOf (designOf image) n))
+  unfolding commandKind leadsTo foundAll
   fall-finds kind byte e = e ∙ rw (cmd-fall (designOf image) n (command-kind-of at falls kind byte refl)) refl
 
-  pub goto-finds : {k t : ℕ} {after : List ℕ} → k ≡ 4 → k ≡ nodeIn image place n .kind → t ≡ nodeIn image place n .item → after ≡ found marks t → after ≡ foundAll marks (leadsBy child (cmdOf (designOf image) n))
-  unfolding commandKind leadsBy foundAll
+  pub goto-finds : {k t : ℕ} {after : List ℕ} → k ≡ 4 → k ≡ nodeIn image place n .kind → t ≡ nodeIn image place n .item → after ≡ found marks t → after ≡ foundAll marks (leadsTo child (cmdOf (designOf image) n))
+  unfolding commandKind leadsTo foundAll
   goto-finds kind byte f e = e ∙ rw (cmd-goto (designOf image) n (command-kind-of at goes kind byte refl), ← (item-is at f)) refl
 
   -- a command that is no sequence, fall, goto or if leads nowhere
   leads-nowhere : (k : ℕ) → k ≡ commandAt (designOf image) n .kind → (k ≡ 2 → ⊥) → (k ≡ 3 → ⊥) → (k ≡ 4 → ⊥) → (k ≡ 5 → ⊥) → CommandHolds (designOf image) n (commandKind k) (commandAt (designOf image) n)
-      → marks ≡ foundAll marks (leadsBy child (cmdOf (designOf image) n))
-  unfolding commandKind leadsBy foundAll
+      → marks ≡ foundAll marks (leadsTo child (cmdOf (designOf image) n))
+  unfolding commandKind leadsTo foundAll
   leads-nowhere zero e a b c d h = rw (cmd-skip (designOf image) n (ap commandKind (sym e))) refl
   leads-nowhere (suc zero) e a b c d h = rw (cmd-assign (designOf image) n (ap commandKind (sym e))) refl
   leads-nowhere (suc (suc zero)) e a b c d h = absurd (a refl)
@@ -220,7 +212,7 @@ module _ {image marks : List ℕ} {place n child : ℕ} (here : Finding image pl
   leads-nowhere (suc (suc (suc (suc (suc zero))))) e a b c d h = absurd (d refl)
   leads-nowhere (suc (suc (suc (suc (suc (suc k)))))) e a b c d h = absurd h
 
-  pub other-finds : {k : ℕ} → (k ≡ 2 → ⊥) → (k ≡ 3 → ⊥) → (k ≡ 4 → ⊥) → (k ≡ 5 → ⊥) → k ≡ nodeIn image place n .kind → marks ≡ foundAll marks (leadsBy child (cmdOf (designOf image) n))
+  pub other-finds : {k : ℕ} → (k ≡ 2 → ⊥) → (k ≡ 3 → ⊥) → (k ≡ 4 → ⊥) → (k ≡ 5 → ⊥) → k ≡ nodeIn image place n .kind → marks ≡ foundAll marks (leadsTo child (cmdOf (designOf image) n))
   other-finds {k} a b c d p = leads-nowhere k (sym (command-kind-is at refl p)) a b c d (command-holds at refl p)
 
 pub ruleset finding-laws = (child-inside, goto-inside, sequence-finds, branch-finds, fall-finds, goto-finds, other-finds)
@@ -257,7 +249,7 @@ module _ (marks : List ℕ) where
 pub through-long : {after : List ℕ} (marks ts : List ℕ) (s : ℕ) → after ≡ foundAll (set marks s 1) ts → length after ≡ length marks
 through-long marks ts s e = ap length e ∙ length-all (set marks s 1) ts ∙ length-set marks s 1
 
-module _ {image : List ℕ} {x : Described} (here : Pruning image x) where
+module _ {image : List ℕ} {x : Described} (here : Structured image x) where
   pub default-inside : {defaults : List ℕ} {s : ℕ} → Defaults (designOf image) defaults → s < x .states → s < length defaults
   default-inside told l = entry-inside (here .records .describes) told l
 
@@ -292,7 +284,7 @@ module _ {image : List ℕ} {x : Described} (here : Pruning image x) where
 
   pub goes-through :
       {defaults after : List ℕ} (marks : List ℕ) {s n child : ℕ}
-      → after ≡ foundAll (set marks s 1) (leadsBy child (cmdOf (designOf image) n))
+      → after ≡ foundAll (set marks s 1) (leadsTo child (cmdOf (designOf image) n))
       → n ≡ stateIn image (x .«states_at») s .command
       → child ≡ getD defaults s 0
       → Defaults (designOf image) defaults
@@ -301,7 +293,7 @@ module _ {image : List ℕ} {x : Described} (here : Pruning image x) where
   unfolding successors bodyOf
   goes-through marks {s} {n} after-is e f told l =
       after-is
-      ∙ rw (child-is l told f, body-is (here .records .describes) l e) (ap (foundAll (set marks s 1)) (leads-given (designOf image) s (bodyOf (designOf image) s)))
+      ∙ rw (child-is l told f, body-is (here .records .describes) l e) refl
 
 -- ---- what is known of the table between two states that are gone through
 pub record Reaching (d : Design) (marks : List ℕ) : Type 0 where
@@ -327,7 +319,7 @@ reaching-same so e = so .whole ∙ sym (ap length e ∙ length-replicate {A = �
 pub root-inside : {marks : List ℕ} → marks ≡ replicate {A = ℕ} statesMax 0 → 0 < length marks
 root-inside e = let fresh = ap length e ∙ length-replicate {A = ℕ} statesMax 0 in omega arith
 
-pub reaching-begins : {image marks : List ℕ} {x : Described} → Pruning image x → marks ≡ replicate {A = ℕ} statesMax 0 → Reaching (designOf image) (set marks 0 2)
+pub reaching-begins : {image marks : List ℕ} {x : Described} → Structured image x → marks ≡ replicate {A = ℕ} statesMax 0 → Reaching (designOf image) (set marks 0 2)
 reaching-begins {image} {marks} here e =
     let few = states-few (here .records .describes) in
     let count = states-count (here .records .describes) in
@@ -501,7 +493,7 @@ module _ (d : Design) (keeps : StructureKeeps d) (some : 0 < length (d .states))
       go (inr e) (no z) = absurd (true-or-false (reached d k) (reached-iff d keeps some k .1 (so .only k z)) e)
 
 -- ---- what the loop cites
-module _ {image : List ℕ} {x : Described} (here : Pruning image x) where
+module _ {image : List ℕ} {x : Described} (here : Structured image x) where
   pub reaching-long : {marks : List ℕ} → Reaching (designOf image) marks → x .states ≤ length marks
   reaching-long so = let count = states-count (here .records .describes) in let long = so .long in omega arith
 

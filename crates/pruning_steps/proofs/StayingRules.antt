@@ -14,27 +14,26 @@ use borrow.Author.Tests.{eq-eqb, eqb-true}
 use Rattle.model.specs.Limits.{commandsMax, expressionsMax}
 use Rattle.model.specs.Indices.{joinBelow}
 use Rattle.model.specs.Values.{oneOrZero}
-use Rattle.model.specs.Image.{Design as Table, States, Node, designOf, commandAt, expressionAt}
-use Rattle.model.specs.Kinds.{CommandKind, skips, assigns, sequences, falls, goes, branches, unknownCommand, ExpressionKind, constants, reads, unknownExpression, Operation, operates, commandKind, expressionKind}
-use Rattle.model.specs.Nodes.{commandParts, expressionsOf, expressionParts}
+use Rattle.model.specs.Image.{Design as Table, States, designOf}
+use Rattle.model.specs.Nodes.{commandOf, partsOf, valuesOf, operandsOf}
 use Rattle.model.specs.Rules.{StructureKeeps}
 use Rattle.model.proofs.Laws.Booleans.{decide, not-true, not-false}
-use Rattle.model.proofs.Laws.Indices.{below-suc}
 use Rattle.model.proofs.Laws.Among.{among-join, join-cases}
-use Rattle.model.proofs.Laws.Kinds.{kind-assigns, kind-sequences, kind-branches, assigns-number, sequences-number, branches-number, expressionKinds, no-operation-zero, no-operation-one, no-operation-above}
+use Rattle.model.proofs.Laws.Kinds.{expressionKinds}
 use Rattle.design.specs.declared.Design.{Design}
 use Rattle.design.specs.Records.{stateIn, nodeIn}
-use Rattle.design.specs.Kept.{RecordsKept}
+use Rattle.design.specs.Kept.{RecordsKept, Structured}
 use Rattle.design.specs.RecordsAt.{CommandAt, ExpressionAt}
 use Rattle.design.proofs.Laws.{states-count, commands-count, expressions-count, commands-most, expressions-most}
-use Rattle.design.proofs.FieldRules.{body-is, body-below, command-at, command-kind-is, command-kind-of, a-is, b-is, c-is, assigned-expression, condition, sequence-a-below, sequence-b-below, branch-b-below, branch-c-below, expression-at, expression-kind-is, first-is, second-is, operation, operand-a-below, operand-b-below}
-use Rattle.renumbering.specs.Renumbers.{partsOf, valuesOf, operandsOf}
+use Rattle.design.proofs.FieldRules.{body-is, command-at, expression-at}
+use Rattle.design.proofs.PartRules.{sequence-parts, branch-parts, no-parts, one-value, no-value, operation-operands, no-operands-low, no-operands-high}
+use Rattle.renumbering.proofs.Parts.{part-below, operand-below}
 use Rattle.pruning_model.specs.Reached.{reached}
 use Rattle.pruning_model.specs.Pruned.{commandStays, expressionStays}
 use Rattle.pruning_model.proofs.Reached.{reached-state, reached-iff}
-use Rattle.pruning_model.proofs.Nodes.{IsBody, IsValue, CommandStays, ExpressionStays, part-below, operand-below, body-stays, part-stays, command-used, value-stays, operand-stays, expression-used}
-use Rattle.pruning_steps.specs.Marks.{Pruning, Marked, isMarked}
-use Rattle.pruning_steps.specs.Staying.{markAll, givenBy, commandOf}
+use Rattle.pruning_model.proofs.Nodes.{IsBody, IsValue, CommandStays, ExpressionStays, body-stays, part-stays, command-used, value-stays, operand-stays, expression-used}
+use Rattle.pruning_steps.specs.Marks.{Marked, isMarked}
+use Rattle.pruning_steps.specs.Staying.{markAll, givenBy}
 use Rattle.pruning_steps.proofs.NumberingRules.{marked-says}
 
 -- ---- a table with the numbers of a list marked
@@ -98,87 +97,24 @@ pub both-marked : (t : List ℕ) (a b : ℕ) → set (set t a 1) b 1 ≡ markAll
 unfolding markAll
 both-marked t a b = refl
 
-mark-one : (t : List ℕ) {a p : ℕ} {us : List ℕ} → us ≡ p ∷ [] → a ≡ p → set t a 1 ≡ markAll t us
+mark-one : (t : List ℕ) {a : ℕ} {us : List ℕ} → us ≡ a ∷ [] → set t a 1 ≡ markAll t us
 unfolding markAll
-mark-one t e f = rw (e, ← f)
+mark-one t e = rw e
 
-mark-two : (t : List ℕ) {v : List ℕ} {a b p q : ℕ} {us : List ℕ} → us ≡ p ∷ q ∷ [] → a ≡ p → b ≡ q → v ≡ markAll t (a ∷ b ∷ []) → v ≡ markAll t us
-mark-two t e f g h = rw (e, ← f, ← g) h
+mark-list : (t : List ℕ) {v us vs : List ℕ} → us ≡ vs → v ≡ markAll t vs → v ≡ markAll t us
+mark-list t e h = rw e h
 
 mark-none : {t : List ℕ} {us : List ℕ} → us ≡ [] → t ≡ markAll t us
 unfolding markAll
 mark-none e = rw e
 
-sequence-parts : {kind : CommandKind} (x : Node) → kind ≡ sequences → commandParts kind x ≡ x .a ∷ x .b ∷ []
-unfolding commandParts
-sequence-parts x e = rw e
-
-branch-parts : {kind : CommandKind} (x : Node) → kind ≡ branches → commandParts kind x ≡ x .b ∷ x .c ∷ []
-unfolding commandParts
-branch-parts x e = rw e
-
-no-parts : (kind : CommandKind) (x : Node) → (kind ≡ sequences → ⊥) → (kind ≡ branches → ⊥) → commandParts kind x ≡ []
-unfolding commandParts
-no-parts skips x s b = refl
-no-parts assigns x s b = refl
-no-parts sequences x s b = absurd (s refl)
-no-parts falls x s b = refl
-no-parts goes x s b = refl
-no-parts branches x s b = absurd (b refl)
-no-parts unknownCommand x s b = refl
-
-assign-value : {kind : CommandKind} (x : Node) → kind ≡ assigns → expressionsOf kind x ≡ x .a ∷ []
-unfolding expressionsOf
-assign-value x e = rw e
-
-branch-value : {kind : CommandKind} (x : Node) → kind ≡ branches → expressionsOf kind x ≡ x .a ∷ []
-unfolding expressionsOf
-branch-value x e = rw e
-
-no-value : (kind : CommandKind) (x : Node) → (kind ≡ assigns → ⊥) → (kind ≡ branches → ⊥) → expressionsOf kind x ≡ []
-unfolding expressionsOf
-no-value skips x a b = refl
-no-value assigns x a b = absurd (a refl)
-no-value sequences x a b = refl
-no-value falls x a b = refl
-no-value goes x a b = refl
-no-value branches x a b = absurd (b refl)
-no-value unknownCommand x a b = refl
-
-operands : {kind : ExpressionKind} {o : Operation} (x : Node) → kind ≡ operates o → expressionParts kind x ≡ x .a ∷ x .b ∷ []
-unfolding expressionParts
-operands x e = rw e
-
-no-operands : (kind : ExpressionKind) (x : Node) → ((o : Operation) → kind ≡ operates o → ⊥) → expressionParts kind x ≡ []
-unfolding expressionParts
-no-operands constants x h = refl
-no-operands reads x h = refl
-no-operands (operates o) x h = absurd (h o refl)
-no-operands unknownExpression x h = refl
-
--- a node has an entry in a table of its family
-pub command-inside : {image : List ℕ} {x : Design} {place n long : ℕ} → CommandAt image x place n → x .commands ≤ long → n < long
-command-inside here l = let node = here .node in omega arith
-
-pub expression-inside : {image : List ℕ} {x : Design} {place n long : ℕ} → ExpressionAt image x place n → x .expressions ≤ long → n < long
-expression-inside here l = let node = here .node in omega arith
-
 -- a state's command
-module _ {image : List ℕ} {x : Design} (kept : RecordsKept image x) {s m : ℕ} (l : s < x .states) (same : m ≡ stateIn image (x .«states_at») s .command) where
-  pub marks-body : (t : List ℕ) → set t m 1 ≡ markAll t (commandOf (designOf image) s)
-  marks-body t = mark-one t refl (body-is (kept .describes) l same)
-
-  pub body-inside : {long : ℕ} → x .commands ≤ long → m < long
-  body-inside inside = let below = body-below (kept .describes) l same (kept .states) in omega arith
+pub marks-body : {image : List ℕ} {x : Design} {s m : ℕ} → RecordsKept image x → s < x .states → m ≡ stateIn image (x .«states_at») s .command → (t : List ℕ)
+    → set t m 1 ≡ markAll t (commandOf (designOf image) s)
+marks-body kept l same t = mark-one t (ap (λ (c : ℕ). c ∷ []) (sym (body-is (kept .describes) l same)))
 
 -- a command's parts and its expression
 module _ {image : List ℕ} {x : Design} {place n k : ℕ} (here : CommandAt image x place n) (same : k ≡ nodeIn image place n .kind) where
-  kind-of : (c : CommandKind) → commandKind k ≡ c → commandKind (commandAt (designOf image) n .kind) ≡ c
-  kind-of c e = command-kind-of here c refl same e
-
-  byte : k ≡ commandAt (designOf image) n .kind
-  byte = sym (command-kind-is here refl same)
-
   pub marks-sequence :
       (t : List ℕ) {v : List ℕ} {a b : ℕ}
       → k ≡ 2
@@ -186,7 +122,7 @@ module _ {image : List ℕ} {x : Design} {place n k : ℕ} (here : CommandAt ima
       → b ≡ nodeIn image place n .b
       → v ≡ markAll t (a ∷ b ∷ [])
       → v ≡ markAll t (partsOf (designOf image) n)
-  marks-sequence t e p q h = mark-two t (sequence-parts (commandAt (designOf image) n) (kind-of sequences (kind-sequences e))) (a-is here p) (b-is here q) h
+  marks-sequence t e p q h = mark-list t (sequence-parts here same e p q) h
 
   pub marks-branch :
       (t : List ℕ) {v : List ℕ} {a b : ℕ}
@@ -195,55 +131,16 @@ module _ {image : List ℕ} {x : Design} {place n k : ℕ} (here : CommandAt ima
       → b ≡ nodeIn image place n .c
       → v ≡ markAll t (a ∷ b ∷ [])
       → v ≡ markAll t (partsOf (designOf image) n)
-  marks-branch t e p q h = mark-two t (branch-parts (commandAt (designOf image) n) (kind-of branches (kind-branches e))) (b-is here p) (c-is here q) h
+  marks-branch t e p q h = mark-list t (branch-parts here same e p q) h
 
   pub marks-no-part : {t : List ℕ} → (k ≡ 2 → ⊥) → (k ≡ 5 → ⊥) → t ≡ markAll t (partsOf (designOf image) n)
-  marks-no-part two five =
-      mark-none
-      (no-parts
-      (commandKind (commandAt (designOf image) n .kind))
-      (commandAt (designOf image) n)
-      (λ e. two (sequences-number k (ap commandKind byte ∙ e)))
-      (λ e. five (branches-number k (ap commandKind byte ∙ e))))
+  marks-no-part two five = mark-none (no-parts here same two five)
 
   pub marks-value : (t : List ℕ) {a : ℕ} → (k ≡ 1) ⊎ (k ≡ 5) → a ≡ nodeIn image place n .a → set t a 1 ≡ markAll t (valuesOf (designOf image) n)
-  marks-value t e p =
-      ⊎-elim
-      (λ (one : k ≡ 1). mark-one t (assign-value (commandAt (designOf image) n) (kind-of assigns (kind-assigns one))) (a-is here p))
-      (λ (five : k ≡ 5). mark-one t (branch-value (commandAt (designOf image) n) (kind-of branches (kind-branches five))) (a-is here p))
-      e
+  marks-value t e p = mark-one t (one-value here same e p)
 
   pub marks-no-value : {t : List ℕ} → ((k ≡ 1) ⊎ (k ≡ 5) → ⊥) → t ≡ markAll t (valuesOf (designOf image) n)
-  marks-no-value h =
-      mark-none
-      (no-value
-      (commandKind (commandAt (designOf image) n .kind))
-      (commandAt (designOf image) n)
-      (λ e. h (inl (assigns-number k (ap commandKind byte ∙ e))))
-      (λ e. h (inr (branches-number k (ap commandKind byte ∙ e)))))
-
-  -- its expression has an entry in a table of the expressions
-  pub value-inside : {a long : ℕ} → (k ≡ 1) ⊎ (k ≡ 5) → a ≡ nodeIn image place n .a → x .expressions ≤ long → a < long
-  value-inside e p l =
-      let below = ⊎-elim (λ (one : k ≡ 1). assigned-expression here one same p) (λ (five : k ≡ 5). condition here five same p) e in
-      omega (arith, expressions-count (here .describes))
-
--- a command's parts have entries in a table of the commands
-module _ {image : List ℕ} {x : Design} {place n : ℕ} (here : CommandAt image x place n) where
-  lower-inside : {m long : ℕ} → x .commands ≤ long → m < n → m < long
-  lower-inside l b = let node = here .node in omega arith
-
-  pub sequence-a-inside : {k m long : ℕ} → k ≡ 2 → k ≡ nodeIn image place n .kind → m ≡ nodeIn image place n .a → x .commands ≤ long → m < long
-  sequence-a-inside e same p l = lower-inside l (sequence-a-below here e same p)
-
-  pub sequence-b-inside : {k m long : ℕ} → k ≡ 2 → k ≡ nodeIn image place n .kind → m ≡ nodeIn image place n .b → x .commands ≤ long → m < long
-  sequence-b-inside e same p l = lower-inside l (sequence-b-below here e same p)
-
-  pub branch-b-inside : {k m long : ℕ} → k ≡ 5 → k ≡ nodeIn image place n .kind → m ≡ nodeIn image place n .b → x .commands ≤ long → m < long
-  branch-b-inside e same p l = lower-inside l (branch-b-below here e same p)
-
-  pub branch-c-inside : {k m long : ℕ} → k ≡ 5 → k ≡ nodeIn image place n .kind → m ≡ nodeIn image place n .c → x .commands ≤ long → m < long
-  branch-c-inside e same p l = lower-inside l (branch-c-below here e same p)
+  marks-no-value h = mark-none (no-value here same h)
 
 -- an expression's operands
 module _ {image : List ℕ} {x : Design} {place n k : ℕ} (here : ExpressionAt image x place n) (same : k ≡ nodeIn image place n .kind) where
@@ -255,35 +152,13 @@ module _ {image : List ℕ} {x : Design} {place n k : ℕ} (here : ExpressionAt 
       → b ≡ nodeIn image place n .b
       → v ≡ markAll t (a ∷ b ∷ [])
       → v ≡ markAll t (operandsOf (designOf image) n)
-  marks-operation t low high p q h =
-      let o = operation here high (omega arith) (λ e. omega arith) same in
-      mark-two t (operands (expressionAt (designOf image) n) (o .1)) (first-is here p) (second-is here q) h
-
-  no-operation : {t : List ℕ} → ((o : Operation) → expressionKind k ≡ operates o → ⊥) → t ≡ markAll t (operandsOf (designOf image) n)
-  no-operation h =
-      mark-none
-      (no-operands
-      (expressionKind (expressionAt (designOf image) n .kind))
-      (expressionAt (designOf image) n)
-      (λ o e. h o (ap expressionKind (sym (expression-kind-is here same)) ∙ e)))
+  marks-operation t low high p q h = mark-list t (operation-operands here same low high p q) h
 
   pub marks-low : {t : List ℕ} → k < 2 → t ≡ markAll t (operandsOf (designOf image) n)
-  marks-low h = no-operation (λ o e. ⊎-elim (λ (z : k < 1). no-operation-zero (omega arith) o e) (λ (z : k ≡ 1). no-operation-one z o e) (below-suc h))
+  marks-low h = mark-none (no-operands-low here same h)
 
   pub marks-high : {t : List ℕ} → expressionKinds ≤ k → t ≡ markAll t (operandsOf (designOf image) n)
-  marks-high h = no-operation (no-operation-above h)
-
-  pub operand-a-inside : {m long : ℕ} → k < expressionKinds → 2 ≤ k → m ≡ nodeIn image place n .a → x .expressions ≤ long → m < long
-  operand-a-inside high low p l =
-      let node = here .node in
-      let below = operand-a-below here high (omega arith) (λ e. omega arith) same p in
-      omega arith
-
-  pub operand-b-inside : {m long : ℕ} → k < expressionKinds → 2 ≤ k → m ≡ nodeIn image place n .b → x .expressions ≤ long → m < long
-  operand-b-inside high low p l =
-      let node = here .node in
-      let below = operand-b-below here high (omega arith) (λ e. omega arith) same p in
-      omega arith
+  marks-high h = mark-none (no-operands-high here same h)
 
 -- ---- a loop over owners: all that those before i give is marked
 pub record Spread (old : List ℕ) (gives : ℕ → List ℕ) (now : List ℕ) (i : ℕ) : Type 0 where
@@ -460,7 +335,7 @@ abbrev pub ExpressionsDown : List ℕ → Design → List ℕ → ℕ → List �
 ExpressionsDown image x old n now =
     Downward (expressionStays (designOf image)) (commandStays (designOf image)) (valuesOf (designOf image)) (operandsOf (designOf image)) (x .commands) (x .expressions) old n now
 
-module _ {image : List ℕ} {x : Design} (known : Pruning image x) where
+module _ {image : List ℕ} {x : Design} (known : Structured image x) where
   some-state : 0 < length (designOf image .states)
   some-state = let d = known .records .describes in omega (arith, d .states, states-count d, d .directory .sections States)
 

@@ -18,6 +18,7 @@ use Rattle.model.specs.Kinds.{CommandKind, assigns, sequences, goes, branches, 
 use Rattle.model.proofs.Laws.Booleans.{decide, not-true, not-false, and-first, and-second}
 use Rattle.model.proofs.Laws.Kinds.{kind-skips, kind-assigns, kind-sequences, kind-falls, kind-goes, kind-branches, no-command-kind, expressionKinds, kind-constants, kind-reads, no-expression-kind}
 use Rattle.design.specs.declared.Design.{Design}
+use Rattle.design.specs.Kept.{Structured}
 use Rattle.design.specs.Records.{stateIn, nodeIn}
 use Rattle.design.specs.RecordsAt.{CommandAt, ExpressionAt}
 use Rattle.design.proofs.Laws.{states-count, commands-count, expressions-count, state-in}
@@ -29,13 +30,13 @@ use Rattle.encoding.proofs.Records.{state-encodes, node-encodes}
 use Rattle.encoding.proofs.Sections.{length-records}
 use Rattle.encoding.proofs.PartRules.{length-over, over-none}
 use Rattle.encoding.proofs.WriterRules.{record-put}
-use Rattle.renumbering.specs.Renumbering.{renumberedState, renumberedCommand, renumberedExpression}
+use Rattle.renumbering.specs.Renumbering.{withParts, renumberedState, renumberedCommand, renumberedExpression}
 use Rattle.pruning_model.specs.Reached.{reached}
 use Rattle.pruning_model.specs.Pruned.{closedUp, stayingFrom, staying, commandStays, expressionStays, newState, newCommand, newExpression, pruned}
 use Rattle.pruning_model.proofs.Closing.{closed-zero, closed-stays, closed-goes, closed-grows, closed-at-most, length-staying}
 use Rattle.pruning_model.specs.Pruned.{stateWritten, commandWritten, expressionWritten}
-use Rattle.pruning_steps.specs.Marks.{Pruning, Marked, isMarked, Numbered}
-use Rattle.pruning_steps.specs.Writing.{withParts, behind, Stepped}
+use Rattle.pruning_steps.specs.Marks.{Marked, isMarked, Numbered}
+use Rattle.pruning_steps.specs.Writing.{behind, Stepped}
 use Rattle.pruning_steps.proofs.NumberingRules.{marked-says}
 
 -- ---- one step: a record is written where it is marked
@@ -184,7 +185,7 @@ StatesWritten image x marks at old k place now =
 
 module _ {image : List ℕ} {x : Design} {marks : List ℕ} {at : ℕ} {old : List ℕ} where
   pub states-none :
-      Pruning image x
+      Structured image x
       → Marked (reached (designOf image)) (x .states) marks
       → at + stateLength * closedUp (reached (designOf image)) (x .states) ≤ length old
       → StatesWritten image x marks at old 0 at old
@@ -214,7 +215,7 @@ CommandsWritten image x marks at old k place now =
 
 module _ {image : List ℕ} {x : Design} {marks : List ℕ} {at : ℕ} {old : List ℕ} where
   pub commands-none :
-      Pruning image x
+      Structured image x
       → Marked (commandStays (designOf image)) (x .commands) marks
       → at + nodeLength * closedUp (commandStays (designOf image)) (x .commands) ≤ length old
       → CommandsWritten image x marks at old 0 at old
@@ -244,7 +245,7 @@ ExpressionsWritten image x marks at old k place now =
 
 module _ {image : List ℕ} {x : Design} {marks : List ℕ} {at : ℕ} {old : List ℕ} where
   pub expressions-none :
-      Pruning image x
+      Structured image x
       → Marked (expressionStays (designOf image)) (x .expressions) marks
       → at + nodeLength * closedUp (expressionStays (designOf image)) (x .expressions) ≤ length old
       → ExpressionsWritten image x marks at old 0 at old
@@ -268,7 +269,7 @@ module _ (image : List ℕ) (x : Design) {marks : List ℕ} {at : ℕ} {old : Li
   expressions-whole h = written-whole so h
 
 -- the node that is met
-module _ {image : List ℕ} {x : Design} (known : Pruning image x) where
+module _ {image : List ℕ} {x : Design} (known : Structured image x) where
   pub command-here : {n : ℕ} → n < x .commands → CommandAt image x (x .«commands_at») n
   command-here l = command-at (known .records .describes) (known .records .commands) l refl
 
@@ -283,7 +284,7 @@ new-fits : {stays : ℕ → Bool} {count : ℕ} {numbers : List ℕ} {k r : ℕ}
 new-fits {stays} {k = k} table l few e = omega (arith, e ∙ table .entry k l, closed-at-most stays k)
 
 -- ---- a state
-module _ {image : List ℕ} {x : Design} (known : Pruning image x) {s p : ℕ} (l : s < x .states) (same : p ≡ stateIn image (x .«states_at») s .parent) where
+module _ {image : List ℕ} {x : Design} (known : Structured image x) {s p : ℕ} (l : s < x .states) (same : p ≡ stateIn image (x .«states_at») s .parent) where
   parent-is : p ≡ stateAt (designOf image) s .parent
   parent-is = same ∙ ap (λ (y : State). y .parent) (state-in (known .records .describes) l)
 

@@ -1,21 +1,12 @@
--- Tables of marks, which say what stays, and of new numbers; and what is known of the image that is pruned.
+-- Tables of marks, which say what stays, and of new numbers.
 use Prim.Native.Nat.{ℕ, _≤_, _<_}
 use mathlib.Core.Path.{_≡_}
 use mathlib.Core.Bool.{Bool}
 use mathlib.Core.List.{List}
 use lib.Dec.{eqb}
 use lib.ListN.{length, getD}
-use Rattle.model.specs.Image.{designOf}
 use Rattle.model.specs.Values.{oneOrZero}
-use Rattle.model.specs.Rules.{StructureKeeps}
-use Rattle.design.specs.declared.Design.{Design as Described}
-use Rattle.design.specs.Kept.{RecordsKept}
 use Rattle.pruning_model.specs.Pruned.{closedUp}
-
--- an image whose records are judged, and whose structure is
-pub record Pruning (image : List ℕ) (x : Described) : Type 0 where
-  pub records : RecordsKept image x
-  pub structure : StructureKeeps (designOf image)
 
 -- a table has 1 for each of n numbers that stays, and 0 for each that goes
 pub record Marked (stays : ℕ → Bool) (n : ℕ) (marks : List ℕ) : Type 0 where

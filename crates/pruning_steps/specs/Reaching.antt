@@ -1,11 +1,10 @@
 -- What the code that marks the reached states knows and leaves. In its table a state is 0 that was not found, 1 that was gone through, and 2 that waits.
 use Prim.Native.Nat.{ℕ, _≤_, _<_}
 use mathlib.Core.Bool.{Bool, cond}
-use mathlib.Core.List.{List, [], _∷_, _++_}
+use mathlib.Core.List.{List, [], _∷_}
 use lib.Dec.{eqb}
 use lib.ListN.{length, getD, set}
 use Rattle.model.specs.Image.{designOf}
-use Rattle.model.specs.Trees.{Cmd, skip, assign, sequence, fall, goto, branch}
 use Rattle.design.specs.declared.Design.{Design as Described}
 use Rattle.design.specs.Kept.{CommandsKept}
 use Rattle.design.specs.RecordsAt.{CommandAt}
@@ -22,15 +21,6 @@ foundAll marks (t ∷ ts) = foundAll (found marks t) ts
 -- state k waits
 abbrev pub waits : List ℕ → ℕ → Bool
 waits marks k = eqb (getD marks k 0) 2
-
--- the states that a command leads to, where a fall leads to the child that is given
-unfoldable pub leadsBy : ℕ → Cmd → List ℕ
-leadsBy child (skip n) = []
-leadsBy child (assign n r e) = []
-leadsBy child (sequence n p q) = leadsBy child p ++ leadsBy child q
-leadsBy child (fall n) = child ∷ []
-leadsBy child (goto n t a b) = t ∷ []
-leadsBy child (branch n e p q) = leadsBy child p ++ leadsBy child q
 
 -- what is known where the states that command n leads to are found; the recursion has the place of a design instead of the design
 pub record Finding (image : List ℕ) (place n child : ℕ) (marks : List ℕ) : Type 0 where

@@ -3,7 +3,6 @@ use Prim.Native.Nat.{ℕ}
 use mathlib.Core.Bool.{cond}
 use mathlib.Core.List.{List, [], _∷_}
 use lib.ListN.{set}
-use Rattle.model.specs.Image.{Design, stateAt}
 use Rattle.pruning_steps.specs.Marks.{isMarked}
 
 -- a table with every number of a list marked
@@ -14,7 +13,3 @@ markAll marks (k ∷ ks) = markAll (set marks k 1) ks
 -- what n gives, where it is marked
 abbrev pub givenBy : List ℕ → (ℕ → List ℕ) → ℕ → List ℕ
 givenBy marks gives n = cond (isMarked marks n) (gives n) []
-
--- the command of state s
-abbrev pub commandOf : Design → ℕ → List ℕ
-commandOf d s = stateAt d s .command ∷ []

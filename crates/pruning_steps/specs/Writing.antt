@@ -1,25 +1,10 @@
--- What writing leaves: a state with another parent and another command; and of one step, the record at its place, where it stays, and the place behind it.
+-- What one step of writing leaves: the record at its place, where it stays, and the place behind it.
 use Prim.Native.Nat.{ℕ, _+_, _*_}
 use mathlib.Core.Path.{_≡_}
 use mathlib.Core.Bool.{Bool, cond}
 use mathlib.Core.List.{List, []}
-use Rattle.model.specs.Image.{State}
 use Rattle.model.specs.Values.{oneOrZero}
 use Rattle.encoding.specs.Parts.{overwrittenAt}
-
--- a state with another parent and another command
-abbrev pub withParts : ℕ → ℕ → State → State
-withParts parent command x =
-    record {
-      parent = parent;
-      label = x .label;
-      command = command;
-      parameters = x .parameters;
-      firstLower = x .firstLower;
-      firstUpper = x .firstUpper;
-      secondLower = x .secondLower;
-      secondUpper = x .secondUpper;
-    }
 
 -- the place behind a record of some width, where it stays
 abbrev pub behind : ℕ → Bool → ℕ → ℕ

@@ -9,10 +9,11 @@ ghost use Rattle.model.specs.Indices.{lowest};
 ghost use Rattle.model.specs.Limits.{statesMax};
 ghost use Rattle.model.specs.Image.{designOf};
 ghost use Rattle.model.specs.Trees.{cmdOf};
+ghost use Rattle.design.specs.Kept.{Structured};
 ghost use Rattle.design.specs.Resets.{Defaults};
-ghost use Rattle.pruning_model.specs.Reached.{successors, reached};
-ghost use Rattle.pruning_steps.specs.Marks.{Pruning, Marked};
-ghost use Rattle.pruning_steps.specs.Reaching.{found, foundAll, waits, leadsBy, Finding};
+ghost use Rattle.pruning_model.specs.Reached.{leadsTo, successors, reached};
+ghost use Rattle.pruning_steps.specs.Marks.{Marked};
+ghost use Rattle.pruning_steps.specs.Reaching.{found, foundAll, waits, Finding};
 
 // A state that was gone through, and one that waits; 0 is one that was not found.
 const DONE: u8 = 1;
@@ -33,7 +34,7 @@ fn find(marks: &mut [u8], t: usize)
 // over parts.
 fn find_successors(image: &[u8], commands: usize, n: usize, child: usize, marks: &mut [u8])
     requires { ⌜ Finding (now image) commands n child (now marks) ⌝ }
-    ensures { λ _. ⌜ now (marks .exit) ≡ foundAll (now (marks .entry)) (leadsBy child (cmdOf (designOf (now (image .entry))) n)) ⌝ }
+    ensures { λ _. ⌜ now (marks .exit) ≡ foundAll (now (marks .entry)) (leadsTo child (cmdOf (designOf (now (image .entry))) n)) ⌝ }
 {
     let kind = Design::kind(image, commands, n);
     let a = Design::part_a(image, commands, n);
@@ -74,7 +75,7 @@ fn waiting(marks: &[u8], states: usize) -> Found
 
 // State s is gone through.
 fn go_through(image: &[u8], design: Design, defaults: &[u8], s: usize, marks: &mut [u8])
-    requires { ⌜ Pruning (now image) design × Defaults (designOf (now image)) (now defaults) × (s < design .states) × (design .states ≤ length (now marks)) ⌝ }
+    requires { ⌜ Structured (now image) design × Defaults (designOf (now image)) (now defaults) × (s < design .states) × (design .states ≤ length (now marks)) ⌝ }
     ensures { λ _. ⌜ now (marks .exit) ≡ foundAll (set (now (marks .entry)) s 1) (successors (designOf (now (image .entry))) s) ⌝ }
 {
     marks[s] = DONE;
@@ -85,7 +86,7 @@ fn go_through(image: &[u8], design: Design, defaults: &[u8], s: usize, marks: &m
 
 // The states that are reached are marked.
 pub fn reached_states(image: &[u8], design: Design, marks: &mut [u8])
-    requires { ⌜ Pruning (now image) design × (now marks ≡ replicate statesMax 0) ⌝ }
+    requires { ⌜ Structured (now image) design × (now marks ≡ replicate statesMax 0) ⌝ }
     ensures { λ _. ⌜ Marked (reached (designOf (now (image .entry)))) (design .states) (now (marks .exit)) ⌝ }
 {
     let mut defaults = [0u8; Design::STATES];

@@ -8,13 +8,13 @@ ghost use lib.ListN.{length, replicate};
 ghost use Rattle.model.specs.Limits.{commandsMax, expressionsMax};
 ghost use Rattle.model.specs.Indices.{joinBelow};
 ghost use Rattle.model.specs.Image.{designOf};
-ghost use Rattle.design.specs.Kept.{RecordsKept};
+ghost use Rattle.model.specs.Nodes.{commandOf, partsOf, valuesOf, operandsOf};
+ghost use Rattle.design.specs.Kept.{RecordsKept, Structured};
 ghost use Rattle.design.specs.RecordsAt.{CommandAt, ExpressionAt};
-ghost use Rattle.renumbering.specs.Renumbers.{partsOf, valuesOf, operandsOf};
 ghost use Rattle.pruning_model.specs.Reached.{reached as reachedIn};
 ghost use Rattle.pruning_model.specs.Pruned.{commandStays, expressionStays};
-ghost use Rattle.pruning_steps.specs.Marks.{Pruning, Marked};
-ghost use Rattle.pruning_steps.specs.Staying.{markAll, givenBy, commandOf};
+ghost use Rattle.pruning_steps.specs.Marks.{Marked};
+ghost use Rattle.pruning_steps.specs.Staying.{markAll, givenBy};
 
 // Two nodes stay.
 fn mark_both(marks: &mut [u8], a: usize, b: usize)
@@ -76,7 +76,7 @@ fn mark_parts(image: &[u8], design: Design, n: usize, marks: &mut [u8])
 
 // The commands that stay are marked.
 pub fn staying_commands(image: &[u8], design: Design, reached: &[u8], marks: &mut [u8])
-    requires { ⌜ Pruning (now image) design × Marked (reachedIn (designOf (now image))) (design .states) (now reached) × (now marks ≡ replicate commandsMax 0) ⌝ }
+    requires { ⌜ Structured (now image) design × Marked (reachedIn (designOf (now image))) (design .states) (now reached) × (now marks ≡ replicate commandsMax 0) ⌝ }
     ensures { λ _. ⌜ Marked (commandStays (designOf (now (image .entry)))) (design .commands) (now (marks .exit)) ⌝ }
 {
     mark_bodies(image, design, reached, marks);
@@ -140,7 +140,7 @@ fn mark_operands(image: &[u8], design: Design, n: usize, marks: &mut [u8])
 
 // The expressions that stay are marked.
 pub fn staying_expressions(image: &[u8], design: Design, commands: &[u8], marks: &mut [u8])
-    requires { ⌜ Pruning (now image) design × Marked (commandStays (designOf (now image))) (design .commands) (now commands) × (now marks ≡ replicate expressionsMax 0) ⌝ }
+    requires { ⌜ Structured (now image) design × Marked (commandStays (designOf (now image))) (design .commands) (now commands) × (now marks ≡ replicate expressionsMax 0) ⌝ }
     ensures { λ _. ⌜ Marked (expressionStays (designOf (now (image .entry)))) (design .expressions) (now (marks .exit)) ⌝ }
 {
     mark_values(image, design, commands, marks);

@@ -1,38 +1,26 @@
 // Records that stay, written under new numbers.
 use design::Design;
+use encoding::tables::new_number;
 use encoding::writers::put_node;
 use encoding::writers::put_state;
 ghost use Prim.Native.Nat.{_+_, _*_, _≤_, _<_};
 ghost use mathlib.Core.Path.{_≡_};
 ghost use mathlib.Core.Bool.{_&&_};
 ghost use lib.Dec.{leb};
-ghost use lib.ListN.{length, getD};
+ghost use lib.ListN.{length};
 ghost use Rattle.model.specs.Limits.{stateLength, nodeLength};
 ghost use Rattle.model.specs.Image.{designOf, stateAt, commandAt, expressionAt};
+ghost use Rattle.design.specs.Kept.{Structured};
 ghost use Rattle.design.specs.Records.{stateIn, stateEnd, nodeIn, nodeEnd};
 ghost use Rattle.design.specs.RecordsAt.{CommandAt, ExpressionAt};
 ghost use Rattle.encoding.specs.Encoding.{stateBytes, nodeBytes, recordsBytes};
 ghost use Rattle.encoding.specs.Parts.{overwrittenAt};
+ghost use Rattle.renumbering.specs.Renumbering.{withParts};
 ghost use Rattle.pruning_model.specs.Reached.{reached as reachedIn};
 ghost use Rattle.pruning_model.specs.Pruned.{closedUp, commandStays, expressionStays, pruned};
 ghost use Rattle.pruning_model.specs.Pruned.{stateWritten, commandWritten, expressionWritten};
-ghost use Rattle.pruning_steps.specs.Marks.{Pruning, Marked, isMarked, Numbered};
-ghost use Rattle.pruning_steps.specs.Writing.{withParts, behind, Stepped};
-
-// A number of 16 bits as an index.
-fn wide(n: u16) -> usize
-    ensures { λ r. ⌜ r ≡ n ⌝ }
-{
-    n as usize
-}
-
-// The new number of k.
-fn new_number(numbers: &[u16], k: usize) -> usize
-    requires { ⌜ k < length (now numbers) ⌝ }
-    ensures { λ r. ⌜ r ≡ getD (now (numbers .entry)) k 0 ⌝ }
-{
-    wide(numbers[k])
-}
+ghost use Rattle.pruning_steps.specs.Marks.{Marked, isMarked, Numbered};
+ghost use Rattle.pruning_steps.specs.Writing.{behind, Stepped};
 
 // The kind of node n, as a number to be written.
 fn node_kind(image: &[u8], at: usize, n: usize) -> usize
@@ -92,7 +80,7 @@ fn write_state(
     at: usize,
     out: &mut [u8],
 )
-    requires { ⌜ Pruning (now image) design
+    requires { ⌜ Structured (now image) design
         × Numbered (reachedIn (designOf (now image))) (design .states) (now numbers)
         × Numbered (commandStays (designOf (now image))) (design .commands) (now «command_numbers»)
         × (s < design .states)
@@ -118,7 +106,7 @@ fn step_state(
     place: usize,
     out: &mut [u8],
 ) -> usize
-    requires { ⌜ Pruning (now image) design
+    requires { ⌜ Structured (now image) design
         × Numbered (reachedIn (designOf (now image))) (design .states) (now numbers)
         × Numbered (commandStays (designOf (now image))) (design .commands) (now «command_numbers»)
         × (s < design .states)
@@ -143,7 +131,7 @@ pub fn write_states(
     at: usize,
     out: &mut [u8],
 )
-    requires { ⌜ Pruning (now image) design
+    requires { ⌜ Structured (now image) design
         × Marked (reachedIn (designOf (now image))) (design .states) (now reached)
         × Numbered (reachedIn (designOf (now image))) (design .states) (now numbers)
         × Numbered (commandStays (designOf (now image))) (design .commands) (now «command_numbers»)
@@ -262,7 +250,7 @@ pub fn write_commands(
     at: usize,
     out: &mut [u8],
 )
-    requires { ⌜ Pruning (now image) design
+    requires { ⌜ Structured (now image) design
         × Marked (commandStays (designOf (now image))) (design .commands) (now commands)
         × Numbered (reachedIn (designOf (now image))) (design .states) (now «state_numbers»)
         × Numbered (commandStays (designOf (now image))) (design .commands) (now numbers)
@@ -349,7 +337,7 @@ pub fn write_expressions(
     at: usize,
     out: &mut [u8],
 )
-    requires { ⌜ Pruning (now image) design
+    requires { ⌜ Structured (now image) design
         × Marked (expressionStays (designOf (now image))) (design .expressions) (now expressions)
         × Numbered (expressionStays (designOf (now image))) (design .expressions) (now numbers)
         × (at + nodeLength * closedUp (expressionStays (designOf (now image))) (design .expressions) ≤ length (now out)) ⌝ }

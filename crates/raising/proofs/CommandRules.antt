@@ -23,8 +23,7 @@ use Rattle.model.proofs.Laws.Trees.{cmd-skip, cmd-sequence, cmd-fall, cmd-goto,
 use Rattle.design.specs.declared.Design.{Design}
 use Rattle.design.specs.Records.{nodeIn, rowIn, rowEnd, stateIn}
 use Rattle.design.specs.RecordsAt.{CommandAt}
-use Rattle.design.proofs.Laws.{labels-count, labels-most, registers-count, states-count, row-inside, row-in, state-in}
-use Rattle.design.proofs.LabelRules.{registers-few}
+use Rattle.design.proofs.Laws.{labels-count, labels-most, registers-count, states-count, row-inside, row-in, state-in, registers-most}
 use Rattle.design.proofs.FieldRules.{body-is, body-below, command-kind-is, command-kind-of, a-is, b-is, c-is, command-holds, condition, sequence-a-below, sequence-b-below, branch-b-below, branch-c-below}
 use Rattle.checker_flow.specs.Masks.{Rows}
 use Rattle.checker_flow.specs.Flows.{ReadsMask, Gathering}
@@ -254,14 +253,14 @@ raising-times so here = record { known = here .known; structured = here .structu
 -- they can be counted
 pub most-fits : {image labels : List ℕ} {x : Design} → Raising image x labels → Fits w64 (x .registers * x .labels)
 most-fits {x = x} here =
-    let registers = registers-few (here .known .describes) in
+    let registers = registers-most (here .known .describes) in
     let labels = labels-most (here .known .describes) in
     let product = mul-le-mul-right (x .labels) registers in
     record { fits = omega arith }
 
 pub most-few : {image labels : List ℕ} {x : Design} {n : ℕ} → n ≡ x .registers * x .labels → Raising image x labels → n ≤ 1024
 most-few {x = x} e here =
-    let registers = registers-few (here .known .describes) in
+    let registers = registers-most (here .known .describes) in
     let labels = labels-most (here .known .describes) in
     let product = mul-le-mul-right (x .labels) registers in
     omega arith

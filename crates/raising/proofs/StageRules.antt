@@ -20,7 +20,7 @@ use Rattle.model.specs.Labelling.{labelsOf, relabelled}
 use Rattle.model.specs.Flow.{flowAnswer}
 use Rattle.model.specs.Rules.{DirectoryKeeps, StructureKeeps}
 use Rattle.model.specs.Verdict.{_before_, refusedAt, structure, verdict}
-use Rattle.model.specs.Raising.{LeftOut, putLabels, raisedTimes, raisedLabels, raisedImage, raiseAnswer, raise}
+use Rattle.model.specs.Raising.{LeftOut, leftOutAs, putLabels, raisedTimes, raisedLabels, raisedImage, raiseAnswer, raise}
 use Rattle.model.proofs.Exact.{structure-exact}
 use Rattle.model.proofs.Laws.Relabelling.{length-labels, label-at}
 use Rattle.model.proofs.Raising.Images.{raised-verdict}
@@ -31,7 +31,7 @@ use Rattle.design.specs.Scopes.{NoParameters}
 use Rattle.design.proofs.Laws.{registers-count}
 use Rattle.checker.proofs.Accepted.{structure-known}
 use Rattle.raising.specs.Passes.{Labelling, Raising}
-use Rattle.raising.specs.Stages.{leftOutAs, raiseWithin, raisePlain, raiseOn}
+use Rattle.raising.specs.Stages.{raiseWithin, raisePlain, raiseOn}
 
 -- ---- once the structure is accepted
 pub structured-directory : (image : List ℕ) → structure image ≡ Accepted 0 → DirectoryKeeps image

@@ -1,18 +1,14 @@
--- What raising leaves, as its answer and the bytes of the second area; and the call of `Rattle.model.specs.Raising` from the point where the structure is accepted on.
+-- The call of `Rattle.model.specs.Raising` from the point where the structure is accepted on.
 use Prim.Native.Nat.{ℕ}
 use mathlib.Core.Bool.{not}
 use mathlib.Core.List.{List}
 use lib.Dec.{eqb}
 use lib.ListN.{length}
 use Rattle.model.specs.declared.Refusal.the-variants.{Area, NoRaising, RaiseParameters}
-use Rattle.model.specs.declared.Answer.{Answer}
 use Rattle.model.specs.Image.{designOf}
 use Rattle.model.specs.Parameters.{hasParameters}
 use Rattle.model.specs.Verdict.{_before_, refusedAt, atZeroUnless, verdict}
 use Rattle.model.specs.Raising.{LeftOut, leavesOut, accepts, raisedImage}
-
-abbrev pub leftOutAs : Answer → List ℕ → LeftOut
-leftOutAs answer out = record { answer = answer; out = out }
 
 -- once the area is as long as the image
 unfoldable pub raiseWithin : List ℕ → List ℕ → LeftOut

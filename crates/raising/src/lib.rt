@@ -20,11 +20,11 @@ ghost use Rattle.model.specs.declared.Answer.the-variants.{Accepted};
 ghost use Rattle.model.specs.Image.{designOf};
 ghost use Rattle.model.specs.Labelling.{labelsOf};
 ghost use Rattle.model.specs.Verdict.{structure as structureOf};
-ghost use Rattle.model.specs.Raising.{raise as raiseOf};
+ghost use Rattle.model.specs.Raising.{leftOutAs, raise as raiseOf};
 ghost use Rattle.design.specs.Describes.{Describes};
 ghost use Rattle.design.specs.Scopes.{NoParameters};
 ghost use Rattle.raising.specs.Passes.{Raising};
-ghost use Rattle.raising.specs.Stages.{leftOutAs, raiseWithin, raisePlain, raiseOn};
+ghost use Rattle.raising.specs.Stages.{raiseWithin, raisePlain, raiseOn};
 
 // Raising with a table of the registers' own labels, into an area as long as the image. No state has a
 // parameter, so the table of what is in scope has only zeros.

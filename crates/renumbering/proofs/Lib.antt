@@ -1,4 +1,7 @@
 -- What holds of designs under new numbers.
+pub mod Parts
+pub mod InTrees
+pub mod Kept
 pub mod Trees
 pub mod Unnumbered
 pub mod States
@@ -8,4 +11,5 @@ pub mod Bodies
 pub mod Uses
 pub mod Nodes
 pub mod Keeps
+pub mod Fitting
 pub mod Running

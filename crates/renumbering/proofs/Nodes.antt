@@ -9,10 +9,10 @@ use Rattle.model.specs.Indices.{occurrences}
 use Rattle.model.specs.Image.{Design, State, Register, Node, noRegister, stateAt, commandAt, expressionAt, registerAt}
 use Rattle.model.specs.Kinds.{CommandKind, skips, assigns, sequences, falls, goes, branches, unknownCommand, ExpressionKind, constants, reads, unknownExpression, operates, commandKind, expressionKind}
 use Rattle.model.specs.Trees.{cmdOf, exprOf, cmdDepth, exprDepth}
-use Rattle.model.specs.Nodes.{commandParts, expressionsOf, expressionParts, commandUses, expressionUses}
+use Rattle.model.specs.Nodes.{commandParts, expressionsOf, expressionParts, partsOf, valuesOf, operandsOf, commandUses, expressionUses}
 use Rattle.model.specs.Rules.{RegisterByte, CommandHolds, ExpressionHolds, CommandKeeps, ExpressionKeeps, CommandUsedOnce, ExpressionUsedOnce, CommandDepthKeeps, ExpressionDepthKeeps, NamesNoPort, DesignKeeps}
 use Rattle.renumbering.specs.Renumbering.{renumberedState, renumberedCommand, renumberedExpression}
-use Rattle.renumbering.specs.Renumbers.{partsOf, valuesOf, operandsOf, Renumbers}
+use Rattle.renumbering.specs.Renumbers.{Renumbers}
 use Rattle.renumbering.proofs.Trees.{same-command-kind, same-expression-kind, command-of-kind, command-held, expression-held, expr-renumbered, cmd-renumbered}
 use Rattle.renumbering.proofs.Unnumbered.{same-expr-depth, same-cmd-depth}
 use Rattle.renumbering.proofs.States.{same-count}

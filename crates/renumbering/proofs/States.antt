@@ -1,5 +1,5 @@
--- The tree of the states that stay is the old one: their numbers keep their order and their parents stay, and where one is below a state that holds a fall the default child
--- of that state stays too, so it is the lowest child as before.
+-- The tree of the states that stay is the old one: their numbers keep their order and their parents stay, and with a state that stays the lowest child of its parent does, so it is
+-- the lowest child as before.
 use Prim.Native.Nat.{ℕ, _≤_, _<_}
 use mathlib.Core.Path.{_≡_, refl, sym, _∙_, ap}
 use mathlib.Core.Logic.{_↔_, _≢_}
@@ -95,10 +95,6 @@ module _ {d d′ : Design} {state command expression : ℕ → ℕ} {S C E : ℕ
   default-kept : (s : ℕ) → S s → HoldsFall (bodyOf d s) → hasChild d s ≡ true → S (defaultTarget d s)
   default-kept s stays holds h = new .default-stays s (defaultTarget d s) stays holds (default-of s h)
 
-  -- and so does that of the parent of a state that stays
-  default-beside : (s q : ℕ) → S s → s ≢ 0 → DefaultChild d (parent d s) q → S q
-  default-beside s q stays no-root child = new .default-stays (parent d s) q (new .parent-stays s stays) (new .parent-falls s stays no-root) child
-
   pub child-kept : (s : ℕ) → S s → HoldsFall (bodyOf d s) → hasChild d s ≡ true → hasChild d′ (state s) ≡ true
   child-kept s stays holds h =
       has-child d′ (state s) (state (defaultTarget d s)) (child-renumbered s (defaultTarget d s) stays (default-kept s stays holds h) .1 (default-child d s h))
@@ -123,7 +119,7 @@ module _ {d d′ : Design} {state command expression : ℕ → ℕ} {S C E : ℕ
       let no-root : s ≢ 0 = λ e. is .no-root (root-goes s e) in
       let own : ChildOf d (parent d s) s = record { no-root = no-root; state = new .states-old s stays; parent-is = refl } in
       let has = has-child d (parent d s) s own in
-      let kept = default-beside s (defaultTarget d (parent d s)) stays no-root (default-of (parent d s) has) in
+      let kept = new .default-beside s (defaultTarget d (parent d s)) stays no-root (default-of (parent d s) has) in
       let new-child = same-child (parent d s) (defaultTarget d (parent d s)) above kept ∙ is-child d (parent d s) (defaultTarget d (parent d s)) (default-child d (parent d s) has) in
       let least = child .lowest (state (defaultTarget d (parent d s))) (rw (sym (is .parent-is) ∙ parent-renumbered s stays) new-child) in
       let down = state-down s (defaultTarget d (parent d s)) stays kept least in

@@ -6,11 +6,11 @@ use native.Mathlib.Omega.{arith}
 use Rattle.model.specs.Image.{Design, State, Node, stateAt, commandAt, expressionAt, constantOf}
 use Rattle.model.specs.Kinds.{CommandKind, skips, assigns, sequences, falls, goes, branches, unknownCommand, ExpressionKind, constants, reads, unknownExpression, operates, commandKind, expressionKind}
 use Rattle.model.specs.Trees.{constant, register, binary, assign, sequence, goto, exprOf, cmdOf, bodyOf}
-use Rattle.model.specs.Nodes.{commandParts, expressionsOf, expressionParts}
+use Rattle.model.specs.Nodes.{commandParts, expressionsOf, expressionParts, partsOf, valuesOf, operandsOf}
 use Rattle.model.specs.Rules.{CommandHolds, ExpressionHolds, DesignKeeps}
 use Rattle.model.proofs.Laws.Trees.{expr-constant, expr-register, expr-binary, cmd-skip, cmd-assign, cmd-sequence, cmd-fall, cmd-goto, cmd-branch}
 use Rattle.renumbering.specs.Renumbering.{renumberedState, renumberedCommand, renumberedExpression, renumberedExpr, renumberedCmd}
-use Rattle.renumbering.specs.Renumbers.{partsOf, valuesOf, operandsOf, Renumbers}
+use Rattle.renumbering.specs.Renumbers.{Renumbers}
 
 -- ---- a record under new numbers has its old kind
 module _ (state command expression : ℕ → ℕ) where

@@ -35,6 +35,21 @@ occurs {x} (List·Memᴰ·tail {x = y} {xs = ys} h) = go (eqb y x) (occurs h)
     go true l = omega arith
     go false l = l
 
+-- and one that is counted
+pub occurs-in : (n : ℕ) (xs : List ℕ) → 0 < occurrences n xs → List·Memᴰ n xs
+unfolding occurrences
+occurs-in n [] l = absurd (omega arith)
+occurs-in n (x ∷ xs) l = go (eqb x n) refl (occurs-in n xs) l
+  where
+    go :
+        (b : Bool)
+        → eqb x n ≡ b
+        → (0 < occurrences n xs → List·Memᴰ n xs)
+        → 0 < elim b [ true ↦ suc (occurrences n xs) | false ↦ occurrences n xs ]
+        → List·Memᴰ n (x ∷ xs)
+    go true e later k = List·Memᴰ·head (sym (eqb-true x n e))
+    go false e later k = List·Memᴰ·tail (later k)
+
 -- a list under new numbers that keep x apart from the others in it
 pub occurrences-map : (number : ℕ → ℕ) (x : ℕ) (ys : List ℕ) → ((y : ℕ) → List·Memᴰ y ys → number y ≡ number x → y ≡ x) → occurrences (number x) (map number ys) ≡ occurrences x ys
 unfolding occurrences

@@ -5,19 +5,23 @@ use Rattle.model.specs.Image.{State, Node}
 use Rattle.model.specs.Kinds.{CommandKind, skips, assigns, sequences, falls, goes, branches, unknownCommand, ExpressionKind, constants, reads, unknownExpression, operates}
 use Rattle.model.specs.Trees.{Expr, constant, register, binary, Cmd, skip, assign, sequence, fall, goto, branch}
 
+-- a state with another parent and another command
+abbrev pub withParts : ℕ → ℕ → State → State
+withParts parent command x =
+    record {
+      parent = parent;
+      label = x .label;
+      command = command;
+      parameters = x .parameters;
+      firstLower = x .firstLower;
+      firstUpper = x .firstUpper;
+      secondLower = x .secondLower;
+      secondUpper = x .secondUpper;
+    }
+
 module _ (state command expression : ℕ → ℕ) where
   unfoldable pub renumberedState : State → State
-  renumberedState x =
-      record {
-        parent = state (x .parent);
-        label = x .label;
-        command = command (x .command);
-        parameters = x .parameters;
-        firstLower = x .firstLower;
-        firstUpper = x .firstUpper;
-        secondLower = x .secondLower;
-        secondUpper = x .secondUpper;
-      }
+  renumberedState x = withParts (state (x .parent)) (command (x .command)) x
 
   unfoldable pub renumberedCommand : CommandKind → Node → Node
   renumberedCommand skips x = x

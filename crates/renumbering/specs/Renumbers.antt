@@ -3,25 +3,15 @@
 use Prim.Native.Nat.{ℕ, _≤_, _<_}
 use mathlib.Core.Path.{_≡_}
 use mathlib.Core.Logic.{_⊎_}
-use mathlib.Core.List.{List, List·Memᴰ}
+use mathlib.Core.List.{List·Memᴰ}
 use lib.ListN.{length}
 use Rattle.model.specs.Image.{Design, stateAt, commandAt, expressionAt}
 use Rattle.model.specs.Kinds.{goes, commandKind, expressionKind}
 use Rattle.model.specs.States.{parent}
 use Rattle.model.specs.Trees.{bodyOf}
-use Rattle.model.specs.Nodes.{commandParts, expressionsOf, expressionParts}
+use Rattle.model.specs.Nodes.{partsOf, valuesOf, operandsOf}
 use Rattle.model.specs.Rules.{HoldsFall, DefaultChild}
 use Rattle.renumbering.specs.Renumbering.{renumberedState, renumberedCommand, renumberedExpression}
-
--- the parts of command n of its own family and of the other, and those of expression n
-abbrev pub partsOf : Design → ℕ → List ℕ
-partsOf d n = commandParts (commandKind (commandAt d n .kind)) (commandAt d n)
-
-abbrev pub valuesOf : Design → ℕ → List ℕ
-valuesOf d n = expressionsOf (commandKind (commandAt d n .kind)) (commandAt d n)
-
-abbrev pub operandsOf : Design → ℕ → List ℕ
-operandsOf d n = expressionParts (expressionKind (expressionAt d n .kind)) (expressionAt d n)
 
 -- Design d′ is d under the new numbers `state`, `command` and `expression`, with the states, commands and expressions that stay.
 pub record Renumbers (d d′ : Design) (state command expression : ℕ → ℕ) (StateStays CommandStays ExpressionStays : ℕ → Type 0) : Type 0 where
@@ -37,8 +27,8 @@ pub record Renumbers (d d′ : Design) (state command expression : ℕ → ℕ) 
   pub root-stays : StateStays 0
   pub root-first : state 0 ≡ 0
   pub parent-stays : (s : ℕ) → StateStays s → StateStays (parent d s)
-  -- a state that stays, and is not the root, is below one that holds a fall, whose default child stays with it
-  pub parent-falls : (s : ℕ) → StateStays s → (s ≡ 0 → ⊥) → HoldsFall (bodyOf d (parent d s))
+  -- a default child stays with a sibling that stays, and with its parent where that holds a fall
+  pub default-beside : (s q : ℕ) → StateStays s → (s ≡ 0 → ⊥) → DefaultChild d (parent d s) q → StateStays q
   pub default-stays : (s q : ℕ) → StateStays s → HoldsFall (bodyOf d s) → DefaultChild d s q → StateStays q
   pub body-stays : (s : ℕ) → StateStays s → CommandStays (stateAt d s .command)
   -- commands, likewise but for their order: a part has a lower number than its owner

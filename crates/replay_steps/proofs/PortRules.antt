@@ -26,8 +26,8 @@ use Rattle.model.proofs.Laws.Equivalences.{less-iff, at-most-iff, same-tests}
 use Rattle.model.proofs.Laws.Verdict.{CountsNothing, refused-is-not-accepted}
 use Rattle.design.specs.declared.Design.{Design}
 use Rattle.design.specs.Kept.{RecordsKept}
-use Rattle.design.proofs.Laws.{registers-count}
-use Rattle.calls.proofs.CallRules.{registers-few, port-there}
+use Rattle.design.proofs.Laws.{registers-count, registers-most}
+use Rattle.calls.proofs.CallRules.{port-there}
 use Rattle.replay_model.specs.declared.TraceRecord.{TraceRecord}
 use Rattle.replay_model.specs.Traces.{recordAt}
 use Rattle.replay_model.specs.Calls.{registerKept, valueKept, recordAnswer}
@@ -43,7 +43,7 @@ pub record Ports (d : Table) (table : List ℕ) : Type 0 where
 pub ports-known : {image : List ℕ} {x : Design} {table : List ℕ} → RecordsKept image x → Largest (designOf image) (length (designOf image .registers)) table → Ports (designOf image) table
 ports-known {image} known entries =
     let count = registers-count (known .describes) in
-    let few = registers-few (known .describes) in
+    let few = registers-most (known .describes) in
     record { few = omega arith; wide = λ r l. register-iff (designOf image) r .0 (known .registers .kept r l) .width-least; entries = entries }
 
 module _ {d : Table} {table : List ℕ} (ports : Ports d table) (r : ℕ) where

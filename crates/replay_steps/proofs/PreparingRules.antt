@@ -27,12 +27,12 @@ use Rattle.design.specs.Records.{registerIn}
 use Rattle.design.specs.Describes.{Describes}
 use Rattle.design.specs.Kept.{RecordsKept}
 use Rattle.design.specs.Resets.{lends}
-use Rattle.design.proofs.Laws.{registers-count}
+use Rattle.design.proofs.Laws.{registers-count, registers-most}
 use Rattle.design.proofs.ShiftRules.{shifted-ones}
 use Rattle.design.proofs.WidthRules.{width-is}
 use Rattle.machine.specs.Cycles.{Running}
 use Rattle.calls.specs.Stages.{soundOn}
-use Rattle.calls.proofs.CallRules.{registers-few, port-rule, sound-before}
+use Rattle.calls.proofs.CallRules.{port-rule, sound-before}
 use Rattle.replay_steps.specs.declared.preparing.Prepared.{Prepared}
 use Rattle.replay_steps.specs.Preparing.{largestOf, Largest, refusedWith, Preparing, PreparingOn}
 
@@ -75,7 +75,7 @@ module _ {d : Table} where
 
 module _ {image : List ℕ} {x : Design} {i : ℕ} {table : List ℕ} (describes : Describes image x) (l : i < x .registers) (so : Largest (designOf image) i table) where
   pub largest-inside : i < length table
-  largest-inside = let few = registers-few describes in let long = so .long in omega arith
+  largest-inside = let few = registers-most describes in let long = so .long in omega arith
 
   pub largest-next : {v : ℕ} → v ≡ largestOf (designOf image) i → Largest (designOf image) (i + 1) (set table i v)
   largest-next {v} is = record { long = length-set table i v ∙ so .long; entry = λ r b. go r b (ℕ-discrete r i) (decLt r i) }

@@ -3,9 +3,9 @@ use Prim.Native.Nat.{ℕ, zero, suc, _<_}
 use mathlib.Core.Path.{_≡_, refl}
 use mathlib.Core.Logic.{⊎-elim}
 use mathlib.Core.Bool.{Bool, true, false, true≢false}
-use mathlib.Core.List.{List, List·Memᴰ, List·Memᴰ·head, List·Memᴰ·not-nil, List·Memᴰ·eq-of-singleton, List·Memᴰ·append-cases, Memᴰ·append-left, Memᴰ·append-right}
+use mathlib.Core.List.{List, [], _∷_, List·Memᴰ, List·Memᴰ·head, List·Memᴰ·tail, List·Memᴰ·not-nil, List·Memᴰ·eq-of-singleton, List·Memᴰ·append-cases, Memᴰ·append-left, Memᴰ·append-right}
 use native.Mathlib.Omega.{arith}
-use Rattle.model.specs.Indices.{joinBelow}
+use Rattle.model.specs.Indices.{joinBelow, joinEach}
 use Rattle.model.specs.Shape.{chargedUnless}
 use Rattle.model.proofs.Laws.Indices.{nothing-below-zero, below-suc}
 
@@ -27,6 +27,20 @@ module _ {A : Type 0} (f : ℕ → List A) where
       (λ (b : List·Memᴰ x (joinBelow f n)). let found = join-cases x n b in let l = found .1 in (found .0, omega arith, found .2))
       (λ (e : List·Memᴰ x (f n)). (n, omega arith, e))
       (List·Memᴰ·append-cases (joinBelow f n) h)
+
+  pub among-each : {x : A} {k : ℕ} {xs : List ℕ} → List·Memᴰ k xs → List·Memᴰ x (f k) → List·Memᴰ x (joinEach f xs)
+  unfolding joinEach
+  among-each {xs = y ∷ ys} (List·Memᴰ·head e) h = Memᴰ·append-left (joinEach f ys) (rw e at h)
+  among-each {xs = y ∷ ys} (List·Memᴰ·tail m) h = Memᴰ·append-right (f y) (among-each m h)
+
+  pub each-cases : (x : A) (xs : List ℕ) → List·Memᴰ x (joinEach f xs) → (k : ℕ) × List·Memᴰ k xs × List·Memᴰ x (f k)
+  unfolding joinEach
+  each-cases x [] h = absurd (List·Memᴰ·not-nil h)
+  each-cases x (y ∷ ys) h =
+      ⊎-elim
+      (λ (k : List·Memᴰ x (f y)). (y, List·Memᴰ·head refl, k))
+      (λ (k : List·Memᴰ x (joinEach f ys)). let found = each-cases x ys k in (found .0, List·Memᴰ·tail (found .1), found .2))
+      (List·Memᴰ·append-cases (f y) h)
 
 -- a node that is charged
 pub charged-among : (b : Bool) (n : ℕ) → b ≡ false → List·Memᴰ n (chargedUnless b n)

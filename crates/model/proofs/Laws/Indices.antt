@@ -230,3 +230,10 @@ module _ {A : Type 0} (none : A) (step : ℕ → (ℕ → A) → A) where
       up-to-all : (f m : ℕ) → P (upTo none step f m)
       up-to-all zero m = base
       up-to-all (suc f) m = steps m _ (λ k. chosen (ltb k m) (upTo none step f k) (up-to-all f k))
+
+-- ---- lists written anew, entry by entry
+module _ {A B : Type 0} (f : A → B) where
+  pub getD-written : (xs : List A) (k : ℕ) (x : A) (y : B) → k < length xs → getD (map f xs) k y ≡ f (getD xs k x)
+  getD-written [] k x y l = absurd (nothing-below-zero l)
+  getD-written (z ∷ zs) zero x y l = refl
+  getD-written (z ∷ zs) (suc k) x y l = getD-written zs k x y (omega arith)

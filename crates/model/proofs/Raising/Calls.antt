@@ -17,7 +17,7 @@ use Rattle.model.specs.declared.Answer.the-variants.{Accepted, Refused}
 use Rattle.model.specs.Answers.{numbersOf}
 use Rattle.model.specs.Image.{designOf}
 use Rattle.model.specs.Parameters.{hasParameters}
-use Rattle.model.specs.Raising.{LeastRaising, accepts, raisedImage, LeftOut, leavesOut, raiseAnswer, raise}
+use Rattle.model.specs.Raising.{LeastRaising, accepts, raisedImage, LeftOut, raiseAnswer, raise}
 use Rattle.model.specs.Refusals.{raiseTable, AnswersBy}
 use Rattle.model.specs.Verdict.{_before_, refusedAt, atZeroUnless, structure, verdict}
 use Rattle.model.proofs.Laws.Equivalences.{equal-iff}
@@ -25,20 +25,12 @@ use Rattle.model.proofs.Laws.Plain.{Plain, plain-iff}
 use Rattle.model.proofs.Laws.Found.{zero-unless-iff}
 use Rattle.model.proofs.Laws.Verdict.{first-accepts, later-accepts, found-nothing}
 use Rattle.model.proofs.Laws.Numbers.{no-number-zero, told-refused}
+use Rattle.model.proofs.Laws.LeftOut.{left-answer, left-out}
 use Rattle.model.proofs.Laws.Broken.{Decides, decides-one, decides-before}
 use Rattle.model.proofs.Laws.Finds.{finds-zero}
 use Rattle.model.proofs.Exact.{structure-exact, structure-counts-nothing, verdict-exact}
 use Rattle.model.proofs.Refused.{structure-decides, answers-by}
 use Rattle.model.proofs.Raising.Theorem.{accepts-exact, least, exists-exactly, comes-back, raises-plain}
-
--- a call leaves its answer
-left-out-answer : (a : Answer) (out made : List ℕ) → leavesOut a out made .answer ≡ a
-left-out-answer (Accepted n) out made = refl
-left-out-answer (Refused r p) out made = refl
-
-left-out : (a : Answer) (out made : List ℕ) → (numbersOf (leavesOut a out made .answer) .number ≡ 0 → ⊥) → leavesOut a out made .out ≡ out
-left-out (Accepted n) out made refused = absurd (refused refl)
-left-out (Refused r p) out made refused = refl
 
 module _ (image out : List ℕ) where
   -- ---- the answer
@@ -55,7 +47,7 @@ module _ (image out : List ℕ) where
 
   raise-answer : raise image out .answer ≡ raiseAnswer image out
   unfolding raise
-  raise-answer = left-out-answer (raiseAnswer image out) out (raisedImage image)
+  raise-answer = left-answer (raiseAnswer image out) out (raisedImage image)
 
   pub raise-answers : AnswersBy (raiseTable image out) 0 (numbersOf (raise image out .answer))
   raise-answers = rw raise-answer (answers-by raise-decides)

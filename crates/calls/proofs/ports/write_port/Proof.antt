@@ -1,4 +1,5 @@
-use Rattle.calls.proofs.CallRules.{registers-few, wrong-area, right-area, area-long, image-known, contents-refuse, contents-fit, write-refuses, write-refuses-contents}
+use Rattle.design.proofs.Laws.{registers-most}
+use Rattle.calls.proofs.CallRules.{wrong-area, right-area, area-long, image-known, contents-refuse, contents-fit, write-refuses, write-refuses-contents}
 use borrow.Author.Needs.{needs}
 use Rattle.calls.proofs.ports.write_port.Statement.{statement}
 use Rattle.calls.proofs.ports.write_port.Tie as tie
@@ -7,7 +8,7 @@ read-requires : tie.Need-read-requires
 read-requires c κs = search needs
 
 register-area-kept-requires : tie.Need-register-area-kept-requires
-register-area-kept-requires c κs = search (registers-few, needs)
+register-area-kept-requires c κs = search (registers-most, needs)
 
 returns : tie.Need-returns
 returns c = search (write-refuses, write-refuses-contents, wrong-area, right-area, contents-refuse, needs)

@@ -1,5 +1,6 @@
+use Rattle.design.proofs.Laws.{registers-most}
 use Rattle.design.proofs.ResetRules.{states-few}
-use Rattle.calls.proofs.CallRules.{registers-few, states-kept, registers-long, targets-long, wrong-lengths, right-lengths, reset-refuses, reset-makes}
+use Rattle.calls.proofs.CallRules.{states-kept, registers-long, targets-long, wrong-lengths, right-lengths, reset-refuses, reset-makes}
 use borrow.Author.Needs.{needs}
 use Rattle.calls.proofs.resets.reset.Statement.{statement}
 use Rattle.calls.proofs.resets.reset.Tie as tie
@@ -12,7 +13,7 @@ read-requires : tie.Need-read-requires
 read-requires c κs = search needs
 
 areas-kept-requires : tie.Need-areas-kept-requires
-areas-kept-requires c κs = (search (registers-few, needs), search (states-few, needs))
+areas-kept-requires c κs = (search (registers-most, needs), search (states-few, needs))
 
 returns : tie.Need-returns
 returns c = search (reset-refuses, wrong-lengths, needs)

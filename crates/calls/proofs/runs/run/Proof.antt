@@ -1,5 +1,6 @@
+use Rattle.design.proofs.Laws.{registers-most}
 use Rattle.design.proofs.ResetRules.{states-few}
-use Rattle.calls.proofs.CallRules.{registers-few, registers-long, targets-long, wrong-lengths, run-refuses}
+use Rattle.calls.proofs.CallRules.{registers-long, targets-long, wrong-lengths, run-refuses}
 use borrow.Author.Needs.{needs}
 use Rattle.calls.proofs.runs.run.Statement.{statement}
 use Rattle.calls.proofs.runs.run.Tie as tie
@@ -8,7 +9,7 @@ read-requires : tie.Need-read-requires
 read-requires c κs = search needs
 
 areas-kept-requires : tie.Need-areas-kept-requires
-areas-kept-requires c κs = (search (registers-few, needs), search (states-few, needs))
+areas-kept-requires c κs = (search (registers-most, needs), search (states-few, needs))
 
 returns : tie.Need-returns
 returns c = search (run-refuses, wrong-lengths, needs)

@@ -1,4 +1,5 @@
-use Rattle.design.proofs.LabelRules.{registers-few, own-labels-kept}
+use Rattle.design.proofs.Laws.{registers-most}
+use Rattle.design.proofs.LabelRules.{own-labels-kept}
 use Rattle.design.proofs.ScopeRules.{no-parameters}
 use Rattle.checker.proofs.OwnLabels.{own-flow}
 use borrow.Author.Needs.{needs}
@@ -9,7 +10,7 @@ slice-aggregate-register-labels : tie.Need-slice-aggregate-register-labels
 slice-aggregate-register-labels c = search needs
 
 register-labels-requires : tie.Need-register-labels-requires
-register-labels-requires c κs = (search needs, search (registers-few, needs))
+register-labels-requires c κs = (search needs, search (registers-most, needs))
 
 has-parameters-requires : tie.Need-has-parameters-requires
 has-parameters-requires c κs = search needs
@@ -18,7 +19,7 @@ slice-aggregate-declared-faults : tie.Need-slice-aggregate-declared-faults
 slice-aggregate-declared-faults c = search needs
 
 declared-faults-requires : tie.Need-declared-faults-requires
-declared-faults-requires c κs = (search needs, search needs, search (own-labels-kept, registers-few, needs), search needs)
+declared-faults-requires c κs = (search needs, search needs, search (own-labels-kept, registers-most, needs), search needs)
 
 returns : tie.Need-returns
 returns c = search (own-flow, needs)
@@ -28,7 +29,7 @@ slice-aggregate-plain-faults c = search needs
 
 plain-faults-requires : tie.Need-plain-faults-requires
 plain-faults-requires c κs =
-    (search needs, search needs, search (no-parameters, needs), search (own-labels-kept, registers-few, needs), search needs)
+    (search needs, search needs, search (no-parameters, needs), search (own-labels-kept, registers-most, needs), search needs)
 
 returns-2 : tie.Need-returns-2
 returns-2 c = search (own-flow, needs)

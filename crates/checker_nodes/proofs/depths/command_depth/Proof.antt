@@ -1,4 +1,4 @@
-use Rattle.checker_nodes.proofs.PartRules.{command-part-laws}
+use Rattle.design.proofs.PartRules.{command-part-laws}
 use Rattle.checker_nodes.proofs.DepthRules.{depth-laws}
 use Rattle.design.proofs.FieldRules.{command-place-inside}
 use borrow.Author.Needs.{needs}

@@ -1,11 +1,12 @@
 use Prim.Native.Nat.{_-_, _≤_}
 use Rattle.model.specs.Image.{designOf}
+use Rattle.model.specs.Nodes.{partsOf, valuesOf}
 use Rattle.model.specs.Kinds.{commandKept}
 use Rattle.model.specs.Trees.{cmdOf, cmdDepth}
 use Rattle.model.proofs.Laws.Passes.{Passed, pass-laws}
 use Rattle.design.specs.Resets.{Filled}
-use Rattle.checker_nodes.specs.Tables.{partsOf, expressionOf, depthEntry}
-use Rattle.checker_nodes.proofs.PartRules.{counts, judged-command}
+use Rattle.checker_nodes.specs.Tables.{depthEntry}
+use Rattle.checker_nodes.proofs.NodeRules.{counts, judged-command}
 use Rattle.checker_nodes.proofs.CountRules.{Counted, count-laws, counted-long, counted-keeps}
 use Rattle.checker_nodes.proofs.DepthRules.{table-laws, filled-long, filled-keeps, filled-inside}
 use borrow.Author.Needs.{needs}
@@ -16,7 +17,7 @@ abbrev Inv-loop : tie.InvT-loop
 Inv-loop image design uses₀ expression-uses₀ depths₀ n₀ uses expression-uses depths n =
     Passed (commandKept (designOf image)) n
     × Counted uses₀ (partsOf (designOf image)) uses n
-    × Counted expression-uses₀ (expressionOf (designOf image)) expression-uses n
+    × Counted expression-uses₀ (valuesOf (designOf image)) expression-uses n
     × Filled (λ k. depthEntry (cmdDepth (cmdOf (designOf image) k))) depths₀ n depths
     × (n ≤ design .commands)
 

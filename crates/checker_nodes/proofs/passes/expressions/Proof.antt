@@ -1,11 +1,12 @@
 use Prim.Native.Nat.{_-_, _≤_}
 use Rattle.model.specs.Image.{designOf}
+use Rattle.model.specs.Nodes.{operandsOf}
 use Rattle.model.specs.Kinds.{expressionKept}
 use Rattle.model.specs.Trees.{exprOf, exprDepth}
 use Rattle.model.proofs.Laws.Passes.{Passed, pass-laws}
 use Rattle.design.specs.Resets.{Filled}
-use Rattle.checker_nodes.specs.Tables.{operandsOf, depthEntry}
-use Rattle.checker_nodes.proofs.PartRules.{counts, judged-expression}
+use Rattle.checker_nodes.specs.Tables.{depthEntry}
+use Rattle.checker_nodes.proofs.NodeRules.{counts, judged-expression}
 use Rattle.checker_nodes.proofs.CountRules.{Counted, count-laws, counted-long, counted-keeps}
 use Rattle.checker_nodes.proofs.DepthRules.{table-laws, filled-long, filled-keeps, filled-inside}
 use borrow.Author.Needs.{needs}

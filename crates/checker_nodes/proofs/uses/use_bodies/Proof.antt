@@ -1,10 +1,11 @@
 use Prim.Native.Nat.{_-_, _≤_}
 use Rattle.model.specs.Image.{designOf}
+use Rattle.model.specs.Nodes.{commandOf}
 use Rattle.design.proofs.Laws.{state-inside}
-use Rattle.checker_nodes.specs.Tables.{commandOf}
-use Rattle.checker_nodes.proofs.PartRules.{counts}
+use Rattle.design.proofs.PartRules.{body-inside}
+use Rattle.checker_nodes.proofs.NodeRules.{counts}
 use Rattle.checker_nodes.proofs.CountRules.{Counted, count-laws, counted-long, counted-inside}
-use Rattle.checker_nodes.proofs.UseRules.{use-laws, body-inside}
+use Rattle.checker_nodes.proofs.UseRules.{use-laws}
 use borrow.Author.Needs.{needs}
 use Rattle.checker_nodes.proofs.uses.use_bodies.Statement.{statement}
 use Rattle.checker_nodes.proofs.uses.use_bodies.Tie as tie

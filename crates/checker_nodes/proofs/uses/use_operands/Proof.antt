@@ -1,4 +1,4 @@
-use Rattle.checker_nodes.proofs.PartRules.{expression-part-laws}
+use Rattle.design.proofs.PartRules.{expression-part-laws}
 use Rattle.checker_nodes.proofs.UseRules.{use-laws}
 use Rattle.design.proofs.FieldRules.{expression-place-inside}
 use borrow.Author.Needs.{needs}

@@ -1,13 +1,14 @@
 use Rattle.model.specs.Image.{AreBytes}
+use Rattle.design.proofs.Laws.{registers-most}
 use Rattle.design.proofs.ResetRules.{states-few}
-use Rattle.calls.proofs.CallRules.{registers-few, are-bytes}
+use Rattle.calls.proofs.CallRules.{are-bytes}
 use Rattle.journal.proofs.StageRules.{room-kept, room-refuses, run-makes}
 use borrow.Author.Needs.{needs}
 use Rattle.journal.proofs.runs.run_counted.Statement.{statement}
 use Rattle.journal.proofs.runs.run_counted.Tie as tie
 
 has-room-requires : tie.Need-has-room-requires
-has-room-requires c κs = (search (registers-few, needs), search (states-few, needs))
+has-room-requires c κs = (search (registers-most, needs), search (states-few, needs))
 
 same-length : tie.Need-same-length
 same-length c = search needs

@@ -1,5 +1,5 @@
+use Rattle.design.proofs.Laws.{registers-most}
 use Rattle.design.proofs.ResetRules.{states-few}
-use Rattle.calls.proofs.CallRules.{registers-few}
 use Rattle.journal.proofs.StepRules.{back-fits, back-counts, saved-inside, areas-inside, step-unsound, step-made}
 use borrow.Author.Needs.{needs}
 use Rattle.journal.proofs.steps.step_counted.Statement.{statement}
@@ -12,7 +12,7 @@ sub-count : tie.Need-sub-count
 sub-count c = search (back-fits, needs)
 
 saved-place-requires : tie.Need-saved-place-requires
-saved-place-requires c κs = (search (registers-few, needs), search (states-few, needs))
+saved-place-requires c κs = (search (registers-most, needs), search (states-few, needs))
 
 judge-saved-requires : tie.Need-judge-saved-requires
 judge-saved-requires c κs = (search needs, search needs, search (saved-inside, needs))

@@ -1,12 +1,12 @@
+use Rattle.design.proofs.Laws.{registers-most}
 use Rattle.design.proofs.ResetRules.{states-few}
-use Rattle.calls.proofs.CallRules.{registers-few}
 use Rattle.journal.proofs.StageRules.{step-lacks-room, step-counts, step-too-far, step-none, step-returns}
 use borrow.Author.Needs.{needs}
 use Rattle.journal.proofs.steps.step_on.Statement.{statement}
 use Rattle.journal.proofs.steps.step_on.Tie as tie
 
 has-room-requires : tie.Need-has-room-requires
-has-room-requires c κs = (search (registers-few, needs), search (states-few, needs))
+has-room-requires c κs = (search (registers-most, needs), search (states-few, needs))
 
 same-length : tie.Need-same-length
 same-length c = search needs

@@ -1,5 +1,5 @@
+use Rattle.design.proofs.Laws.{registers-most}
 use Rattle.design.proofs.ResetRules.{states-few}
-use Rattle.calls.proofs.CallRules.{registers-few}
 use Rattle.journal_saving.proofs.SavingRules.{room-behind, journal-made, count-fits, count-inside}
 use borrow.Author.Needs.{needs}
 use Rattle.journal_saving.proofs.saving.cycles.Statement.{statement}
@@ -12,7 +12,7 @@ add-raised : tie.Need-add-raised
 add-raised c = search (count-fits, needs)
 
 saved-place-requires : tie.Need-saved-place-requires
-saved-place-requires c κs = (search (registers-few, needs), search (states-few, needs))
+saved-place-requires c κs = (search (registers-most, needs), search (states-few, needs))
 
 saved-cycles-requires : tie.Need-saved-cycles-requires
 saved-cycles-requires c κs = (search needs, search (room-behind, needs))

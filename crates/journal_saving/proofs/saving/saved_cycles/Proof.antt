@@ -1,7 +1,7 @@
 use Prim.Native.Nat.{_-_}
 use native.Mathlib.Omega.{arith}
+use Rattle.design.proofs.Laws.{registers-most}
 use Rattle.design.proofs.ResetRules.{states-few}
-use Rattle.calls.proofs.CallRules.{registers-few}
 use Rattle.journal_saving.proofs.SavingRules.{SavedSo, saved-begins, saved-running, saved-room, saved-at-fits, saved-fits, saved-more, saved-registers-long, saved-targets-long, saved-journal-long, saved-areas, saved-done}
 use borrow.Author.Needs.{needs}
 use Rattle.journal_saving.proofs.saving.saved_cycles.Statement.{statement}
@@ -15,7 +15,7 @@ abbrev μ-loop : tie.MeasureT-loop
 μ-loop image design defaults scopes registers₀ targets₀ journal₀ place count each at₀ i₀ registers targets journal at i = count - i
 
 saved-length-requires : tie.Need-saved-length-requires Inv-loop μ-loop
-saved-length-requires c κs = (search (registers-few, needs), search (states-few, needs))
+saved-length-requires c κs = (search (registers-most, needs), search (states-few, needs))
 
 loop-holds : tie.Need-loop-holds Inv-loop μ-loop
 loop-holds c = search (saved-begins, needs)

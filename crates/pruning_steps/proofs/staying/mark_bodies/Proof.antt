@@ -1,6 +1,7 @@
 use Prim.Native.Nat.{_-_, _≤_}
 use Rattle.model.specs.Image.{designOf}
-use Rattle.pruning_steps.specs.Staying.{givenBy, commandOf}
+use Rattle.model.specs.Nodes.{commandOf}
+use Rattle.pruning_steps.specs.Staying.{givenBy}
 use Rattle.pruning_steps.proofs.StayingRules.{Spread, spread-laws, spread-long, spread-keeps}
 use borrow.Author.Needs.{needs}
 use Rattle.pruning_steps.proofs.staying.mark_bodies.Statement.{statement}

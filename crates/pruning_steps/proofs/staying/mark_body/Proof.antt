@@ -1,5 +1,6 @@
 use Rattle.design.proofs.Laws.{state-inside}
-use Rattle.pruning_steps.proofs.StayingRules.{marks-nothing, marks-given, marks-body, body-inside}
+use Rattle.design.proofs.PartRules.{body-inside}
+use Rattle.pruning_steps.proofs.StayingRules.{marks-nothing, marks-given, marks-body}
 use borrow.Author.Needs.{needs}
 use Rattle.pruning_steps.proofs.staying.mark_body.Statement.{statement}
 use Rattle.pruning_steps.proofs.staying.mark_body.Tie as tie

@@ -1,5 +1,6 @@
 use Rattle.design.proofs.FieldRules.{expression-place-inside}
-use Rattle.pruning_steps.proofs.StayingRules.{expression-inside, marks-nothing, marks-given, marks-operation, marks-low, marks-high, operand-a-inside, operand-b-inside}
+use Rattle.design.proofs.PartRules.{expression-inside, expression-part-laws}
+use Rattle.pruning_steps.proofs.StayingRules.{marks-nothing, marks-given, marks-operation, marks-low, marks-high}
 use borrow.Author.Needs.{needs}
 use Rattle.pruning_steps.proofs.staying.mark_operands.Statement.{statement}
 use Rattle.pruning_steps.proofs.staying.mark_operands.Tie as tie
@@ -20,7 +21,7 @@ part-b-requires : tie.Need-part-b-requires
 part-b-requires c κs = search (expression-place-inside, needs)
 
 mark-both-requires : tie.Need-mark-both-requires
-mark-both-requires c κs = search (operand-a-inside, operand-b-inside, needs)
+mark-both-requires c κs = search (expression-part-laws, needs)
 
 returns-2 : tie.Need-returns-2
 returns-2 c = search (marks-given, marks-low, needs)

@@ -1,5 +1,6 @@
 use Rattle.design.proofs.FieldRules.{command-place-inside}
-use Rattle.pruning_steps.proofs.StayingRules.{command-inside, marks-nothing, marks-given, marks-sequence, marks-branch, marks-no-part, sequence-a-inside, sequence-b-inside, branch-b-inside, branch-c-inside}
+use Rattle.design.proofs.PartRules.{command-inside, sequence-a-inside, sequence-b-inside, branch-b-inside, branch-c-inside}
+use Rattle.pruning_steps.proofs.StayingRules.{marks-nothing, marks-given, marks-sequence, marks-branch, marks-no-part}
 use borrow.Author.Needs.{needs}
 use Rattle.pruning_steps.proofs.staying.mark_parts.Statement.{statement}
 use Rattle.pruning_steps.proofs.staying.mark_parts.Tie as tie

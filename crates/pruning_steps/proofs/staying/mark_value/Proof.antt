@@ -1,5 +1,6 @@
 use Rattle.design.proofs.FieldRules.{command-place-inside}
-use Rattle.pruning_steps.proofs.StayingRules.{command-inside, marks-nothing, marks-given, marks-value, marks-no-value, value-inside}
+use Rattle.design.proofs.PartRules.{command-inside, value-inside}
+use Rattle.pruning_steps.proofs.StayingRules.{marks-nothing, marks-given, marks-value, marks-no-value}
 use borrow.Author.Needs.{needs}
 use Rattle.pruning_steps.proofs.staying.mark_value.Statement.{statement}
 use Rattle.pruning_steps.proofs.staying.mark_value.Tie as tie

@@ -1,6 +1,6 @@
 use Prim.Native.Nat.{_-_, _≤_}
 use Rattle.model.specs.Image.{designOf}
-use Rattle.renumbering.specs.Renumbers.{valuesOf}
+use Rattle.model.specs.Nodes.{valuesOf}
 use Rattle.pruning_steps.specs.Staying.{givenBy}
 use Rattle.pruning_steps.proofs.StayingRules.{Spread, spread-laws, spread-long, spread-keeps, kept-command}
 use borrow.Author.Needs.{needs}

@@ -1,5 +1,5 @@
+use Rattle.design.proofs.PartRules.{command-inside}
 use Rattle.pruning_steps.proofs.WritingRules.{stepped-none, stepped-one, room-here}
-use Rattle.pruning_steps.proofs.StayingRules.{command-inside}
 use borrow.Author.Needs.{needs}
 use Rattle.pruning_steps.proofs.writing.step_command.Statement.{statement}
 use Rattle.pruning_steps.proofs.writing.step_command.Tie as tie

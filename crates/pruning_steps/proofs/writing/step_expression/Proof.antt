@@ -1,5 +1,5 @@
+use Rattle.design.proofs.PartRules.{expression-inside}
 use Rattle.pruning_steps.proofs.WritingRules.{stepped-none, stepped-one, room-here}
-use Rattle.pruning_steps.proofs.StayingRules.{expression-inside}
 use borrow.Author.Needs.{needs}
 use Rattle.pruning_steps.proofs.writing.step_expression.Statement.{statement}
 use Rattle.pruning_steps.proofs.writing.step_expression.Tie as tie

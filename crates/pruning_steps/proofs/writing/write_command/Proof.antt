@@ -1,5 +1,5 @@
 use Rattle.design.proofs.FieldRules.{command-place-inside}
-use Rattle.pruning_steps.proofs.StayingRules.{sequence-a-inside, sequence-b-inside, branch-b-inside, branch-c-inside}
+use Rattle.design.proofs.PartRules.{sequence-a-inside, sequence-b-inside, branch-b-inside, branch-c-inside}
 use Rattle.pruning_steps.proofs.WritingRules.{assign-inside, condition-inside, goto-inside, goto-fits, assign-new, sequence-new, goto-new, branch-new, other-new}
 use borrow.Author.Needs.{needs}
 use Rattle.pruning_steps.proofs.writing.write_command.Statement.{statement}

@@ -1,5 +1,5 @@
 use Rattle.design.proofs.Laws.{state-inside}
-use Rattle.pruning_steps.proofs.StayingRules.{body-inside}
+use Rattle.design.proofs.PartRules.{body-inside}
 use Rattle.pruning_steps.proofs.WritingRules.{parent-inside, parent-fits, state-new}
 use borrow.Author.Needs.{needs}
 use Rattle.pruning_steps.proofs.writing.write_state.Statement.{statement}

@@ -1,5 +1,6 @@
+use Rattle.design.proofs.Laws.{registers-most}
 use Rattle.design.proofs.ResetRules.{states-few}
-use Rattle.calls.proofs.CallRules.{registers-few, registers-long, targets-long, wrong-lengths}
+use Rattle.calls.proofs.CallRules.{registers-long, targets-long, wrong-lengths}
 use Rattle.replay_steps.proofs.PreparingRules.{lengths-refused}
 use borrow.Author.Needs.{needs}
 use Rattle.replay_steps.proofs.preparing.prepare_kept.Statement.{statement}
@@ -9,7 +10,7 @@ read-requires : tie.Need-read-requires
 read-requires c κs = search needs
 
 areas-kept-requires : tie.Need-areas-kept-requires
-areas-kept-requires c κs = (search (registers-few, needs), search (states-few, needs))
+areas-kept-requires c κs = (search (registers-most, needs), search (states-few, needs))
 
 refused-requires : tie.Need-refused-requires
 refused-requires c κs = search needs
