@@ -1,0 +1,19 @@
+-- What holds of filing.
+pub mod Places
+pub mod Counts
+pub mod Orders
+pub mod Renumbers
+pub mod Bodies
+pub mod Images
+pub mod Trees
+pub mod Pieces
+pub mod Listed
+pub mod Determined
+pub mod Forms
+pub mod Order
+pub mod Exact
+pub mod Written
+pub mod Earliest
+pub mod Promises
+pub mod Opened
+pub mod Boundaries
