@@ -4,5 +4,6 @@ pub mod Records
 pub mod Sections
 pub mod Directories
 pub mod RoundTrip
+pub mod Bytes
 pub mod PartRules
 pub mod WriterRules
