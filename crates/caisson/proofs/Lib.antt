@@ -14,3 +14,6 @@ pub mod ReplayContracts
 pub mod ReplayPromises
 pub mod PruneContracts
 pub mod PrunePromises
+pub mod FileAnswered
+pub mod FileContracts
+pub mod FilePromises

@@ -2,3 +2,4 @@
 pub mod Told
 pub mod ToldGates
 pub mod ToldJournal
+pub mod ToldFiling

@@ -1,6 +1,7 @@
 // The C boundary: the calls, exported on numbers and byte slices. `include/caisson.h` documents
 // them for a host.
 use calls::numbers::number;
+use filing_model::Earlier;
 use model::Answer;
 use replay_model::TraceRecord;
 ghost use mathlib.Core.Path.{_≡_};
@@ -13,7 +14,9 @@ ghost use Rattle.journal_model.specs.Calls.{runJournalled, stepBack};
 ghost use Rattle.journal.specs.Stages.{lendsJournal};
 ghost use Rattle.replay_model.specs.Calls.{replay as replayOf};
 ghost use Rattle.pruning_model.specs.Calls.{prune};
+ghost use Rattle.filing_model.specs.Calls.{file, earlier};
 ghost use Rattle.caisson.specs.Told.{told, toldLeft, inNumbers, toldLeftRegisters, registersInNumbers, toldLeftOut, outInNumbers};
+ghost use Rattle.caisson.specs.ToldFiling.{toldWhich, partOf};
 ghost use Rattle.caisson.specs.ToldGates.{toldLeftFlipFlops, flipFlopsInNumbers};
 ghost use Rattle.caisson.specs.ToldJournal.{toldLeftJournal, journalInNumbers};
 
@@ -172,6 +175,43 @@ pub extern "C" fn caisson_prune(image: &[u8], out: &mut [u8]) -> HostAnswer
 {
     let answer = pruning::prune(image, out);
     in_numbers(answer)
+}
+
+// The filing form of an image, over the beginning of a second area.
+#[no_mangle]
+pub extern "C" fn caisson_file(image: &[u8], out: &mut [u8]) -> HostAnswer
+    ensures { λ r. ⌜ toldLeftOut r (now (out .exit)) ≡ outInNumbers (file (now (image .entry)) (now (out .entry))) ⌝ }
+{
+    let answer = filing::file(image, out);
+    in_numbers(answer)
+}
+
+// A part of one of two images as the host is given it, caisson_which in the header: of the second where `second` is
+// 1, else of the first, and so many of its bytes.
+#[repr(C)]
+pub struct HostWhich {
+    pub second: u32,
+    pub len: usize,
+}
+
+// Which of two images is handed back, and how long a part of it. A function that returns the part itself is
+// `filing::earlier`; it cannot be exported.
+#[no_mangle]
+pub extern "C" fn caisson_which_earlier(first: &[u8], second: &[u8]) -> HostWhich
+    ensures { λ r. ⌜ toldWhich r ≡ partOf (now (first .entry)) (now (second .entry)) (earlier (now (first .entry)) (now (second .entry))) ⌝ }
+{
+    let which = filing::which_earlier(first, second);
+    match which {
+        Earlier::First => HostWhich {
+            second: 0,
+            len: first.len(),
+        },
+        Earlier::Second => HostWhich {
+            second: 1,
+            len: second.len(),
+        },
+        Earlier::Neither => HostWhich { second: 0, len: 0 },
+    }
 }
 
 // The verdict on a gate table.
