@@ -5,18 +5,20 @@
  * A design is a binary image of at most CAISSON_LARGEST_IMAGE bytes. The library keeps no state and
  * allocates nothing: a call works on the slices that it is lent and on its own stack, ends, and
  * relies on no earlier call. Each call makes its image checks again. The stack that a call takes is
- * measured, not proved: `make stack` shows less than 34 KB on the deepest design, and for caisson_prune, which
- * has tables of its own beside those of the image checks, less than 41 KB.
+ * measured, not proved: `make stack` shows less than 34 KB on the deepest design, and where a call has tables
+ * of its own beside those of the image checks more: less than 41 KB for caisson_prune, 44 KB for caisson_file
+ * and, which has those of two images, 57 KB for caisson_earlier.
  *
  * A slice is a pointer and a length in bytes, that of a port trace in records. The pointer may be NULL where
  * the length is 0. The slices of one call must not overlap. Nothing is read or written outside them.
  *
- * Every call answers a caisson_answer. `number` is 0 on acceptance, else the refusal's number, one of
- * the caisson_refusal values below: of those that apply, the one judged first. Every call begins with
- * the image checks, in this order: 1 to 8, then 16, then 19, then 9, then 10 to 12 in one pass in reading
- * order: state by state from number 0 on, and in each the commands as they are written, an if's first
- * branch before its second. caisson_raise alone leaves out 10 to 12, the flow, which it is there to put
- * right. What a call judges after them stands at the call. `place` says where:
+ * Every call but caisson_earlier, which hands back a part of what it is lent, and caisson_which_earlier below
+ * it answers a caisson_answer. `number` is 0 on acceptance, else the refusal's number, one of the
+ * caisson_refusal values below: of those that apply, the one judged first. Every call begins with the image
+ * checks, in this order: 1 to 8, then 16, then 19, then 9, then 10 to 12 in one pass in reading order: state
+ * by state from number 0 on, and in each the commands as they are written, an if's first branch before its
+ * second. caisson_raise alone leaves out 10 to 12, the flow, which it is there to put right. What a call
+ * judges after them stands at the call. `place` says where:
  *
  *   a label, register or state   its number, from 0
  *   a command                    its node number, from 0
@@ -29,8 +31,9 @@
  * 19 is a state where the record of one breaks the rule, else a node. That of 13 and 17 is a register in a
  * port write and a record in a replay.
  * `count` is the cycles that were run or gone back, the records that a replay superseded, the length that
- * was asked for or the bytes of a pruned image, and 0 on every refusal. A refusal changes no byte of the
- * areas, nor of a journal, nor of the area that caisson_raise or caisson_prune writes.
+ * was asked for or the bytes of a pruned image or of a filing form, and 0 on every refusal. A refusal changes
+ * no byte of the areas, nor of a journal, nor of the area that caisson_raise, caisson_prune or caisson_file
+ * writes.
  *
  * The state of a design is two areas that the host owns and lends to each call: registers,
  * CAISSON_WORD bytes each, least significant byte first; and targets, one byte for each state, with
@@ -105,7 +108,7 @@ extern "C" {
 
 /* The version of the library and the number of the image's format. CHANGELOG.md says when each moves;
    docs/FORMAT.md has the format byte by byte. */
-#define CAISSON_VERSION "3.3.0"
+#define CAISSON_VERSION "3.4.0"
 #define CAISSON_FORMAT 3
 
 /* Limits of a design table. */
@@ -236,12 +239,12 @@ enum caisson_refusal {
        0 or the number of a register. Of the states along the current targets, from the root to a
        state without children, each parameter is bound to a register that the design has, that is no
        port and whose label lies within the bounds. The area for a raised image is exactly as long
-       as the image; that for a pruned one is judged by 24. A journalled run and a replay judge what
-       a run does. Going back judges the lengths of both areas before 21, and after 22 values,
-       targets and bindings as a run does, not those of the areas but those of the saved state that
-       it is to restore. A gate table is lent one byte for each input and two for each flip-flop;
-       only their lengths are judged by 14. Place: 0 for a length; the lowest register for a value;
-       the lowest state for a target or a binding. */
+       as the image; those for a pruned one and for a filing form are judged by 24. A journalled run
+       and a replay judge what a run does. Going back judges the lengths of both areas before 21,
+       and after 22 values, targets and bindings as a run does, not those of the areas but those of
+       the saved state that it is to restore. A gate table is lent one byte for each input and two
+       for each flip-flop; only their lengths are judged by 14. Place: 0 for a length; the lowest
+       register for a value; the lowest state for a target or a binding. */
     CAISSON_AREA = 14,
     /* A run asks for more than 1,000,000 cycles. It refuses a journalled run and a replay too.
        Going back has no such limit. Place: 0. */
@@ -290,9 +293,10 @@ enum caisson_refusal {
        none. With no cycles to replay every record is refused. It is judged after 15, and before 13
        and 17. Place: the lowest such record of the trace, numbered from 0. */
     CAISSON_TRACE_CYCLE = 23,
-    /* An output area is shorter than what is written to it. For a pruned image it is never so where
-       it is as long as the image that is pruned. A longer one is accepted, and its bytes beyond
-       what is written keep their values. It is judged after the image checks. Place: 0. */
+    /* An output area is shorter than what is written to it. A pruned image is never longer than the
+       image that is pruned, and a filing form is as long as the image that is filed. A longer area
+       is accepted, and its bytes beyond what is written keep their values. It is judged after the
+       image checks. Place: 0. */
     CAISSON_OUTPUT_AREA = 24,
     /* The directory of a gate table, a count of records or the length of a section is wrong. The
        directory is three pairs of 16-bit offset and length, sorted: the first offset is 12, each
@@ -314,7 +318,8 @@ typedef struct {
     size_t place;    /* where; 0 on acceptance */
     size_t count;    /* accepted: of a run its cycles, with a journal or without, of going back the cycles
                         gone back, of a replay the records superseded, of a length call the length in
-                        bytes, of a pruning the bytes of the result, of every other call 0; refused: 0 */
+                        bytes, of a pruning or a filing the bytes of the result, of every other call 0;
+                        refused: 0 */
 } caisson_answer;
 
 /* A record of a port trace: a port write to be made before a cycle. */
@@ -323,6 +328,18 @@ typedef struct {
     uint32_t reg;   /* the register's number, which must be a port */
     uint32_t value; /* its new value, within the port's width */
 } caisson_record;
+
+/* What is handed back of two lent images: a part of the first or of the second, from its start. */
+typedef struct {
+    const uint8_t *bytes; /* where that image was lent */
+    size_t len;           /* all of its bytes, or 0 */
+} caisson_part;
+
+/* The same without a pointer. */
+typedef struct {
+    uint32_t second; /* 0: a part of the first image; 1: of the second */
+    size_t len;      /* all of its bytes, or 0 */
+} caisson_which;
 
 #if defined(__GNUC__) || defined(__clang__)
 #define CAISSON_LOOK_AT_ANSWER __attribute__((warn_unused_result))
@@ -542,6 +559,66 @@ caisson_answer caisson_raise(const uint8_t *image, size_t image_len, /* the imag
 CAISSON_LOOK_AT_ANSWER
 caisson_answer caisson_prune(const uint8_t *image, size_t image_len, /* the image to prune */
                              uint8_t *out, size_t out_len);          /* where the pruned one goes */
+
+/*
+ * Writes the filing form of an image: the same design with its nodes in one fixed order, for a library that
+ * files a design once however its nodes were numbered. It answers the length of the form in bytes, which is
+ * that of the image, as `count`.
+ *
+ * The form numbers commands state by state, from state 0 on, and in each body parts before the whole and the
+ * first part first: of a sequence the first command before the second, of an if the first branch before the
+ * second. It numbers expressions in the order of the new numbers of the commands that use them, so that the
+ * condition of an if stands behind the expressions of its branches; within one expression again parts before
+ * the whole, the first part first. Whatever names a node has its new number. All else stays: labels, registers
+ * and states keep their numbers, and their records all bytes but the command number of a state.
+ *
+ * Two accepted images have the same form, byte for byte, exactly when they differ at most in node numbers.
+ * caisson_check accepts the form. The form of a form is itself. Names, comments and layout are in no image, and
+ * a design whose labels, registers or states stand in another order is another design.
+ *
+ * `out` may be longer than the form, and its bytes beyond the form keep their values. CAISSON_LARGEST_IMAGE
+ * bytes are enough for every image. What it held before does not matter, and on a refusal no byte of it is
+ * written. It must not overlap the image, as said above of all slices. Refusals: the image checks, as from
+ * caisson_check, then 24 with place 0 where `out` is shorter than the form, so shorter than the image.
+ */
+CAISSON_LOOK_AT_ANSWER
+caisson_answer caisson_file(const uint8_t *image, size_t image_len, /* the image to file */
+                            uint8_t *out, size_t out_len);          /* where its filing form goes */
+
+/*
+ * caisson_earlier without pointers, for hosts in other languages: which image it hands back a part of, and how
+ * many bytes of it.
+ */
+CAISSON_LOOK_AT_ANSWER
+caisson_which caisson_which_earlier(const uint8_t *first, size_t first_len,    /* one image */
+                                    const uint8_t *second, size_t second_len); /* and another */
+
+/*
+ * Hands back the earlier of two lent images, as it was lent: its own pointer and its length, not a copy and not
+ * its form.
+ *
+ * Images are ordered by the bytes of their filing forms: at the first byte in which two forms differ the lower
+ * one is the earlier, and a form that is a proper beginning of another comes before it. Equal are images that
+ * differ at most in node numbers; of equal ones the first is handed back. So the order does not depend on node
+ * numbers, and any two accepted images are equal or one is the earlier, whichever is lent as the first.
+ *
+ * Both images are judged by the image checks. If either is refused, an empty part of the first is handed back:
+ * `bytes` is `first` and `len` is 0. No image has 0 bytes, so `len` is 0 in no other case; caisson_check tells
+ * which image it was, and why. Nothing that the host owns is written: the call has the forms, or what it needs
+ * of them, on its own stack. The two may be one image or overlap, since both are only read. What is handed back is
+ * the host's own memory, and lasts as long as that does.
+ */
+CAISSON_LOOK_AT_ANSWER
+static inline caisson_part caisson_earlier(const uint8_t *first, size_t first_len,   /* one image */
+                                           const uint8_t *second, size_t second_len) /* and another */
+{
+    caisson_which which = caisson_which_earlier(first, first_len, second, second_len);
+    caisson_part part;
+
+    part.bytes = which.second != 0 ? second : first;
+    part.len = which.len;
+    return part;
+}
 
 /*
  * Gate tables: logic as NAND gates with trust marks.

@@ -88,6 +88,18 @@ static void *prune(void *unused) {
     return unused;
 }
 
+static void *file(void *unused) {
+    answer = caisson_file(image, image_len, written, image_len);
+    return unused;
+}
+
+/* An image beside itself: the forms are equal, so that all of both is gone through. */
+static void *earlier(void *unused) {
+    caisson_part part = caisson_earlier(image, image_len, image, image_len);
+    answer.number = part.len == image_len ? CAISSON_ACCEPTED : CAISSON_DIRECTORY;
+    return unused;
+}
+
 static void *gates_check(void *unused) {
     answer = caisson_gates_check(gates, sizeof gates);
     return unused;
@@ -211,6 +223,8 @@ int main(int count, char **paths) {
                                                  {"run_journalled", run_journalled},
                                                  {"step_back", step_back},
                                                  {"prune", prune},
+                                                 {"file", file},
+                                                 {"earlier", earlier},
                                                  {"raise", raise_labels}};
     static const struct measured of_gates[] = {
         {"gates_check", gates_check}, {"gates_reset", gates_reset}, {"gates_cycle", gates_cycle}};
