@@ -2,6 +2,7 @@
 
 pub mod compare;
 pub mod explain;
+pub mod filing;
 pub mod gates;
 pub mod library;
 mod names;

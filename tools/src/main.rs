@@ -1,15 +1,17 @@
 //! caisson: designs as source text, for the table format of document 01; and gate tables, of document 02.
 
+mod files;
+mod shelf;
+
 use caisson_tools::compare::compare;
 use caisson_tools::old;
 use caisson_tools::prune::{prune_table, prune_text};
 use caisson_tools::raise::{raise_table, raise_text};
 use caisson_tools::{assemble, assemble_placed, explain, gates, library, print, read, Table};
-use std::io::Write;
-use std::os::unix::fs::MetadataExt;
-use std::path::PathBuf;
+use files::{judged, load, load_design, load_text, no_records, replace, same_file, show, status};
+use files::{NO_DESIGN, TEXT};
 use std::process::ExitCode;
-use std::{env, fs, io, process, thread};
+use std::{env, fs, thread};
 
 const USAGE: &str = "usage: caisson assemble SOURCE TABLE
        caisson print TABLE
@@ -19,16 +21,13 @@ const USAGE: &str = "usage: caisson assemble SOURCE TABLE
        caisson raise SOURCE.caisson RAISED
        caisson prune TABLE PRUNED
        caisson prune SOURCE.caisson PRUNED
+       caisson file TABLE FILED
+       caisson file SOURCE.caisson FILED
+       caisson sort FILE..
+       caisson same ONE OTHER
        caisson upgrade OLD NEW
        caisson compare OLD NEW [--level NUMBER]
-OLD and NEW of compare are each a TABLE or a SOURCE.caisson";
-
-/// How the name of a text ends. `explain`, `raise`, `prune` and `compare` take all else for a table.
-const TEXT: &str = ".caisson";
-
-/// What is said of a gate table where a design is needed.
-const NO_DESIGN: &str =
-    "is a gate table; only a design can be raised, pruned, upgraded or compared";
+OLD and NEW of compare, ONE and OTHER of same and each FILE of sort are a TABLE or a SOURCE.caisson";
 
 const NO_TEXT: &str = "a table is raised to a table; `caisson print` makes a text of that";
 
@@ -40,7 +39,8 @@ const STACK: usize = 64 << 20;
 /// The status where a comparison says nothing for the level that was asked for.
 const NOT_SAID: u8 = 3;
 
-/// Ends with 0, with 1 where a design is refused, with 2 on any other failure, and with 3 as said above.
+/// Ends with 0, with 1 where a design is refused, with 2 on any other failure, and with 3 as said above. Only `same`
+/// ends with 1 where two designs differ, and with 2 where one is refused.
 fn main() -> ExitCode {
     let work = thread::Builder::new().stack_size(STACK).spawn(command);
     match work.expect("a thread starts").join() {
@@ -63,6 +63,9 @@ fn command() -> Result<ExitCode, String> {
         ["explain", table] => explain_table(table),
         ["raise", from, to] => raise_file(from, to),
         ["prune", from, to] => prune_file(from, to),
+        ["file", from, to] => shelf::file(from, to),
+        ["sort", ref files @ ..] if !files.is_empty() => shelf::sort(files),
+        ["same", one, other] => shelf::same(one, other),
         ["upgrade", old, new] => upgrade_file(old, new),
         ["compare", old, new] => compare_files(old, new, None),
         ["compare", old, new, "--level", level] => compare_files(old, new, Some(number(level)?)),
@@ -93,10 +96,6 @@ fn print_file(table: &str) -> Result<ExitCode, String> {
     let records = read(&image).map_err(|why| no_records(table, &why))?;
     show(&print(&records))?;
     Ok(ExitCode::SUCCESS)
-}
-
-fn no_records(table: &str, why: &str) -> String {
-    format!("{table}: cannot be cut into records: {why}")
 }
 
 fn explain_table(table: &str) -> Result<ExitCode, String> {
@@ -179,26 +178,6 @@ fn prune_file(from: &str, to: &str) -> Result<ExitCode, String> {
     Ok(status(pruned.answer))
 }
 
-/// Writes a file beside the one named and then puts it in its place, so that there is never a part of it under
-/// the name. What is there and is no file, such as a pipe, is written to.
-fn replace(path: &str, bytes: &[u8]) -> io::Result<()> {
-    let place = fs::canonicalize(path).unwrap_or_else(|_| PathBuf::from(path));
-    if fs::metadata(&place).is_ok_and(|found| !found.is_file()) {
-        return fs::write(&place, bytes);
-    }
-    let mut beside = place.clone().into_os_string();
-    beside.push(format!(".{}.part", process::id()));
-    let replaced = fs::write(&beside, bytes).and_then(|()| fs::rename(&beside, &place));
-    if replaced.is_err() {
-        let _ = fs::remove_file(&beside);
-    }
-    replaced
-}
-
-fn status(answer: library::Answer) -> ExitCode {
-    ExitCode::from(u8::from(answer.number != 0))
-}
-
 /// The old table stays: a design that was made by hand may have no other copy.
 fn upgrade_file(old: &str, new: &str) -> Result<ExitCode, String> {
     let image = load_design(old)?;
@@ -216,7 +195,7 @@ fn compare_files(old: &str, new: &str, level: Option<usize>) -> Result<ExitCode,
         return Err(format!("{new}: is the old design itself"));
     }
     let (before, after) = match (judged(old)?, judged(new)?) {
-        (Ok(before), Ok(after)) => (before, after),
+        (Ok(before), Ok(after)) => (design(old, &before)?, design(new, &after)?),
         (before, after) => {
             let refused = [before, after].into_iter().filter_map(Result::err);
             let refused = refused.collect::<Vec<String>>().join("\n");
@@ -236,28 +215,8 @@ fn compare_files(old: &str, new: &str, level: Option<usize>) -> Result<ExitCode,
     }
 }
 
-/// The design of a file, or the words of the library's refusal.
-fn judged(path: &str) -> Result<Result<Table, String>, String> {
-    let (image, answer, words) = if path.ends_with(TEXT) {
-        let text = load_text(path)?;
-        if gates::is_text(&text) {
-            return Err(format!("{path}: {NO_DESIGN}"));
-        }
-        let (image, positions) =
-            assemble_placed(&text).map_err(|fault| format!("{path}: {fault}"))?;
-        let answer = library::check(&image);
-        let words = explain::explain_text(&text, &image, &positions, answer);
-        (image, answer, words)
-    } else {
-        let image = load_design(path)?;
-        let answer = library::check(&image);
-        let words = explain::explain(&image, answer);
-        (image, answer, words)
-    };
-    match answer.number {
-        0 => read(&image).map(Ok).map_err(|why| no_records(path, &why)),
-        _ => Ok(Err(format!("{path}: {words}"))),
-    }
+fn design(path: &str, image: &[u8]) -> Result<Table, String> {
+    read(image).map_err(|why| no_records(path, &why))
 }
 
 fn number(level: &str) -> Result<usize, String> {
@@ -274,34 +233,4 @@ fn label(path: &str, design: &Table, level: usize) -> Result<u8, String> {
             "{path}: level {level} is no label: the design has labels 0 to {last}"
         )),
     }
-}
-
-/// Two names of one file, also through links. What is not there yet is no other file.
-fn same_file(one: &str, other: &str) -> bool {
-    match (fs::metadata(one), fs::metadata(other)) {
-        (Ok(one), Ok(other)) => (one.dev(), one.ino()) == (other.dev(), other.ino()),
-        _ => false,
-    }
-}
-
-fn load(path: &str) -> Result<Vec<u8>, String> {
-    fs::read(path).map_err(|error| format!("{path}: {error}"))
-}
-
-fn load_design(path: &str) -> Result<Vec<u8>, String> {
-    let image = load(path)?;
-    match gates::is_table(&image) {
-        true => Err(format!("{path}: {NO_DESIGN}")),
-        false => Ok(image),
-    }
-}
-
-fn load_text(path: &str) -> Result<String, String> {
-    String::from_utf8(load(path)?).map_err(|_| format!("{path}: the text is not UTF-8"))
-}
-
-/// A reader that has gone away is a failure like any other, not a panic.
-fn show(text: &str) -> Result<(), String> {
-    let shown = io::stdout().write_all(text.as_bytes());
-    shown.map_err(|error| format!("standard output: {error}"))
 }

@@ -36,6 +36,14 @@ impl Comparison<'_> {
         InTheWay::of(self.old, &self.bodies, level)
     }
 
+    /// In what the designs differ first, as one goes through the records and then the bodies; none where they are
+    /// the same apart from node numbers.
+    pub fn first(&self) -> Option<String> {
+        let body = |state: &usize| format!("the body of state {state}");
+        let record = self.records.first().cloned();
+        record.or_else(|| self.bodies.first().map(body))
+    }
+
     /// What differs, and what follows for one level, or for each.
     pub fn words(&self, level: Option<u8>) -> String {
         let levels = match level {

@@ -23,7 +23,7 @@ fn run(arguments: &[&str]) -> (Option<i32>, String, String) {
 }
 
 const NO_DESIGN: &str =
-    "is a gate table; only a design can be raised, pruned, upgraded or compared";
+    "is a gate table; only a design can be raised, pruned, filed, upgraded or compared";
 
 /// A file of the tests' own folder.
 fn made(name: &str) -> String {
@@ -85,13 +85,15 @@ fn explain_knows_both_kinds() {
 }
 
 #[test]
-fn only_designs_are_raised_pruned_upgraded_and_compared() {
+fn only_designs_are_raised_pruned_filed_upgraded_and_compared() {
     let to = made("not_written.table");
     for arguments in [
         ["raise", "counter.table", &to],
         ["raise", "counter.caisson", &to],
         ["prune", "counter.table", &to],
         ["prune", "counter.caisson", &to],
+        ["file", "counter.table", &to],
+        ["file", "counter.caisson", &to],
         ["upgrade", "counter.table", &to],
     ] {
         let (status, out, err) = run(&arguments);
@@ -103,6 +105,8 @@ fn only_designs_are_raised_pruned_upgraded_and_compared() {
         for arguments in [
             ["compare", gates, "lease.table"],
             ["compare", "lease.table", gates],
+            ["sort", gates, "lease.table"],
+            ["same", "lease.table", gates],
         ] {
             let (status, out, err) = run(&arguments);
             assert_eq!((status, out.as_str()), (Some(2), ""));

@@ -152,7 +152,8 @@ fn it_says_why_it_cannot() {
     let missing = "No such file or directory (os error 2)";
     let itself = |file: &str| format!("{file}: is the design itself, and would be lost");
     let no_text = "a design is pruned to a table; `caisson print` makes a text of that";
-    let no_design = "is a gate table; only a design can be raised, pruned, upgraded or compared";
+    let no_design =
+        "is a gate table; only a design can be raised, pruned, filed, upgraded or compared";
     let [table, source] = ["spare_states.table", "spare_states.caisson"];
     for (from, to, words) in [
         ("none.table", &new[..], format!("none.table: {missing}")),

@@ -1,0 +1,93 @@
+//! What the commands read and write: files, and standard output.
+
+use caisson_tools::{assemble_placed, explain, gates, library};
+use std::io::Write;
+use std::os::unix::fs::MetadataExt;
+use std::path::PathBuf;
+use std::process::ExitCode;
+use std::{fs, io, process};
+
+/// How the name of a text ends. Commands that read texts and tables take all else for a table.
+pub const TEXT: &str = ".caisson";
+
+/// What is said of a gate table where a design is needed.
+pub const NO_DESIGN: &str =
+    "is a gate table; only a design can be raised, pruned, filed, upgraded or compared";
+
+/// The image of an accepted design, or the words of the library's refusal.
+pub fn judged(path: &str) -> Result<Result<Vec<u8>, String>, String> {
+    let (image, answer, words) = if path.ends_with(TEXT) {
+        let text = load_text(path)?;
+        if gates::is_text(&text) {
+            return Err(format!("{path}: {NO_DESIGN}"));
+        }
+        let (image, positions) =
+            assemble_placed(&text).map_err(|fault| format!("{path}: {fault}"))?;
+        let answer = library::check(&image);
+        let words = explain::explain_text(&text, &image, &positions, answer);
+        (image, answer, words)
+    } else {
+        let image = load_design(path)?;
+        let answer = library::check(&image);
+        let words = explain::explain(&image, answer);
+        (image, answer, words)
+    };
+    match answer.number {
+        0 => Ok(Ok(image)),
+        _ => Ok(Err(format!("{path}: {words}"))),
+    }
+}
+
+/// Writes a file beside the one named and then puts it in its place, so that there is never a part of it under
+/// the name. What is there and is no file, such as a pipe, is written to.
+pub fn replace(path: &str, bytes: &[u8]) -> io::Result<()> {
+    let place = fs::canonicalize(path).unwrap_or_else(|_| PathBuf::from(path));
+    if fs::metadata(&place).is_ok_and(|found| !found.is_file()) {
+        return fs::write(&place, bytes);
+    }
+    let mut beside = place.clone().into_os_string();
+    beside.push(format!(".{}.part", process::id()));
+    let replaced = fs::write(&beside, bytes).and_then(|()| fs::rename(&beside, &place));
+    if replaced.is_err() {
+        let _ = fs::remove_file(&beside);
+    }
+    replaced
+}
+
+pub fn status(answer: library::Answer) -> ExitCode {
+    ExitCode::from(u8::from(answer.number != 0))
+}
+
+pub fn no_records(table: &str, why: &str) -> String {
+    format!("{table}: cannot be cut into records: {why}")
+}
+
+/// Two names of one file, also through links. What is not there yet is no other file.
+pub fn same_file(one: &str, other: &str) -> bool {
+    match (fs::metadata(one), fs::metadata(other)) {
+        (Ok(one), Ok(other)) => (one.dev(), one.ino()) == (other.dev(), other.ino()),
+        _ => false,
+    }
+}
+
+pub fn load(path: &str) -> Result<Vec<u8>, String> {
+    fs::read(path).map_err(|error| format!("{path}: {error}"))
+}
+
+pub fn load_design(path: &str) -> Result<Vec<u8>, String> {
+    let image = load(path)?;
+    match gates::is_table(&image) {
+        true => Err(format!("{path}: {NO_DESIGN}")),
+        false => Ok(image),
+    }
+}
+
+pub fn load_text(path: &str) -> Result<String, String> {
+    String::from_utf8(load(path)?).map_err(|_| format!("{path}: the text is not UTF-8"))
+}
+
+/// A reader that has gone away is a failure like any other, not a panic.
+pub fn show(text: &str) -> Result<(), String> {
+    let shown = io::stdout().write_all(text.as_bytes());
+    shown.map_err(|error| format!("standard output: {error}"))
+}
