@@ -10,7 +10,7 @@ pub struct Answer {
     /// The offending label, register, state, node or record; an expression is 1,024 plus its number.
     pub place: usize,
     /// The cycles done by a run, the records superseded in a replay, the length told of an area, or that of a
-    /// pruned image; 0 otherwise.
+    /// pruned image or a filing form; 0 otherwise.
     pub count: usize,
 }
 
@@ -39,5 +39,26 @@ impl fmt::Display for Answer {
             "number {} place {} count {}",
             self.number, self.place, self.count
         )
+    }
+}
+
+/// Which of two lent images is handed back, laid out as the C interface has it: request E12.
+#[repr(C)]
+#[derive(Clone, Copy, Debug, PartialEq, Eq)]
+pub struct Which {
+    /// 0: a part of the first image; 1: of the second.
+    pub second: u32,
+    /// From the image's start, so many bytes: all of them, or none.
+    pub len: usize,
+}
+
+impl Which {
+    /// An empty part of the first.
+    pub const REFUSED: Which = Which { second: 0, len: 0 };
+}
+
+impl fmt::Display for Which {
+    fn fmt(&self, f: &mut fmt::Formatter) -> fmt::Result {
+        write!(f, "second {} len {}", self.second, self.len)
     }
 }

@@ -1,4 +1,4 @@
-//! An implementation of document 01 with requests E1 to E4, E6 to E11 and E13 of document 02, written from the
+//! An implementation of document 01 with requests E1 to E4 and E6 to E13 of document 02, written from the
 //! documents alone, a generator of images, and the means to compare both with the proved library.
 
 pub mod answer;

@@ -1,6 +1,6 @@
 //! The proved library through its C interface.
 
-use crate::answer::Answer;
+use crate::answer::{Answer, Which};
 use crate::trace::Record;
 use std::ptr;
 
@@ -38,6 +38,13 @@ extern "C" {
     ) -> Answer;
     fn caisson_raise(image: *const u8, image_len: usize, out: *mut u8, out_len: usize) -> Answer;
     fn caisson_prune(image: *const u8, image_len: usize, out: *mut u8, out_len: usize) -> Answer;
+    fn caisson_file(image: *const u8, image_len: usize, out: *mut u8, out_len: usize) -> Answer;
+    fn caisson_which_earlier(
+        first: *const u8,
+        first_len: usize,
+        second: *const u8,
+        second_len: usize,
+    ) -> Which;
 }
 
 extern "C" {
@@ -256,6 +263,32 @@ pub fn prune(image: &[u8], out: &mut [u8]) -> Answer {
 /// Its answer about the empty image as a C host may lend it, and no area.
 pub fn prune_null() -> Answer {
     unsafe { caisson_prune(ptr::null(), 0, ptr::null_mut(), 0) }
+}
+
+pub fn file(image: &[u8], out: &mut [u8]) -> Answer {
+    unsafe { caisson_file(image.as_ptr(), image.len(), lend(out), out.len()) }
+}
+
+/// Its answer about the empty image as a C host may lend it, and no area.
+pub fn file_null() -> Answer {
+    unsafe { caisson_file(ptr::null(), 0, ptr::null_mut(), 0) }
+}
+
+/// The two images may be the same slice: both are only read.
+pub fn earlier(first: &[u8], second: &[u8]) -> Which {
+    unsafe { caisson_which_earlier(first.as_ptr(), first.len(), second.as_ptr(), second.len()) }
+}
+
+/// Its answers about empty images as a C host may lend them: both, the first, and the second.
+pub fn earlier_null(image: &[u8]) -> [Which; 3] {
+    let null = ptr::null();
+    unsafe {
+        [
+            caisson_which_earlier(null, 0, null, 0),
+            caisson_which_earlier(null, 0, image.as_ptr(), image.len()),
+            caisson_which_earlier(image.as_ptr(), image.len(), null, 0),
+        ]
+    }
 }
 
 pub fn gates_check(table: &[u8]) -> Answer {

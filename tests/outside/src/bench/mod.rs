@@ -5,6 +5,7 @@ mod measure;
 mod subjects;
 
 pub mod check;
+pub mod file;
 pub mod gates;
 pub mod journals;
 pub mod prune;

@@ -123,7 +123,37 @@ pub fn for_raising() -> Vec<Subject> {
 /// with half of their states spare, and some whose states are reached from the highest number down.
 pub fn for_pruning() -> Vec<Subject> {
     let largest = largest();
-    let of = |name, table: &Table| Subject {
+    let first = |part| going_round(&largest, MOST_STATES * part / 4 - 1);
+    vec![
+        numbered("quarter", &pruned(&first(1))),
+        numbered("half", &pruned(&first(2))),
+        numbered("largest", &largest),
+        numbered("half spare", &first(2)),
+        numbered("downwards", &going_down(&largest)),
+    ]
+}
+
+/// Designs of a quarter and a half of the largest's states and of all of them, the largest as its form, and one of
+/// the largest size in random trees with parameters.
+pub fn for_filing() -> Vec<Subject> {
+    let largest = largest();
+    let first = |part| pruned(&going_round(&largest, MOST_STATES * part / 4 - 1));
+    let in_form = largest_form(&largest);
+    vec![
+        numbered("quarter", &first(1)),
+        numbered("half", &first(2)),
+        numbered("largest", &largest),
+        Subject {
+            name: "its form",
+            images: vec![in_form],
+        },
+        numbered("parameters", &full_of_parameters()[0]),
+    ]
+}
+
+/// One design under several numberings.
+fn numbered(name: &'static str, table: &Table) -> Subject {
+    Subject {
         name,
         images: (1..=IMAGES)
             .map(|seed| {
@@ -132,15 +162,14 @@ pub fn for_pruning() -> Vec<Subject> {
                 accepted(&table)
             })
             .collect(),
-    };
-    let first = |part| going_round(&largest, MOST_STATES * part / 4 - 1);
-    vec![
-        of("quarter", &pruned(&first(1))),
-        of("half", &pruned(&first(2))),
-        of("largest", &largest),
-        of("half spare", &first(2)),
-        of("downwards", &going_down(&largest)),
-    ]
+    }
+}
+
+fn largest_form(largest: &Table) -> Vec<u8> {
+    let image = largest.image();
+    let mut form = vec![0; image.len()];
+    reference::file(&image, &mut form);
+    form
 }
 
 /// The design without the states that are not reached.

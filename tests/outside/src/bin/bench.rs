@@ -8,5 +8,6 @@ fn main() {
     caisson_tests::bench::replays::print();
     caisson_tests::bench::raise::print();
     caisson_tests::bench::prune::print();
+    caisson_tests::bench::file::print();
     caisson_tests::bench::gates::print();
 }

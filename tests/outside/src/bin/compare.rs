@@ -1,11 +1,12 @@
 //! Compares the library with the reference on random images, on random lists of calls, on random replays, on
-//! random raisings, on random prunings and on random gate tables, for a bounded time: a tenth for replays, a
-//! tenth for prunings, and equal parts of the rest.
+//! random raisings, on random prunings, on random filings and on random gate tables, for a bounded time: a tenth
+//! for replays, for prunings and for filings each, and equal parts of the rest.
 
 use caisson_tests::compare::arguments::Arguments;
 use caisson_tests::compare::check;
 use caisson_tests::compare::difference::Difference;
 use caisson_tests::compare::engine::LIBRARY;
+use caisson_tests::compare::filing;
 use caisson_tests::compare::gates;
 use caisson_tests::compare::lists;
 use caisson_tests::compare::pruning;
@@ -14,10 +15,11 @@ use caisson_tests::compare::replays;
 use std::process::ExitCode;
 use std::time::{Duration, Instant};
 
-/// The part of the time that a comparison has; replays and prunings meet all they have to in less.
-const PART: f64 = 0.2;
+/// The part of the time that a comparison has; replays, prunings and filings meet all they have to in less.
+const PART: f64 = 0.175;
 const PART_OF_REPLAYS: f64 = 0.1;
 const PART_OF_PRUNINGS: f64 = 0.1;
+const PART_OF_FILINGS: f64 = 0.1;
 
 fn main() -> ExitCode {
     let arguments = Arguments::read(40);
@@ -27,6 +29,7 @@ fn main() -> ExitCode {
         && compare_replays(&arguments)
         && compare_raisings(&arguments)
         && compare_prunings(&arguments)
+        && compare_filings(&arguments)
         && compare_gates(&arguments);
     if equal {
         println!("no difference");
@@ -131,6 +134,20 @@ fn compare_prunings(arguments: &Arguments) -> bool {
     }
     let equal = each_seed(arguments, PART_OF_PRUNINGS, |seed| {
         pruning::prunings_of_seed(&LIBRARY, seed, &mut tallies)
+    });
+    tallies.print();
+    equal && all_met(tallies.missing())
+}
+
+fn compare_filings(arguments: &Arguments) -> bool {
+    let mut tallies = filing::Tallies::default();
+    let fixed = filing::about_null().and_then(|()| filing::fixed_images(&LIBRARY, &mut tallies));
+    if let Err(difference) = fixed {
+        difference.report("the fixed filings");
+        return false;
+    }
+    let equal = each_seed(arguments, PART_OF_FILINGS, |seed| {
+        filing::filings_of_seed(&LIBRARY, seed, &mut tallies)
     });
     tallies.print();
     equal && all_met(tallies.missing())

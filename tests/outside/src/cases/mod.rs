@@ -4,6 +4,8 @@ mod bindings;
 mod contents;
 mod edits;
 mod examples;
+mod filing;
+mod filing_mistakes;
 mod gates;
 mod generator;
 mod groups;

@@ -2,7 +2,7 @@
 
 use super::areas::Lent;
 use super::calls::Call;
-use crate::answer::Answer;
+use crate::answer::{Answer, Which};
 #[cfg(feature = "library")]
 use crate::library;
 use crate::reference;
@@ -17,6 +17,8 @@ pub struct Engine {
     pub step_back: Journalled,
     pub replay: Replay,
     pub prune: fn(&[u8], &mut [u8]) -> Answer,
+    pub file: fn(&[u8], &mut [u8]) -> Answer,
+    pub earlier: fn(&[u8], &[u8]) -> Which,
 }
 
 /// The calls on journals.
@@ -34,6 +36,8 @@ pub const LIBRARY: Engine = Engine {
     step_back: library::step_back,
     replay: library::replay,
     prune: library::prune,
+    file: library::file,
+    earlier: library::earlier,
 };
 
 pub const REFERENCE: Engine = Engine {
@@ -45,6 +49,8 @@ pub const REFERENCE: Engine = Engine {
     step_back: reference::step_back,
     replay: reference::replay,
     prune: reference::prune,
+    file: reference::file,
+    earlier: reference::earlier,
 };
 
 impl Engine {

@@ -50,6 +50,10 @@ impl Tally {
                 hits.longest.unwrap_or(0)
             );
         }
+        self.print_reasons();
+    }
+
+    pub fn print_reasons(&self) {
         for (reason, count) in &self.reasons {
             println!("{count:>17} {reason}");
         }

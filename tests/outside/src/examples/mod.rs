@@ -1,10 +1,11 @@
 //! Images with the verdict that a sentence of document 01 or 02, a decided point or a worked design
-//! gives them, operations with their values, raisings, and prunings. They are asserted of the reference, and stored
-//! for the proved program.
+//! gives them, operations with their values, raisings, prunings, and filings. They are asserted of the reference,
+//! and stored for the proved program.
 
 mod arguments;
 mod children;
 mod choices;
+pub mod filing;
 mod flow;
 mod lattices;
 mod nodes;

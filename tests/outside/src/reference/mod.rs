@@ -1,9 +1,10 @@
-//! Document 01 with requests E1 to E4, E6 to E11 and E13 of document 02, implemented for clarity: tables and passes
+//! Document 01 with requests E1 to E4 and E6 to E13 of document 02, implemented for clarity: tables and passes
 //! over node numbers, no recursion in the checker, so that it shares as little as possible with the
 //! proved library.
 
 pub mod calls;
 mod directory;
+mod file;
 mod flow;
 pub mod gates;
 pub mod image;
@@ -15,6 +16,7 @@ mod listing;
 pub mod machine;
 mod nodes;
 mod operations;
+mod parts;
 mod prune;
 mod raise;
 mod records;
@@ -24,6 +26,7 @@ mod rules;
 pub mod scopes;
 
 pub use calls::{check, registers_length, reset, run, targets_length, walk, write_port};
+pub use file::{earlier, file};
 pub use journals::{run_journalled, step_back};
 pub use listing::listing;
 pub use prune::{prune, reached};

@@ -4,6 +4,7 @@
 use super::calls::{answer, judge};
 use super::image::*;
 use super::limits::*;
+use super::parts::{command_parts, expression_of, expression_parts};
 use super::refusal::Refusal;
 use crate::answer::Answer;
 
@@ -170,23 +171,4 @@ fn directory(sections: [usize; 5]) -> Vec<u8> {
         offset += length;
     }
     pairs
-}
-
-fn command_parts(node: &Node) -> Vec<u16> {
-    match node.kind {
-        SEQUENCE => vec![node.a, node.b],
-        IF => vec![node.b, node.c],
-        _ => Vec::new(),
-    }
-}
-
-fn expression_of(node: &Node) -> Option<u16> {
-    matches!(node.kind, ASSIGN | IF).then_some(node.a)
-}
-
-fn expression_parts(node: &Node) -> Vec<u16> {
-    match node.kind {
-        CONSTANT | READ => Vec::new(),
-        _ => vec![node.a, node.b],
-    }
 }

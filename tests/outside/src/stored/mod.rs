@@ -2,6 +2,7 @@
 //! that it must print, as the reference has it.
 
 mod areas;
+mod filing;
 mod gate_refusals;
 mod gates;
 mod images;
@@ -50,5 +51,6 @@ fn records() -> Vec<Record> {
     gate_refusals::add(&mut script);
     journals::add(&mut script);
     pruning::add(&mut script);
+    filing::add(&mut script);
     script.end()
 }

@@ -28,6 +28,13 @@ pub enum Record {
         length: u32,
         fill: u8,
     },
+    /// Files the image into an area of so many bytes, each of which is this before.
+    File {
+        length: u32,
+        fill: u8,
+    },
+    /// The earlier of the image and this second one.
+    Earlier(Vec<u8>),
     /// A record of no kind.
     Bad,
 }
@@ -53,7 +60,9 @@ impl Record {
             Record::RunJournalled(cycles) => record(12, *cycles, 0, &[]),
             Record::StepBack(cycles) => record(13, *cycles, 0, &[]),
             Record::Prune { length, fill } => record(14, *length, (*fill).into(), &[]),
-            Record::Bad => record(15, 0, 0, &[]),
+            Record::File { length, fill } => record(15, *length, (*fill).into(), &[]),
+            Record::Earlier(second) => record(16, second.len() as u32, 0, &[second]),
+            Record::Bad => record(17, 0, 0, &[]),
         }
     }
 }

@@ -112,6 +112,16 @@ impl Script {
         self.add(Record::Prune { length, fill })
     }
 
+    pub fn file(&mut self, length: usize, fill: u8) -> &mut Script {
+        let length = length as u32;
+        self.add(Record::File { length, fill })
+    }
+
+    /// The image is the first of the two.
+    pub fn earlier(&mut self, second: &[u8]) -> &mut Script {
+        self.add(Record::Earlier(second.to_vec()))
+    }
+
     /// The design, and one cycle for each pair of values in the ports r1 and r2.
     pub fn pairs(&mut self, table: &Table, pairs: &[(u32, u32)]) {
         self.design(table).reset();

@@ -82,6 +82,15 @@ impl Lent {
                 let answer = reference::prune(&self.image, &mut out);
                 answered(&format!("prune {length}"), answer) + &line("out", &out)
             }
+            Record::File { length, fill } => {
+                let mut out = vec![*fill; *length as usize];
+                let answer = reference::file(&self.image, &mut out);
+                answered(&format!("file {length}"), answer) + &line("out", &out)
+            }
+            Record::Earlier(second) => {
+                let which = reference::earlier(&self.image, second);
+                format!("earlier: {} {}\n", which.second, which.len)
+            }
             Record::Bad => "bad record\n".to_string(),
         }
     }

@@ -1,5 +1,5 @@
-//! Bodies apart from node numbers, and two designs of which one is an edit of the other that a level does not
-//! see: request E14.
+//! Bodies apart from node numbers, two designs that differ in nothing else, request E12, and two of which one is an
+//! edit of the other that a level does not see: request E14.
 
 use super::{Family, Node, State, Table};
 use crate::reference::limits::PARAMETER_LABEL;
@@ -49,9 +49,22 @@ impl Table {
         label < PARAMETER_LABEL && !self.flows(label, level)
     }
 
+    /// The same design apart from node numbers: request E12.
+    pub fn is_renumbered(&self, other: &Table) -> bool {
+        self.has_records_of(other)
+            && (0..self.states.len()).all(|state| self.body(state) == other.body(state))
+    }
+
     /// Equal labels and registers, equal state records apart from command numbers, and the same bodies except
     /// in states whose fixed label is not at or below the level.
     pub fn is_edited_out_of_sight(&self, other: &Table, level: u8) -> bool {
+        let same = |state| self.body(state) == other.body(state);
+        self.has_records_of(other)
+            && (0..self.states.len()).all(|state| self.may_be_edited(state, level) || same(state))
+    }
+
+    /// Equal labels and registers, and equal state records apart from command numbers.
+    fn has_records_of(&self, other: &Table) -> bool {
         let records = |table: &Table| -> Vec<State> {
             let states = table.states.iter();
             states
@@ -61,11 +74,9 @@ impl Table {
                 })
                 .collect()
         };
-        let same = |state| self.body(state) == other.body(state);
         self.rows == other.rows
             && self.registers == other.registers
             && records(self) == records(other)
-            && (0..self.states.len()).all(|state| self.may_be_edited(state, level) || same(state))
     }
 
     fn node(&self, family: Family, number: u16) -> Node {
