@@ -27,6 +27,11 @@
 //      `  journal`.
 //  14  the image is pruned into an area of a bytes, at most 25,653, each of which is b % 256 before.
 //      Printed as `prune A: NUMBER PLACE COUNT`, then a line `  out` with the area's bytes.
+//  15  the image is filed into an area of a bytes, at most 25,653, each of which is b % 256 before.
+//      Printed as `file A: NUMBER PLACE COUNT`, then a line `  out` with the area's bytes.
+//  16  a second image: a bytes follow, at most 25,653. The earlier of the image and of it is printed
+//      as `earlier: SECOND LENGTH`, 1 where a part of the second is handed back, else 0, and the
+//      length of the part.
 //
 // Numbers that a kind does not use are not looked at. The areas are two lines, `  registers` and
 // `  targets`, each with its bytes as numbers. Before the first record that brings them, the image,
@@ -34,6 +39,7 @@
 // long or of another kind is printed as `bad record` and is the last. So is record 65,536. Behind a
 // write that failed the program writes one line to standard error, and ends. A function that writes
 // answers whether all of it was written.
+mod file_records;
 mod gate_records;
 mod journal_records;
 mod prune_records;
@@ -363,6 +369,8 @@ fn followed(
         7 | 8 | 9 | 10 => gate_records::followed(table, flipflops, kind, a, lent),
         11 | 12 | 13 => journal_records::followed(image, registers, targets, journal, head, lent),
         14 => prune_records::pruned(image, a, (head.b % 256) as u8, lent),
+        15 => file_records::filed(image, a, (head.b % 256) as u8, lent),
+        16 => file_records::compared(image, a, lent),
         _ => bad(),
     }
 }
