@@ -1,6 +1,7 @@
 //! What the commands read and write: files, and standard output.
 
-use caisson_tools::{assemble_placed, explain, gates, library};
+use crate::beside::load_named;
+use caisson_tools::{assemble_placed, explain, gates, library, Names};
 use std::io::Write;
 use std::os::unix::fs::MetadataExt;
 use std::path::PathBuf;
@@ -14,9 +15,15 @@ pub const TEXT: &str = ".caisson";
 pub const NO_DESIGN: &str =
     "is a gate table; only a design can be raised, pruned, filed, upgraded or compared";
 
-/// The image of an accepted design, or the words of the library's refusal.
-pub fn judged(path: &str) -> Result<Result<Vec<u8>, String>, String> {
-    let (image, answer, words) = if path.ends_with(TEXT) {
+/// An accepted design, with its names where they are known.
+pub struct Accepted {
+    pub image: Vec<u8>,
+    pub names: Option<Names>,
+}
+
+/// The design, or the words of the library's refusal.
+pub fn judged(path: &str) -> Result<Result<Accepted, String>, String> {
+    let (image, names, answer, words) = if path.ends_with(TEXT) {
         let text = load_text(path)?;
         if gates::is_text(&text) {
             return Err(format!("{path}: {NO_DESIGN}"));
@@ -25,15 +32,16 @@ pub fn judged(path: &str) -> Result<Result<Vec<u8>, String>, String> {
             assemble_placed(&text).map_err(|fault| format!("{path}: {fault}"))?;
         let answer = library::check(&image);
         let words = explain::explain_text(&text, &image, &positions, answer);
-        (image, answer, words)
+        (image, Some(positions.into_names()), answer, words)
     } else {
-        let image = load_design(path)?;
+        let (image, names) = load_named(path)?;
+        let names = names.as_ref().map(Names::of_file);
         let answer = library::check(&image);
-        let words = explain::explain(&image, answer);
-        (image, answer, words)
+        let words = explain::explain_named(&image, names.as_ref(), answer);
+        (image, names, answer, words)
     };
     match answer.number {
-        0 => Ok(Ok(image)),
+        0 => Ok(Ok(Accepted { image, names })),
         _ => Ok(Err(format!("{path}: {words}"))),
     }
 }

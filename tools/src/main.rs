@@ -1,17 +1,24 @@
 //! caisson: designs as source text, for the table format of document 01; and gate tables, of document 02.
 
+mod beside;
 mod files;
+mod level;
 mod shelf;
 
-use caisson_tools::compare::compare;
+use beside::{keeps, load_named, load_names, load_names_as, write_both, write_table};
+use caisson_tools::compare::compare_named;
+use caisson_tools::gates::WireNames;
+use caisson_tools::names_file::NamesFile;
 use caisson_tools::old;
-use caisson_tools::prune::{prune_table, prune_text};
-use caisson_tools::raise::{raise_table, raise_text};
-use caisson_tools::{assemble, assemble_placed, explain, gates, library, print, read, Table};
+use caisson_tools::prune::{prune_named, prune_text};
+use caisson_tools::raise::{raise_named, raise_text};
+use caisson_tools::{assemble_named, assemble_placed, explain, gates, library};
+use caisson_tools::{print, print_named, read, Names, Table};
 use files::{judged, load, load_design, load_text, no_records, replace, same_file, show, status};
 use files::{NO_DESIGN, TEXT};
+use level::Level;
 use std::process::ExitCode;
-use std::{env, fs, thread};
+use std::{env, thread};
 
 const USAGE: &str = "usage: caisson assemble SOURCE TABLE
        caisson print TABLE
@@ -26,7 +33,7 @@ const USAGE: &str = "usage: caisson assemble SOURCE TABLE
        caisson sort FILE..
        caisson same ONE OTHER
        caisson upgrade OLD NEW
-       caisson compare OLD NEW [--level NUMBER]
+       caisson compare OLD NEW [--level LEVEL]
 OLD and NEW of compare, ONE and OTHER of same and each FILE of sort are a TABLE or a SOURCE.caisson";
 
 const NO_TEXT: &str = "a table is raised to a table; `caisson print` makes a text of that";
@@ -68,18 +75,17 @@ fn command() -> Result<ExitCode, String> {
         ["same", one, other] => shelf::same(one, other),
         ["upgrade", old, new] => upgrade_file(old, new),
         ["compare", old, new] => compare_files(old, new, None),
-        ["compare", old, new, "--level", level] => compare_files(old, new, Some(number(level)?)),
+        ["compare", old, new, "--level", level] => compare_files(old, new, Some(Level::of(level)?)),
         _ => Err(USAGE.to_string()),
     }
 }
 
 fn assemble_file(source: &str, table: &str) -> Result<ExitCode, String> {
     let text = load_text(source)?;
-    if same_file(source, table) {
-        return Err(format!("{table}: is the source itself, and would be lost"));
-    }
-    let image = assemble(&text).map_err(|fault| format!("{source}: {fault}"))?;
-    fs::write(table, image).map_err(|error| format!("{table}: {error}"))?;
+    keeps(source, table, "the source")?;
+    let (image, names) =
+        assemble_named(source, &text).map_err(|fault| format!("{source}: {fault}"))?;
+    write_both(table, &image, Some(&names))?;
     Ok(ExitCode::SUCCESS)
 }
 
@@ -87,26 +93,38 @@ fn print_file(table: &str) -> Result<ExitCode, String> {
     let image = load(table)?;
     if gates::is_table(&image) {
         let records = gates::read(&image).map_err(|why| no_records(table, &why))?;
-        show(&gates::print(&records))?;
+        let text = match load_names(table, &image)? {
+            Some(names) => gates::print_named(&records, &WireNames::of_file(&names)),
+            None => gates::print(&records),
+        };
+        show(&text)?;
         return Ok(ExitCode::SUCCESS);
     }
     if let Some(advice) = old::advice(&image) {
         return Err(format!("{table}: {advice}"));
     }
     let records = read(&image).map_err(|why| no_records(table, &why))?;
-    show(&print(&records))?;
+    let text = match load_names(table, &image)? {
+        Some(names) => print_named(&records, &Names::of_file(&names)),
+        None => print(&records),
+    };
+    show(&text)?;
     Ok(ExitCode::SUCCESS)
 }
 
 fn explain_table(table: &str) -> Result<ExitCode, String> {
     let image = load(table)?;
+    let names = load_names(table, &image)?;
     if gates::is_table(&image) {
+        let names = names.as_ref().map(WireNames::of_file);
         let answer = library::gates_check(&image);
-        show(&gates::explain::explain(&image, answer))?;
+        let words = gates::explain::explain_named(&image, names.as_ref(), answer);
+        show(&words)?;
         return Ok(status(answer));
     }
+    let names = names.as_ref().map(Names::of_file);
     let answer = library::check(&image);
-    show(&explain::explain(&image, answer))?;
+    show(&explain::explain_named(&image, names.as_ref(), answer))?;
     Ok(status(answer))
 }
 
@@ -128,51 +146,53 @@ fn explain_text(source: &str) -> Result<ExitCode, String> {
 
 /// Writes a text where both names are those of texts, else a table; nothing where the design is refused.
 fn raise_file(from: &str, to: &str) -> Result<ExitCode, String> {
-    if same_file(from, to) {
-        return Err(format!("{to}: is the design itself, and would be lost"));
-    }
-    let (raised, text) = if from.ends_with(TEXT) {
+    keeps(from, to, "the design")?;
+    let (raised, text, names) = if from.ends_with(TEXT) {
         let source = load_text(from)?;
         if gates::is_text(&source) {
             return Err(format!("{from}: {NO_DESIGN}"));
         }
-        raise_text(&source).map_err(|fault| format!("{from}: {fault}"))?
+        let (raised, text) = raise_text(&source).map_err(|fault| format!("{from}: {fault}"))?;
+        (raised, text, NamesFile::of_text(from, &source).ok())
     } else if to.ends_with(TEXT) {
         return Err(format!("{to}: {NO_TEXT}"));
     } else {
-        (raise_table(&load_design(from)?), String::new())
+        let (image, names) = load_named(from)?;
+        let known = names.as_ref().map(Names::of_file);
+        (raise_named(&image, known.as_ref()), String::new(), names)
     };
-    if raised.answer.number == 0 {
-        let bytes = match to.ends_with(TEXT) {
-            true => text.into_bytes(),
-            false => raised.image,
-        };
-        fs::write(to, bytes).map_err(|error| format!("{to}: {error}"))?;
+    let mut words = raised.words;
+    if raised.answer.number == 0 && to.ends_with(TEXT) {
+        replace(to, text.as_bytes()).map_err(|error| format!("{to}: {error}"))?;
+    } else if raised.answer.number == 0 {
+        words += &write_table(to, &raised.image, names.as_ref())?;
     }
-    show(&raised.words)?;
+    show(&words)?;
     Ok(status(raised.answer))
 }
 
 /// Writes a table; nothing where the design is refused, or where the tool has other words than the library.
 fn prune_file(from: &str, to: &str) -> Result<ExitCode, String> {
-    if same_file(from, to) {
-        return Err(format!("{to}: is the design itself, and would be lost"));
-    }
+    keeps(from, to, "the design")?;
     if to.ends_with(TEXT) {
         return Err(format!("{to}: {NO_PRUNED_TEXT}"));
     }
-    let pruned = if from.ends_with(TEXT) {
+    let (pruned, names) = if from.ends_with(TEXT) {
         let source = load_text(from)?;
         if gates::is_text(&source) {
             return Err(format!("{from}: {NO_DESIGN}"));
         }
-        prune_text(&source).map_err(|fault| format!("{from}: {fault}"))?
+        let pruned = prune_text(&source).map_err(|fault| format!("{from}: {fault}"))?;
+        (pruned, NamesFile::of_text(from, &source).ok())
     } else {
-        prune_table(&load_design(from)?)
+        let (image, names) = load_named(from)?;
+        let known = names.as_ref().map(Names::of_file);
+        (prune_named(&image, known.as_ref()), names)
     };
-    let words = pruned.words.map_err(|why| format!("{from}: {why}"))?;
+    let mut words = pruned.words.map_err(|why| format!("{from}: {why}"))?;
     if pruned.answer.number == 0 {
-        replace(to, &pruned.image).map_err(|error| format!("{to}: {error}"))?;
+        let names = names.map(|names| names.with_states(&pruned.stays));
+        words += &write_table(to, &pruned.image, names.as_ref())?;
     }
     show(&words)?;
     Ok(status(pruned.answer))
@@ -181,21 +201,20 @@ fn prune_file(from: &str, to: &str) -> Result<ExitCode, String> {
 /// The old table stays: a design that was made by hand may have no other copy.
 fn upgrade_file(old: &str, new: &str) -> Result<ExitCode, String> {
     let image = load_design(old)?;
-    if same_file(old, new) {
-        return Err(format!("{new}: is the old table itself, and would be lost"));
-    }
+    keeps(old, new, "the old table")?;
     let upgraded = old::upgrade(&image).map_err(|why| format!("{old}: {why}"))?;
-    fs::write(new, upgraded).map_err(|error| format!("{new}: {error}"))?;
+    let names = load_names_as(old, &image, &upgraded)?;
+    show(&write_table(new, &upgraded, names.as_ref())?)?;
     Ok(ExitCode::SUCCESS)
 }
 
 /// One file under two names is taken for a slip: nothing would change for anyone.
-fn compare_files(old: &str, new: &str, level: Option<usize>) -> Result<ExitCode, String> {
+fn compare_files(old: &str, new: &str, level: Option<Level>) -> Result<ExitCode, String> {
     if same_file(old, new) {
         return Err(format!("{new}: is the old design itself"));
     }
     let (before, after) = match (judged(old)?, judged(new)?) {
-        (Ok(before), Ok(after)) => (design(old, &before)?, design(new, &after)?),
+        (Ok(before), Ok(after)) => (before, after),
         (before, after) => {
             let refused = [before, after].into_iter().filter_map(Result::err);
             let refused = refused.collect::<Vec<String>>().join("\n");
@@ -203,8 +222,11 @@ fn compare_files(old: &str, new: &str, level: Option<usize>) -> Result<ExitCode,
             return Ok(ExitCode::from(1));
         }
     };
-    let level = level.map(|level| label(old, &before, level)).transpose()?;
-    let comparison = compare(&before, &after);
+    let (names, new_names) = (before.names.as_ref(), after.names.as_ref());
+    let (before, after) = (design(old, &before.image)?, design(new, &after.image)?);
+    let level = level.map(|level| level.label(old, &before, names));
+    let level = level.transpose()?;
+    let comparison = compare_named(&before, &after, [names, new_names]);
     let words = comparison.words(level);
     show(&format!(
         "Accepted: {old}, the old design, and {new}, the new one.\n{words}"
@@ -217,20 +239,4 @@ fn compare_files(old: &str, new: &str, level: Option<usize>) -> Result<ExitCode,
 
 fn design(path: &str, image: &[u8]) -> Result<Table, String> {
     read(image).map_err(|why| no_records(path, &why))
-}
-
-fn number(level: &str) -> Result<usize, String> {
-    let digits = level.bytes().all(|byte| byte.is_ascii_digit());
-    let number = level.parse().ok().filter(|_| digits);
-    number.ok_or_else(|| format!("--level {level}: a level is the number of a label"))
-}
-
-fn label(path: &str, design: &Table, level: usize) -> Result<u8, String> {
-    let last = design.rows.len() - 1;
-    match level <= last {
-        true => Ok(level as u8),
-        false => Err(format!(
-            "{path}: level {level} is no label: the design has labels 0 to {last}"
-        )),
-    }
 }

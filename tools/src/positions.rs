@@ -1,6 +1,7 @@
 //! Where each record of a table stands in the text that it was made from: a label, register or state
-//! at its name, a node where it begins.
+//! at its name, a node where it begins. And what the text calls them.
 
+use crate::names::Names;
 use crate::table::place::Place;
 use crate::text::fault::Position;
 use crate::text::tree::Design;
@@ -12,6 +13,7 @@ pub struct Positions {
     /// In the order of the numbers, which the nodes get later.
     pub(crate) commands: Vec<Position>,
     pub(crate) expressions: Vec<Position>,
+    pub(crate) names: Names,
 }
 
 impl Positions {
@@ -26,7 +28,13 @@ impl Positions {
             states: states.collect(),
             commands: Vec::new(),
             expressions: Vec::new(),
+            names: Names::of_text(design),
         }
+    }
+
+    /// What the text calls its labels, registers and states.
+    pub fn into_names(self) -> Names {
+        self.names
     }
 
     pub(crate) fn at(&self, place: Place) -> Position {

@@ -1,10 +1,10 @@
 //! The commands of request E12, for a library that files one design under several numberings.
 
-use crate::files::{
-    judged, load_design, load_text, replace, same_file, show, status, NO_DESIGN, TEXT,
-};
-use caisson_tools::filing::{difference, file_table, file_text, sorted};
-use caisson_tools::gates;
+use crate::beside::{keeps, load_named, write_table};
+use crate::files::{judged, load_text, show, status, NO_DESIGN, TEXT};
+use caisson_tools::filing::{difference_named, file_named, file_text, sorted};
+use caisson_tools::names_file::NamesFile;
+use caisson_tools::{gates, Names};
 use std::process::ExitCode;
 
 const NO_FILED_TEXT: &str = "a design is filed as a table; `caisson print` makes a text of that";
@@ -16,24 +16,25 @@ const DIFFERENT: u8 = 1;
 
 /// Writes a table; nothing where the design is refused, or where the tool comes to another form.
 pub fn file(from: &str, to: &str) -> Result<ExitCode, String> {
-    if same_file(from, to) {
-        return Err(format!("{to}: is the design itself, and would be lost"));
-    }
+    keeps(from, to, "the design")?;
     if to.ends_with(TEXT) {
         return Err(format!("{to}: {NO_FILED_TEXT}"));
     }
-    let filed = if from.ends_with(TEXT) {
+    let (filed, names) = if from.ends_with(TEXT) {
         let source = load_text(from)?;
         if gates::is_text(&source) {
             return Err(format!("{from}: {NO_DESIGN}"));
         }
-        file_text(&source).map_err(|fault| format!("{from}: {fault}"))?
+        let filed = file_text(&source).map_err(|fault| format!("{from}: {fault}"))?;
+        (filed, NamesFile::of_text(from, &source).ok())
     } else {
-        file_table(&load_design(from)?)
+        let (image, names) = load_named(from)?;
+        let known = names.as_ref().map(Names::of_file);
+        (file_named(&image, known.as_ref()), names)
     };
-    let words = filed.words.map_err(|why| format!("{from}: {why}"))?;
+    let mut words = filed.words.map_err(|why| format!("{from}: {why}"))?;
     if filed.answer.number == 0 {
-        replace(to, &filed.image).map_err(|error| format!("{to}: {error}"))?;
+        words += &write_table(to, &filed.image, names.as_ref())?;
     }
     show(&words)?;
     Ok(status(filed.answer))
@@ -47,7 +48,7 @@ pub fn sort(files: &[&str]) -> Result<ExitCode, String> {
     let (mut images, mut refused) = (Vec::new(), Vec::new());
     for file in files {
         match judged(file)? {
-            Ok(image) => images.push(image),
+            Ok(design) => images.push(design.image),
             Err(words) => refused.push(words),
         }
     }
@@ -74,7 +75,9 @@ pub fn same(one: &str, other: &str) -> Result<ExitCode, String> {
             return Err(format!("{refused}\nOnly accepted designs are compared."));
         }
     };
-    let found = difference(&first, &second).map_err(|why| format!("{one}, {other}: {why}"))?;
+    let names = [first.names.as_ref(), second.names.as_ref()];
+    let found = difference_named(&first.image, &second.image, names);
+    let found = found.map_err(|why| format!("{one}, {other}: {why}"))?;
     match found {
         None => {
             show(&format!(

@@ -1,5 +1,6 @@
 //! The levels for which nothing changes, and what stands in the way of the others.
 
+use super::sides::Sides;
 use crate::table::parameters::of_label;
 use crate::table::Table;
 
@@ -35,8 +36,11 @@ impl InTheWay {
         self.seen.is_empty() && self.bound.is_empty()
     }
 
-    pub fn words(&self) -> String {
-        let seen = match &self.seen[..] {
+    pub fn words(&self, sides: &Sides) -> String {
+        let state = |&state: &usize| sides.state(state);
+        let [seen, bound] = [&self.seen, &self.bound]
+            .map(|states| states.iter().map(state).collect::<Vec<String>>());
+        let seen = match &seen[..] {
             [] => None,
             [one] => Some(format!(
                 "State {one} has another body, and its label is at or below it."
@@ -46,7 +50,7 @@ impl InTheWay {
                 listed(many)
             )),
         };
-        let bound = match &self.bound[..] {
+        let bound = match &bound[..] {
             [] => None,
             [one] => Some(format!(
                 "State {one} has another body, and its label is that of a parameter: \
@@ -64,9 +68,8 @@ impl InTheWay {
 }
 
 /// Of two or more.
-fn listed(states: &[usize]) -> String {
-    let numbers: Vec<String> = states.iter().map(usize::to_string).collect();
-    let (last, first) = numbers.split_last().expect("a state");
+fn listed(states: &[String]) -> String {
+    let (last, first) = states.split_last().expect("a state");
     format!("{} and {last}", first.join(", "))
 }
 

@@ -3,13 +3,15 @@
 mod bodies;
 mod levels;
 mod records;
+mod sides;
 
+use crate::names::Names;
 use crate::table::Table;
 use levels::InTheWay;
+use sides::{Side, Sides};
 
 pub struct Comparison<'a> {
-    old: &'a Table,
-    new: &'a Table,
+    sides: Sides<'a>,
     /// What differs in labels, registers and state records apart from command numbers, a line each.
     records: Vec<String>,
     /// The states whose bodies differ, of those that both designs have.
@@ -18,10 +20,23 @@ pub struct Comparison<'a> {
 
 /// Of designs that the library has accepted.
 pub fn compare<'a>(old: &'a Table, new: &'a Table) -> Comparison<'a> {
+    compare_named(old, new, [None, None])
+}
+
+/// With the names of the old design and of the new one, where they are known. They do not count.
+pub fn compare_named<'a>(
+    old: &'a Table,
+    new: &'a Table,
+    names: [Option<&'a Names>; 2],
+) -> Comparison<'a> {
+    let side = |table, names| Side { table, names };
+    let sides = Sides {
+        old: side(old, names[0]),
+        new: side(new, names[1]),
+    };
     Comparison {
-        old,
-        new,
-        records: records::differences(old, new),
+        sides,
+        records: records::differences(&sides),
         bodies: bodies::differing(old, new),
     }
 }
@@ -33,13 +48,13 @@ impl Comparison<'_> {
     }
 
     fn in_the_way(&self, level: u8) -> InTheWay {
-        InTheWay::of(self.old, &self.bodies, level)
+        InTheWay::of(self.sides.old.table, &self.bodies, level)
     }
 
     /// In what the designs differ first, as one goes through the records and then the bodies; none where they are
     /// the same apart from node numbers.
     pub fn first(&self) -> Option<String> {
-        let body = |state: &usize| format!("the body of state {state}");
+        let body = |&state: &usize| format!("the body of state {}", self.sides.state(state));
         let record = self.records.first().cloned();
         record.or_else(|| self.bodies.first().map(body))
     }
@@ -48,14 +63,17 @@ impl Comparison<'_> {
     pub fn words(&self, level: Option<u8>) -> String {
         let levels = match level {
             Some(level) => vec![level],
-            None => (0..self.old.rows.len() as u8).collect(),
+            None => (0..self.sides.old.table.rows.len() as u8).collect(),
         };
         let [records, bodies] = [self.records_said(), self.bodies_said()];
         let said = match (self.records.is_empty(), level) {
             (false, None) => self.level_said("Every level", 0),
             _ => levels
                 .iter()
-                .map(|&level| self.level_said(&format!("Level {level}"), level))
+                .map(|&level| {
+                    let name = format!("Level {}", self.sides.label(level.into()));
+                    self.level_said(&name, level)
+                })
                 .collect(),
         };
         let meaning = levels::meaning(levels.iter().map(|&level| self.unchanged(level)));
@@ -74,15 +92,16 @@ impl Comparison<'_> {
 
     fn bodies_said(&self) -> String {
         if self.bodies.is_empty() {
-            let both = match self.old.states.len() == self.new.states.len() {
+            let [old, new] = [self.sides.old, self.sides.new].map(|side| side.table.states.len());
+            let both = match old == new {
                 true => "",
                 false => " that both designs have",
             };
             return format!("Bodies are the same in every state{both}, apart from node numbers.\n");
         }
         let bodies = self.bodies.iter().map(|&state| {
-            let label = records::label_said(&self.old.states[state], &self.new.states[state]);
-            format!("state {state}, {label}")
+            let label = records::label_said(&self.sides, state);
+            format!("state {}, {label}", self.sides.state(state))
         });
         format!(
             "Apart from node numbers, bodies differ in:\n{}",
@@ -96,7 +115,7 @@ impl Comparison<'_> {
             return format!("{name}: nothing changes.\n");
         }
         let why = match self.records.is_empty() {
-            true => self.in_the_way(level).words(),
+            true => self.in_the_way(level).words(&self.sides),
             false => levels::RECORDS.to_string(),
         };
         format!("{name}: the theorem says nothing. {why}\n")

@@ -4,13 +4,13 @@
 
 use super::level::{fault, of_state};
 use super::shape::holds;
+use crate::named::Named;
 use crate::table::node::Command;
-use crate::table::Table;
 
-pub fn reasons(table: &Table, child: usize) -> String {
+pub fn reasons(table: &Named, child: usize) -> String {
     let parent = table.states[child].parent;
     let falls = falls(table, table.states[usize::from(parent)].command).join(", ");
-    let scope = table.scope(child);
+    let scope = table.in_scope(child);
     let parent = of_state(table, parent, &scope);
     let child = of_state(table, child as u8, &scope);
     let choice = fault(table, &scope, parent.level, child.level).unwrap_or_default();
@@ -23,7 +23,7 @@ pub fn reasons(table: &Table, child: usize) -> String {
 }
 
 /// The falls in a body, in the order of their numbers.
-fn falls(table: &Table, body: u16) -> Vec<String> {
+fn falls(table: &Named, body: u16) -> Vec<String> {
     let commands = table.commands.iter().enumerate();
     commands
         .filter(|&(_, node)| Command::of(*node) == Some(Command::Fall))

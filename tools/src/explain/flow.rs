@@ -3,10 +3,10 @@
 //! table has kept all rules before.
 
 use super::level::{self, of_goto, of_operand, of_state, Labelled};
+use crate::named::{Named, Parameter};
 use crate::table::node::{Command, Expression};
-use crate::table::{Bounds, Table};
 
-pub fn reasons(table: &Table, number: usize) -> String {
+pub fn reasons(table: &Named, number: usize) -> String {
     let Some(flow) = flow(table, number as u16) else {
         return String::new();
     };
@@ -27,14 +27,14 @@ pub fn reasons(table: &Table, number: usize) -> String {
 /// What flows at a command, and to where.
 struct Flow {
     /// The parameters in scope.
-    scope: Vec<Bounds>,
+    scope: Vec<Parameter>,
     sources: Vec<Labelled>,
     target: Labelled,
 }
 
-fn flow(table: &Table, number: u16) -> Option<Flow> {
+fn flow(table: &Named, number: u16) -> Option<Flow> {
     for (state, record) in table.states.iter().enumerate() {
-        let scope = table.scope(state);
+        let scope = table.in_scope(state);
         let mut sources = vec![of_state(table, state as u8, &scope)];
         if !context(table, record.command, number, &scope, &mut sources) {
             continue;
@@ -58,10 +58,10 @@ fn flow(table: &Table, number: u16) -> Option<Flow> {
 
 /// Adds what the conditions on the way from one command to another read, if there is a way.
 fn context(
-    table: &Table,
+    table: &Named,
     from: u16,
     to: u16,
-    scope: &[Bounds],
+    scope: &[Parameter],
     sources: &mut Vec<Labelled>,
 ) -> bool {
     if from == to {
@@ -89,7 +89,7 @@ fn context(
     }
 }
 
-fn reads(table: &Table, number: u16, scope: &[Bounds], sources: &mut Vec<Labelled>) {
+fn reads(table: &Named, number: u16, scope: &[Parameter], sources: &mut Vec<Labelled>) {
     match Expression::of(table.expressions[usize::from(number)]) {
         Some(Expression::Register(byte)) => sources.push(of_operand(table, byte.into(), scope)),
         Some(Expression::Operation(_, left, right)) => {

@@ -1,10 +1,10 @@
 //! Why the label rows are no lattice, at the label that is charged: every rule that fails with it
 //! first.
 
+use crate::named::Named;
 use crate::print::records::label_name;
-use crate::table::Table;
 
-pub fn reasons(table: &Table, label: usize) -> String {
+pub fn reasons(table: &Named, label: usize) -> String {
     let rows = Rows(table);
     let mut reasons = rows.out_of_range(label);
     if !rows.flows(label, label) {
@@ -19,7 +19,7 @@ pub fn reasons(table: &Table, label: usize) -> String {
         .collect()
 }
 
-struct Rows<'a>(&'a Table);
+struct Rows<'a>(&'a Named<'a>);
 
 impl Rows<'_> {
     fn labels(&self) -> std::ops::Range<usize> {

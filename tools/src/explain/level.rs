@@ -1,8 +1,9 @@
 //! What flows: a register, a parameter or a state with its label, which may be a parameter's and so is any
 //! label within its bounds.
 
+use crate::named::{Named, Parameter};
 use crate::print::records::{bounds, label_name, operand_name, parameter_name, state_name};
-use crate::table::{parameters, Bounds, Table};
+use crate::table::parameters;
 
 #[derive(Clone, Copy)]
 pub enum Level {
@@ -26,28 +27,28 @@ impl Labelled {
 }
 
 /// What a byte names in the place of a register.
-pub fn of_operand(table: &Table, byte: u16, scope: &[Bounds]) -> Labelled {
+pub fn of_operand(table: &Named, byte: u16, scope: &[Parameter]) -> Labelled {
     let (level, label) = match parameters::of_register(byte) {
-        Some(number) => (Level::Parameter(number), bounds(table, scope[number])),
+        Some(number) => (
+            Level::Parameter(number),
+            bounds(table, scope[number].bounds),
+        ),
         None => {
             let label = table.registers[usize::from(byte)].label;
             (Level::Label(label), label_name(table, label.into()))
         }
     };
     Labelled {
-        name: operand_name(table, byte, scope.len()),
+        name: operand_name(table, byte, scope),
         level,
         label,
     }
 }
 
-pub fn of_state(table: &Table, state: u8, scope: &[Bounds]) -> Labelled {
+pub fn of_state(table: &Named, state: u8, scope: &[Parameter]) -> Labelled {
     let label = table.states[usize::from(state)].label;
     let (level, label) = match parameters::of_label(label) {
-        Some(number) => (
-            Level::Parameter(number),
-            parameter_name(number, scope.len()),
-        ),
+        Some(number) => (Level::Parameter(number), parameter_name(scope, number)),
         None => (Level::Label(label), label_name(table, label.into())),
     };
     Labelled {
@@ -58,7 +59,7 @@ pub fn of_state(table: &Table, state: u8, scope: &[Bounds]) -> Labelled {
 }
 
 /// The state that a goto names. Where its label is its own parameter's, it is that of the argument.
-pub fn of_goto(table: &Table, state: u8, arguments: [u16; 2], scope: &[Bounds]) -> Labelled {
+pub fn of_goto(table: &Named, state: u8, arguments: [u16; 2], scope: &[Parameter]) -> Labelled {
     let number = usize::from(state);
     let inherited = table.inherited(number).len();
     let own = parameters::of_label(table.states[number].label)
@@ -83,14 +84,15 @@ pub fn of_goto(table: &Table, state: u8, arguments: [u16; 2], scope: &[Bounds]) 
 
 /// None where the one flows to the other for every choice of labels within the bounds in scope. Else a
 /// choice for which it does not, in words.
-pub fn fault(table: &Table, scope: &[Bounds], from: Level, to: Level) -> Option<String> {
+pub fn fault(table: &Named, scope: &[Parameter], from: Level, to: Level) -> Option<String> {
+    let bound = |number: usize, label: u8| (label, Some((number, label)));
     let highest = |level: Level| match level {
         Level::Label(label) => (label, None),
-        Level::Parameter(number) => (scope[number].upper, Some((number, scope[number].upper))),
+        Level::Parameter(number) => bound(number, scope[number].bounds.upper),
     };
     let lowest = |level: Level| match level {
         Level::Label(label) => (label, None),
-        Level::Parameter(number) => (scope[number].lower, Some((number, scope[number].lower))),
+        Level::Parameter(number) => bound(number, scope[number].bounds.lower),
     };
     if let (Level::Parameter(one), Level::Parameter(other)) = (from, to) {
         if one == other {
@@ -110,7 +112,7 @@ pub fn fault(table: &Table, scope: &[Bounds], from: Level, to: Level) -> Option<
     }
 }
 
-pub fn choice(table: &Table, scope: &[Bounds], number: usize, label: u8) -> String {
-    let name = parameter_name(number, scope.len());
+pub fn choice(table: &Named, scope: &[Parameter], number: usize, label: u8) -> String {
+    let name = parameter_name(scope, number);
     format!("{name} is {}", label_name(table, label.into()))
 }

@@ -14,13 +14,20 @@ pub(crate) mod source;
 mod uses;
 
 use crate::library::Answer;
+use crate::named::Named;
+use crate::names::Names;
 use crate::positions::Positions;
 use crate::table::old;
 use crate::table::read::read;
 
 /// The verdict on a table.
 pub fn explain(image: &[u8], answer: Answer) -> String {
-    let words = verdict(image, answer);
+    explain_named(image, None, answer)
+}
+
+/// With the names of the table, where they are known.
+pub fn explain_named(image: &[u8], names: Option<&Names>, answer: Answer) -> String {
+    let words = verdict(image, names, answer);
     match old::advice(image) {
         Some(advice) => format!("{words}\nIt {advice}.\n"),
         None => words,
@@ -29,20 +36,24 @@ pub fn explain(image: &[u8], answer: Answer) -> String {
 
 /// The verdict on the table of a text, with the line of the text that has what stands at the place.
 pub fn explain_text(text: &str, image: &[u8], positions: &Positions, answer: Answer) -> String {
-    let words = verdict(image, answer);
-    let place = read(image).map(|table| rules::place(&table, answer.number, answer.place));
+    let names = &positions.names;
+    let words = verdict(image, Some(names), answer);
+    let place = read(image).map(|table| {
+        let table = &table;
+        rules::place(&Named { table, names }, answer.number, answer.place)
+    });
     match place {
         Ok(Some(place)) => format!("{words}\n{}", source::line(text, positions.at(place))),
         _ => words,
     }
 }
 
-fn verdict(image: &[u8], answer: Answer) -> String {
+fn verdict(image: &[u8], names: Option<&Names>, answer: Answer) -> String {
     let Answer { number, place, .. } = answer;
     if number == 0 {
         return "accepted\n".to_string();
     }
     let rule = rules::rule(number);
-    let described = place::describe(image, number, place);
+    let described = place::describe(image, names, number, place);
     format!("refused by {number} at place {place}\n\n{rule}\n\n{described}")
 }

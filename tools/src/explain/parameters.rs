@@ -3,23 +3,22 @@
 
 use super::level::choice;
 use super::place::{home_of_command, home_of_expression};
-use crate::print::records::{
-    bounds, label_name, parameter_name, register_name, state_head, state_name,
-};
+use crate::named::{Named, Parameter};
+use crate::print::records::{bounds, label_name, register_name, state_head, state_name};
 use crate::table::limits::PARAMETERS;
 use crate::table::node::{Command, Expression};
-use crate::table::{parameters, Bounds, Table};
+use crate::table::{parameters, Bounds};
 
 /// Whether the record of some state is at fault. Then the place is the lowest such state's, else a node's.
-pub fn of_states(table: &Table) -> bool {
+pub fn of_states(table: &Named) -> bool {
     (0..table.states.len()).any(|state| !state_reasons(table, state).is_empty())
 }
 
-pub fn of_state(table: &Table, state: usize) -> String {
+pub fn of_state(table: &Named, state: usize) -> String {
     lines(state_reasons(table, state))
 }
 
-pub fn of_command(table: &Table, number: usize) -> String {
+pub fn of_command(table: &Named, number: usize) -> String {
     let scope = scope(table, home_of_command(table, number));
     match Command::of(table.commands[number]) {
         Some(Command::Assign { register, .. }) => lines(out_of_scope(register.into(), &scope)),
@@ -30,7 +29,7 @@ pub fn of_command(table: &Table, number: usize) -> String {
     }
 }
 
-pub fn of_expression(table: &Table, number: usize) -> String {
+pub fn of_expression(table: &Named, number: usize) -> String {
     let scope = scope(table, home_of_expression(table, number));
     match Expression::of(table.expressions[number]) {
         Some(Expression::Register(byte)) => lines(out_of_scope(byte.into(), &scope)),
@@ -39,7 +38,7 @@ pub fn of_expression(table: &Table, number: usize) -> String {
 }
 
 /// The states that have parameters, each with its declaration.
-pub fn holders(table: &Table) -> String {
+pub fn holders(table: &Named) -> String {
     let states = (0..table.states.len()).filter(|&state| table.states[state].count > 0);
     let heads = states.map(|state| format!("    {}\n", state_head(table, state)));
     format!("States with parameters:\n{}", heads.collect::<String>())
@@ -52,12 +51,12 @@ fn lines(reasons: Vec<String>) -> String {
         .collect()
 }
 
-fn scope(table: &Table, home: Option<usize>) -> Vec<Bounds> {
-    home.map_or(Vec::new(), |state| table.scope(state))
+fn scope(table: &Named, home: Option<usize>) -> Vec<Parameter> {
+    home.map_or(Vec::new(), |state| table.in_scope(state))
 }
 
 /// Each rule that the record of a state breaks.
-fn state_reasons(table: &Table, state: usize) -> Vec<String> {
+fn state_reasons(table: &Named, state: usize) -> Vec<String> {
     let record = &table.states[state];
     let count = usize::from(record.count);
     let name = state_name(table, state as u8);
@@ -85,7 +84,7 @@ fn state_reasons(table: &Table, state: usize) -> Vec<String> {
         ));
     }
     for (number, pair) in record.bounds.iter().enumerate() {
-        reasons.extend(pair_reasons(table, inherited, number, *pair, count));
+        reasons.extend(pair_reasons(table, state, number, *pair));
     }
     if let Some(number) = parameters::of_label(record.label) {
         if number >= table.scope(state).len() {
@@ -98,14 +97,8 @@ fn state_reasons(table: &Table, state: usize) -> Vec<String> {
     reasons
 }
 
-fn pair_reasons(
-    table: &Table,
-    inherited: usize,
-    number: usize,
-    pair: Bounds,
-    count: usize,
-) -> Vec<String> {
-    if number >= count {
+fn pair_reasons(table: &Named, state: usize, number: usize, pair: Bounds) -> Vec<String> {
+    let Some(name) = table.names.parameters(state).get(number) else {
         let Bounds { lower, upper } = pair;
         return match pair == Bounds::default() {
             true => Vec::new(),
@@ -113,8 +106,7 @@ fn pair_reasons(
                 "bounds {lower} and {upper} of no parameter: what is not used is 0"
             )],
         };
-    }
-    let name = parameter_name(inherited + number, usize::MAX);
+    };
     let labels = table.rows.len();
     let none: Vec<String> = [pair.lower, pair.upper]
         .into_iter()
@@ -133,7 +125,7 @@ fn pair_reasons(
     none
 }
 
-fn out_of_scope(byte: u16, scope: &[Bounds]) -> Vec<String> {
+fn out_of_scope(byte: u16, scope: &[Parameter]) -> Vec<String> {
     match parameters::of_register(byte) {
         Some(number) if number >= scope.len() => vec![format!(
             "{byte} names parameter {number}, which is not in scope"
@@ -143,20 +135,19 @@ fn out_of_scope(byte: u16, scope: &[Bounds]) -> Vec<String> {
 }
 
 fn argument_reasons(
-    table: &Table,
+    table: &Named,
     state: usize,
     arguments: [u16; PARAMETERS],
-    scope: &[Bounds],
+    scope: &[Parameter],
 ) -> Vec<String> {
     let record = &table.states[state];
     let name = state_name(table, state as u8);
-    let inherited = table.inherited(state).len();
+    let parameters = table.names.parameters(state);
     let mut reasons = Vec::new();
     for (field, argument) in arguments.into_iter().enumerate() {
         if field < record.parameters().len() {
             let given = record.bounds[field];
-            let parameter = parameter_name(inherited + field, usize::MAX);
-            let to = format!("{parameter} : {} of {name}", bounds(table, given));
+            let to = format!("{} : {} of {name}", parameters[field], bounds(table, given));
             reasons.extend(one_argument(table, argument, given, &to, scope));
         } else if argument != 0 {
             let field = ["a", "b"][field];
@@ -174,22 +165,25 @@ fn argument_reasons(
 
 /// Why an argument cannot be given to a parameter, which stands in words.
 fn one_argument(
-    table: &Table,
+    table: &Named,
     argument: u16,
     given: Bounds,
     to: &str,
-    scope: &[Bounds],
+    scope: &[Parameter],
 ) -> Vec<String> {
     let within = |label: u8| table.flows(given.lower, label) && table.flows(label, given.upper);
     if let Some(number) = parameters::of_register(argument) {
-        let Some(bounded) = scope.get(number) else {
+        let Some(Parameter {
+            name,
+            bounds: bounded,
+        }) = scope.get(number)
+        else {
             return out_of_scope(argument, scope);
         };
         // Within the bounds for every choice: both its own bounds are.
         let outside = [bounded.lower, bounded.upper]
             .into_iter()
             .find(|&label| !within(label));
-        let name = parameter_name(number, scope.len());
         let shown = bounds(table, *bounded);
         let reason = outside.map(|label| {
             let choice = choice(table, scope, number, label);

@@ -1,17 +1,23 @@
 //! What stands at the place of a refusal, in source form.
 
 use super::{children, flow, lattice, parameters, ports, registers, rules, shape, uses};
+use crate::named::Named;
+use crate::names::Names;
 use crate::print::body::{self, Reader};
 use crate::print::{layout, records};
 use crate::table::place::Place;
 use crate::table::read::{pairs, read};
-use crate::table::Table;
 
 /// With what a reader would look for next: other records, the uses, or why the rule fails.
-pub fn describe(image: &[u8], number: u32, place: usize) -> String {
+pub fn describe(image: &[u8], names: Option<&Names>, number: u32, place: usize) -> String {
     let table = match read(image) {
         Ok(table) => table,
         Err(why) => return directory(image, &why),
+    };
+    let numbers = Names::of_table(&table);
+    let table = Named {
+        table: &table,
+        names: names.unwrap_or(&numbers),
     };
     match rules::place(&table, number, place) {
         None if number == 20 => parameters::holders(&table),
@@ -69,41 +75,45 @@ fn directory(image: &[u8], why: &str) -> String {
 }
 
 /// With all the others, as most rules about labels are about two or three of them.
-fn label(table: &Table, label: usize) -> String {
+fn label(table: &Named, label: usize) -> String {
     let row = table.rows[label];
     let text = records::label(table, label);
     let all = (0..table.rows.len()).map(|other| records::label(table, other) + "\n");
     let all = indented(&all.collect::<String>());
     let why = lattice::reasons(table, label);
-    format!("Label {label}, row {row}:\n    {text}\n\nAll labels:\n{all}\n\nBecause:\n{why}")
+    let line = table.names.declared(Place::Label(label));
+    format!("Label {label}, row {row}{line}:\n    {text}\n\nAll labels:\n{all}\n\nBecause:\n{why}")
 }
 
-fn register(table: &Table, register: usize) -> String {
+fn register(table: &Named, register: usize) -> String {
     let text = records::register(table, register);
     let why = registers::reasons(table, register);
-    format!("Register {register}:\n    {text}\n\nBecause:\n{why}")
+    let line = table.names.declared(Place::Register(register));
+    format!("Register {register}{line}:\n    {text}\n\nBecause:\n{why}")
 }
 
 /// With its parent, whose number the rule compares with its own.
-fn state(table: &Table, state: usize) -> String {
+fn state(table: &Named, state: usize) -> String {
     let text = whole_state(table, state);
+    let line = table.names.declared(Place::State(state));
     let parent = usize::from(table.states[state].parent);
     if parent == state || parent >= table.states.len() {
-        return format!("State {state}:\n{text}\n");
+        return format!("State {state}{line}:\n{text}\n");
     }
     let parent_text = indented(&records::state_head(table, parent));
-    format!("State {state}:\n{text}\n\nIts parent:\n{parent_text}\n")
+    format!("State {state}{line}:\n{text}\n\nIts parent:\n{parent_text}\n")
 }
 
 /// With its parent, whose body shows the fall.
-fn child(table: &Table, child: usize) -> String {
+fn child(table: &Named, child: usize) -> String {
     let text = whole_state(table, child);
     let parent = whole_state(table, usize::from(table.states[child].parent));
     let why = children::reasons(table, child);
-    format!("State {child}:\n{text}\n\nIts parent:\n{parent}\n\nBecause:\n{why}")
+    let line = table.names.declared(Place::State(child));
+    format!("State {child}{line}:\n{text}\n\nIts parent:\n{parent}\n\nBecause:\n{why}")
 }
 
-pub fn command(table: &Table, number: usize) -> String {
+pub fn command(table: &Named, number: usize) -> String {
     let home = home_of_command(table, number);
     let text = layout::flat(&reader(table, home).command(number as u16));
     let bytes = body::bytes(table.commands[number]);
@@ -111,7 +121,7 @@ pub fn command(table: &Table, number: usize) -> String {
     format!("Command {number} (bytes {bytes}):\n    {text}\n\n{home}")
 }
 
-fn expression(table: &Table, number: usize) -> String {
+fn expression(table: &Named, number: usize) -> String {
     let home = home_of_expression(table, number);
     let text = reader(table, home).expression(number as u16).text;
     let bytes = body::bytes(table.expressions[number]);
@@ -120,15 +130,15 @@ fn expression(table: &Table, number: usize) -> String {
 }
 
 /// The first state whose body has shown the node.
-pub fn home_of_command(table: &Table, number: usize) -> Option<usize> {
+pub fn home_of_command(table: &Named, number: usize) -> Option<usize> {
     home(table, |reader| reader.has_command(number as u16))
 }
 
-pub fn home_of_expression(table: &Table, number: usize) -> Option<usize> {
+pub fn home_of_expression(table: &Named, number: usize) -> Option<usize> {
     home(table, |reader| reader.has_expression(number as u16))
 }
 
-fn home(table: &Table, shown: impl Fn(&Reader) -> bool) -> Option<usize> {
+fn home(table: &Named, shown: impl Fn(&Reader) -> bool) -> Option<usize> {
     (0..table.states.len()).find(|&state| {
         let mut reader = Reader::new(table);
         reader.command(table.states[state].command);
@@ -136,7 +146,7 @@ fn home(table: &Table, shown: impl Fn(&Reader) -> bool) -> Option<usize> {
     })
 }
 
-fn reader(table: &Table, home: Option<usize>) -> Reader<'_> {
+fn reader<'a>(table: &Named<'a>, home: Option<usize>) -> Reader<'a> {
     let mut reader = Reader::new(table);
     if let Some(state) = home {
         reader.enter(state);
@@ -144,17 +154,18 @@ fn reader(table: &Table, home: Option<usize>) -> Reader<'_> {
     reader
 }
 
-fn in_body(table: &Table, home: Option<usize>) -> String {
+fn in_body(table: &Named, home: Option<usize>) -> String {
     match home {
         Some(state) => format!(
-            "In the body of state {state}:\n{}\n",
+            "In the body of state {state}{}:\n{}\n",
+            table.names.declared(Place::State(state)),
             whole_state(table, state)
         ),
         None => "It is in the body of no state.\n".to_string(),
     }
 }
 
-fn whole_state(table: &Table, state: usize) -> String {
+fn whole_state(table: &Named, state: usize) -> String {
     indented(&records::state(table, state, &mut Reader::new(table)))
 }
 

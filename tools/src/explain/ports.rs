@@ -1,10 +1,11 @@
 //! Why an assignment or a goto is refused by 16: a register that it names is a port.
 
+use crate::named::Named;
 use crate::print::records::{register_name, state_name};
 use crate::table::node::Command;
-use crate::table::{Table, PORT};
+use crate::table::PORT;
 
-pub fn reasons(table: &Table, number: usize) -> String {
+pub fn reasons(table: &Named, number: usize) -> String {
     match Command::of(table.commands[number]) {
         Some(Command::Assign { register, .. }) => {
             format!("    {} is a port\n", register_name(table, register))
@@ -21,7 +22,7 @@ pub fn reasons(table: &Table, number: usize) -> String {
     }
 }
 
-fn port(table: &Table, argument: u16) -> Option<String> {
+fn port(table: &Named, argument: u16) -> Option<String> {
     let register = table.registers.get(usize::from(argument))?;
     (register.kind == PORT).then(|| register_name(table, argument as u8))
 }

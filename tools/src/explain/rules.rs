@@ -2,8 +2,8 @@
 //! worded once.
 
 use super::parameters;
+use crate::named::Named;
 use crate::table::place::Place;
-use crate::table::Table;
 
 const WORDS: &str = include_str!("../../../include/caisson_refusals.def");
 
@@ -18,7 +18,7 @@ pub fn rule(number: u32) -> String {
 /// What stands at the place of a refusal of an image. None where the place is the number of nothing, of a
 /// wire or a record of a trace, which no image has, or of what a port write or a replay was given. A parameter is
 /// refused in the record of a state, else at a node.
-pub fn place(table: &Table, number: u32, place: usize) -> Option<Place> {
+pub fn place(table: &Named, number: u32, place: usize) -> Option<Place> {
     match row(number)?.split(',').nth(3)?.trim() {
         "LABEL" => Some(Place::Label(place)),
         "REGISTER" => Some(Place::Register(place)),
@@ -51,6 +51,8 @@ fn strings(row: &str) -> Vec<String> {
 #[cfg(test)]
 mod tests {
     use super::*;
+    use crate::names::Names;
+    use crate::table::Table;
 
     #[test]
     fn every_row_has_words() {
@@ -77,7 +79,9 @@ mod tests {
 
     #[test]
     fn every_refusal_of_an_image_but_1_has_a_place() {
-        let place = |number, at| place(&Table::default(), number, at);
+        let table = &Table::default();
+        let names = &Names::of_table(table);
+        let place = |number, at| place(&Named { table, names }, number, at);
         for number in 2..=12 {
             let expected = match number {
                 2 => Place::Label(5),

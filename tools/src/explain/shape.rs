@@ -1,11 +1,11 @@
 //! Why a shape is refused, at the command that is charged. It serves refusal 8, where the table has
 //! kept rules 1 to 7.
 
+use crate::named::Named;
 use crate::print::records::state_name;
 use crate::table::node::Command;
-use crate::table::Table;
 
-pub fn reasons(table: &Table, number: usize) -> String {
+pub fn reasons(table: &Named, number: usize) -> String {
     let number = number as u16;
     let mut reasons = Vec::new();
     for state in 0..table.states.len() {
@@ -27,7 +27,7 @@ pub fn reasons(table: &Table, number: usize) -> String {
 }
 
 /// The rule of the command's own kind, if it breaks it in a state.
-fn rule(table: &Table, state: usize, number: u16) -> Option<String> {
+fn rule(table: &Named, state: usize, number: u16) -> Option<String> {
     let name = state_name(table, state as u8);
     match command(table, number)? {
         Command::Sequence { first, .. } if transfers(table, first) => {
@@ -44,7 +44,7 @@ fn rule(table: &Table, state: usize, number: u16) -> Option<String> {
     }
 }
 
-fn goto(table: &Table, from: usize, to: usize) -> Option<String> {
+fn goto(table: &Named, from: usize, to: usize) -> Option<String> {
     let (this, that) = (state_name(table, from as u8), state_name(table, to as u8));
     if from == 0 {
         return Some(format!("{this} is the root, which has no sibling"));
@@ -62,12 +62,12 @@ fn goto(table: &Table, from: usize, to: usize) -> Option<String> {
     })
 }
 
-fn has_child(table: &Table, state: usize) -> bool {
+fn has_child(table: &Named, state: usize) -> bool {
     let mut others = table.states.iter().skip(1);
     others.any(|other| usize::from(other.parent) == state)
 }
 
-fn transfers(table: &Table, number: u16) -> bool {
+fn transfers(table: &Named, number: u16) -> bool {
     match command(table, number) {
         Some(Command::Fall | Command::Goto { .. }) => true,
         Some(Command::Sequence { second, .. }) => transfers(table, second),
@@ -79,7 +79,7 @@ fn transfers(table: &Table, number: u16) -> bool {
 }
 
 /// Whether a command is another, or holds it.
-pub(super) fn holds(table: &Table, outer: u16, inner: u16) -> bool {
+pub(super) fn holds(table: &Named, outer: u16, inner: u16) -> bool {
     outer == inner
         || match command(table, outer) {
             Some(Command::Sequence { first, second }) => {
@@ -92,6 +92,6 @@ pub(super) fn holds(table: &Table, outer: u16, inner: u16) -> bool {
         }
 }
 
-fn command(table: &Table, number: u16) -> Option<Command> {
+fn command(table: &Named, number: u16) -> Option<Command> {
     Command::of(table.commands[usize::from(number)])
 }

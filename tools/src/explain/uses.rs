@@ -1,12 +1,13 @@
 //! What uses a node, for refusal 6: states, and nodes of which it is a part.
 
+use crate::named::Named;
 use crate::table::node::{Command, Expression};
-use crate::table::Table;
 
-pub fn of_command(table: &Table, number: u16) -> String {
+pub fn of_command(table: &Named, number: u16) -> String {
     let mut users = Vec::new();
     for (state, record) in table.states.iter().enumerate() {
-        add(&mut users, &[record.command], number, "state", state);
+        let name = table.names.numbered_state(state);
+        add(&mut users, &[record.command], number, "state", &name);
     }
     for (owner, node) in table.commands.iter().enumerate() {
         let parts = match Command::of(*node) {
@@ -16,12 +17,12 @@ pub fn of_command(table: &Table, number: u16) -> String {
             }) => vec![then, otherwise],
             _ => Vec::new(),
         };
-        add(&mut users, &parts, number, "command", owner);
+        add(&mut users, &parts, number, "command", &owner.to_string());
     }
     sentence(&users)
 }
 
-pub fn of_expression(table: &Table, number: u16) -> String {
+pub fn of_expression(table: &Named, number: u16) -> String {
     let mut users = Vec::new();
     for (owner, node) in table.commands.iter().enumerate() {
         let parts = match Command::of(*node) {
@@ -29,20 +30,20 @@ pub fn of_expression(table: &Table, number: u16) -> String {
             Some(Command::If { condition, .. }) => vec![condition],
             _ => Vec::new(),
         };
-        add(&mut users, &parts, number, "command", owner);
+        add(&mut users, &parts, number, "command", &owner.to_string());
     }
     for (owner, node) in table.expressions.iter().enumerate() {
         let parts = match Expression::of(*node) {
             Some(Expression::Operation(_, left, right)) => vec![left, right],
             _ => Vec::new(),
         };
-        add(&mut users, &parts, number, "expression", owner);
+        add(&mut users, &parts, number, "expression", &owner.to_string());
     }
     sentence(&users)
 }
 
 /// Names the user once for each part that is the node.
-fn add(users: &mut Vec<String>, parts: &[u16], number: u16, what: &str, user: usize) {
+fn add(users: &mut Vec<String>, parts: &[u16], number: u16, what: &str, user: &str) {
     let uses = parts.iter().filter(|&&part| part == number);
     users.extend(uses.map(|_| format!("{what} {user}")));
 }

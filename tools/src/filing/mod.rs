@@ -3,9 +3,10 @@
 
 mod order;
 
-use crate::compare::compare;
+use crate::compare::compare_named;
 use crate::explain;
 use crate::library::{self, Answer};
+use crate::names::Names;
 use crate::table::read::read;
 use crate::text::fault::Fault;
 use crate::{numbering, text};
@@ -22,10 +23,15 @@ pub struct Filed {
 }
 
 pub fn file_table(image: &[u8]) -> Filed {
+    file_named(image, None)
+}
+
+/// With the names of the table, where they are known.
+pub fn file_named(image: &[u8], names: Option<&Names>) -> Filed {
     let (answer, form) = by_library(image);
     let words = match answer.number {
         0 => words(image, &form),
-        _ => Ok(explain::explain(image, answer)),
+        _ => Ok(explain::explain_named(image, names, answer)),
     };
     Filed {
         answer,
@@ -111,9 +117,18 @@ const NOT_AGREED: &str =
 
 /// In what two accepted images differ first, apart from node numbers; none where they are the same design.
 pub fn difference(one: &[u8], other: &[u8]) -> Result<Option<String>, String> {
+    difference_named(one, other, [None, None])
+}
+
+/// With the names of either, where they are known.
+pub fn difference_named(
+    one: &[u8],
+    other: &[u8],
+    names: [Option<&Names>; 2],
+) -> Result<Option<String>, String> {
     let same = by_library(one).1 == by_library(other).1;
     let (one, other) = (read(one)?, read(other)?);
-    let first = compare(&one, &other).first();
+    let first = compare_named(&one, &other, names).first();
     match first.is_none() == same {
         true => Ok(first),
         false => Err(NOT_AGREED.to_string()),

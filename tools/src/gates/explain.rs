@@ -1,15 +1,21 @@
 //! A verdict on a gate table in words: the rule, the wire, and why the rule fails there.
 
 use super::bytes::SECTIONS;
-use super::print::{declaration, name};
+use super::names::WireNames;
+use super::print::declaration;
 use super::{read, GateTable, Wire, UNTRUSTED};
 use crate::explain::{rules, source};
 use crate::library::Answer;
 use crate::table::limits::GATES_COUNTS;
 use crate::table::read::pairs;
-use crate::text::fault::Position;
+use crate::text::tree::Name;
 
 pub fn explain(image: &[u8], answer: Answer) -> String {
+    explain_named(image, None, answer)
+}
+
+/// With the names of the wires, where they are known.
+pub fn explain_named(image: &[u8], names: Option<&WireNames>, answer: Answer) -> String {
     let Answer { number, place, .. } = answer;
     if number == 0 {
         return "accepted\n".to_string();
@@ -18,16 +24,19 @@ pub fn explain(image: &[u8], answer: Answer) -> String {
     let described = match read(image) {
         Err(why) => directory(image, &why),
         Ok(table) if number == 25 => directory(image, &count(&table)),
-        Ok(table) => wire(&table, place),
+        Ok(table) => {
+            let numbers = WireNames::of_table(&table);
+            wire(&table, names.unwrap_or(&numbers), place)
+        }
     };
     format!("refused by {number} at place {place}\n\n{rule}\n\n{described}")
 }
 
 /// With the line of the text that declares the wire.
-pub fn explain_text(text: &str, image: &[u8], wires: &[Position], answer: Answer) -> String {
-    let words = explain(image, answer);
+pub fn explain_text(text: &str, image: &[u8], wires: &[Name], answer: Answer) -> String {
+    let words = explain_named(image, Some(&WireNames::of_text(wires)), answer);
     match wires.get(answer.place) {
-        Some(at) if answer.number == 26 => format!("{words}\n{}", source::line(text, *at)),
+        Some(wire) if answer.number == 26 => format!("{words}\n{}", source::line(text, wire.at)),
         _ => words,
     }
 }
@@ -50,7 +59,7 @@ fn count(table: &GateTable) -> String {
     too_many.join("; ")
 }
 
-fn wire(table: &GateTable, number: usize) -> String {
+fn wire(table: &GateTable, names: &WireNames, number: usize) -> String {
     let kind = match table.wire(number) {
         Some(Wire::Input(_)) => "an input",
         Some(Wire::FlipFlop(_)) => "a flip-flop",
@@ -60,15 +69,16 @@ fn wire(table: &GateTable, number: usize) -> String {
     let bytes: Vec<String> = (table.record(number).iter())
         .map(|byte| byte.to_string())
         .collect();
-    let (bytes, text) = (bytes.join(" "), declaration(table, number));
-    let why: String = (reasons(table, number).iter())
+    let (bytes, text) = (bytes.join(" "), declaration(table, names, number));
+    let why: String = (reasons(table, names, number).iter())
         .map(|reason| format!("    {reason}\n"))
         .collect();
-    format!("Wire {number}, {kind} (bytes {bytes}):\n    {text}\n\nBecause:\n{why}")
+    let line = names.declared(number);
+    format!("Wire {number}, {kind}{line} (bytes {bytes}):\n    {text}\n\nBecause:\n{why}")
 }
 
 /// Each field of the wire's record that is out of its range.
-fn reasons(table: &GateTable, number: usize) -> Vec<String> {
+fn reasons(table: &GateTable, names: &WireNames, number: usize) -> Vec<String> {
     let mut reasons = Vec::new();
     let mut mark = |mark: u8| {
         if mark > UNTRUSTED {
@@ -97,7 +107,7 @@ fn reasons(table: &GateTable, number: usize) -> Vec<String> {
             let [first, second] = table.gates[gate];
             for (which, read) in [("first", first), ("second", second)] {
                 if usize::from(read) >= number {
-                    let name = name(table, read.into());
+                    let name = names.wire(read.into());
                     reasons.push(format!(
                         "its {which} wire {read}, {name}, is not lower than its own, {number}"
                     ));

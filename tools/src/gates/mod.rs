@@ -2,12 +2,14 @@
 
 mod bytes;
 pub mod explain;
+mod names;
 mod numbering;
 mod print;
 
 pub use bytes::read;
+pub use names::WireNames;
 pub use numbering::assemble_placed;
-pub use print::print;
+pub use print::{print, print_named};
 
 use crate::table::limits::GATES_DIRECTORY;
 use crate::text;

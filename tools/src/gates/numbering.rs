@@ -2,11 +2,12 @@
 
 use super::{FlipFlop, GateTable, TRUSTED, UNTRUSTED};
 use crate::numbering::Names;
-use crate::text::fault::{Fault, Position};
+use crate::text::fault::Fault;
+use crate::text::tree::Name;
 use crate::text::{self, gates::GateText};
 
-/// The bytes of a gate table's text, and where the name of each wire is declared in it.
-pub fn assemble_placed(source: &str) -> Result<(Vec<u8>, Vec<Position>), Fault> {
+/// The bytes of a gate table's text, and the name of each wire where it is declared.
+pub fn assemble_placed(source: &str) -> Result<(Vec<u8>, Vec<Name>), Fault> {
     let text = text::parse_gates(source)?;
     let inputs = text.inputs.iter().map(|input| &input.name);
     let flipflops = text.flipflops.iter().map(|flipflop| &flipflop.name);
@@ -17,7 +18,7 @@ pub fn assemble_placed(source: &str) -> Result<(Vec<u8>, Vec<Position>), Fault> 
     in_text.sort_by_key(|name| (name.at.line, name.at.column));
     Names::<u16>::new("wire", in_text.into_iter())?;
     let table = number(&text, &Names::new("wire", names())?)?;
-    Ok((table.image(), names().map(|name| name.at).collect()))
+    Ok((table.image(), names().cloned().collect()))
 }
 
 fn number(text: &GateText, wires: &Names<u16>) -> Result<GateTable, Fault> {

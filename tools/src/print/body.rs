@@ -2,10 +2,11 @@
 //! times, or as a part of itself.
 
 use super::records::{operand_name, state_name};
+use crate::named::{Named, Parameter};
 use crate::operator::TIGHTEST;
 use crate::table::limits::PARAMETERS;
 use crate::table::node::{Command, Expression};
-use crate::table::{Node, Table};
+use crate::table::{Bounds, Node};
 
 /// A command ready for layout: what may be broken into lines, and leaves of text.
 pub enum Body {
@@ -21,26 +22,30 @@ pub struct Written {
 }
 
 pub struct Reader<'a> {
-    table: &'a Table,
+    table: Named<'a>,
     commands: Vec<bool>,
     expressions: Vec<bool>,
-    /// How many parameters are in scope.
-    in_scope: usize,
+    in_scope: Vec<Parameter>,
 }
 
 impl<'a> Reader<'a> {
-    pub fn new(table: &'a Table) -> Reader<'a> {
+    pub fn new(table: &Named<'a>) -> Reader<'a> {
         Reader {
-            table,
+            table: *table,
             commands: vec![false; table.commands.len()],
             expressions: vec![false; table.expressions.len()],
-            in_scope: PARAMETERS,
+            in_scope: of_no_state(),
         }
     }
 
     /// What is read next is of the body of this state.
     pub fn enter(&mut self, state: usize) {
-        self.in_scope = self.table.scope(state).len();
+        self.in_scope = self.table.in_scope(state);
+    }
+
+    /// What is read next is of no state's body.
+    pub fn leave(&mut self) {
+        self.in_scope = of_no_state();
     }
 
     /// Whether the node was shown.
@@ -67,10 +72,13 @@ impl<'a> Reader<'a> {
             Some(Command::Fall) => Body::Leaf("fall".to_string()),
             Some(Command::Goto { state, arguments }) => {
                 let arguments = self.arguments(state, arguments);
-                Body::Leaf(format!("goto {}{arguments}", state_name(self.table, state)))
+                Body::Leaf(format!(
+                    "goto {}{arguments}",
+                    state_name(&self.table, state)
+                ))
             }
             Some(Command::Assign { register, value }) => {
-                let register = operand_name(self.table, register.into(), self.in_scope);
+                let register = operand_name(&self.table, register.into(), &self.in_scope);
                 let value = self.expression(value).text;
                 Body::Leaf(format!("{register} := {value}"))
             }
@@ -99,7 +107,7 @@ impl<'a> Reader<'a> {
         let shown: Vec<String> = (arguments.into_iter().enumerate())
             .filter(|&(field, argument)| field < used || argument != 0)
             .map(|(field, argument)| match field < used {
-                true => operand_name(self.table, argument, self.in_scope),
+                true => operand_name(&self.table, argument, &self.in_scope),
                 false => format!("[argument {argument}]"),
             })
             .collect();
@@ -130,7 +138,7 @@ impl<'a> Reader<'a> {
             }
             Some(Expression::Constant(value)) => Written::tight(value.to_string()),
             Some(Expression::Register(register)) => {
-                Written::tight(operand_name(self.table, register.into(), self.in_scope))
+                Written::tight(operand_name(&self.table, register.into(), &self.in_scope))
             }
             Some(Expression::Operation(operator, left, right)) => {
                 let signed = operator.signed_parts();
@@ -143,6 +151,15 @@ impl<'a> Reader<'a> {
             }
         }
     }
+}
+
+/// By their numbers alone.
+fn of_no_state() -> Vec<Parameter> {
+    let parameter = |number| Parameter {
+        name: format!("p{number}"),
+        bounds: Bounds::default(),
+    };
+    (0..PARAMETERS).map(parameter).collect()
 }
 
 impl Written {

@@ -5,10 +5,18 @@ pub mod body;
 pub mod layout;
 pub mod records;
 
+use crate::named::Named;
+use crate::names::Names;
 use crate::table::Table;
 use body::Reader;
 
 pub fn print(table: &Table) -> String {
+    print_named(table, &Names::of_table(table))
+}
+
+/// With these names in the place of letters and numbers.
+pub fn print_named(table: &Table, names: &Names) -> String {
+    let table = &Named { table, names };
     let mut text = String::new();
     for label in 0..table.rows.len() {
         text += &records::label(table, label);
@@ -42,8 +50,9 @@ fn part(text: &mut String) {
 }
 
 /// From the highest down, so that an owner stands before its parts and shows them with it.
-fn unused(table: &Table, mut reader: Reader) -> String {
+fn unused(table: &Named, mut reader: Reader) -> String {
     let mut text = String::new();
+    reader.leave();
     for number in (0..table.commands.len() as u16).rev() {
         if !reader.has_command(number) {
             let command = layout::flat(&reader.command(number));

@@ -18,18 +18,26 @@ pub struct Pruned {
     pub words: Result<String, String>,
     /// The pruned table; empty where it was refused.
     pub image: Vec<u8>,
+    /// Of each state of the design whether it stays; empty where it was refused.
+    pub stays: Vec<bool>,
 }
 
 pub fn prune_table(image: &[u8]) -> Pruned {
+    prune_named(image, None)
+}
+
+/// With the names of the table, where they are known.
+pub fn prune_named(image: &[u8], names: Option<&Names>) -> Pruned {
     let (answer, pruned) = by_library(image);
-    let words = match (answer.number, read(image)) {
-        (0, Ok(table)) => words(&table, &pruned, None),
-        _ => Ok(explain::explain(image, answer)),
+    let (words, stays) = match (answer.number, read(image)) {
+        (0, Ok(table)) => words(&table, &pruned, names),
+        _ => (Ok(explain::explain_named(image, names, answer)), Vec::new()),
     };
     Pruned {
         answer,
         words,
         image: pruned,
+        stays,
     }
 }
 
@@ -38,14 +46,18 @@ pub fn prune_text(source: &str) -> Result<Pruned, Fault> {
     let (table, positions) = numbering::number(&design)?;
     let image = table.image();
     let (answer, pruned) = by_library(&image);
-    let words = match answer.number {
+    let (words, stays) = match answer.number {
         0 => words(&table, &pruned, Some(&Names::of_text(&design))),
-        _ => Ok(explain::explain_text(source, &image, &positions, answer)),
+        _ => (
+            Ok(explain::explain_text(source, &image, &positions, answer)),
+            Vec::new(),
+        ),
     };
     Ok(Pruned {
         answer,
         words,
         image: pruned,
+        stays,
     })
 }
 
@@ -57,16 +69,27 @@ fn by_library(image: &[u8]) -> (Answer, Vec<u8>) {
     (answer, out)
 }
 
-/// Of an accepted design: what stays and what goes, and why. A text has names for its states.
-fn words(table: &Table, pruned: &[u8], names: Option<&Names>) -> Result<String, String> {
+/// Of an accepted design: what stays and what goes, and why.
+fn words(
+    table: &Table,
+    pruned: &[u8],
+    names: Option<&Names>,
+) -> (Result<String, String>, Vec<bool>) {
     let reached = Reached::of(table);
+    let stays = (0..table.states.len()).map(|state| reached.stays(state));
+    (told(table, &reached, pruned, names), stays.collect())
+}
+
+fn told(
+    table: &Table,
+    reached: &Reached,
+    pruned: &[u8],
+    names: Option<&Names>,
+) -> Result<String, String> {
     let result = read(pruned).ok();
-    let agreed = result.filter(|result| agree(table, &reached, result));
+    let agreed = result.filter(|result| agree(table, reached, result));
     let result = agreed.ok_or(OTHER_STATES)?;
-    let teller = Teller {
-        reached: &reached,
-        names,
-    };
+    let teller = Teller { reached, names };
     let (all, stay) = (table.states.len(), result.states.len());
     if stay == all {
         return Ok("nothing goes: every state is reached\n".to_string());
@@ -152,10 +175,10 @@ impl Teller<'_> {
         }
     }
 
-    /// The number, and in a text the name.
+    /// The number, and the name where it is known.
     fn called(&self, state: usize) -> String {
         match self.names {
-            Some(names) => format!("{state} ({})", names.state(state as u8)),
+            Some(names) => names.numbered_state(state),
             None => state.to_string(),
         }
     }
@@ -175,7 +198,7 @@ mod tests {
     }
 
     fn said(result: &Table) -> Result<String, String> {
-        words(&design(), &result.image(), None)
+        words(&design(), &result.image(), None).0
     }
 
     /// What no library gives that is proved: states, labels or registers that the tool would not have told of.
@@ -204,6 +227,6 @@ mod tests {
             assert_eq!(said(&wrong).unwrap_err(), OTHER_STATES);
         }
         let cut_short = &image[..image.len() - 1];
-        assert_eq!(words(&table, cut_short, None).unwrap_err(), OTHER_STATES);
+        assert_eq!(words(&table, cut_short, None).0.unwrap_err(), OTHER_STATES);
     }
 }

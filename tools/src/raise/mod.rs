@@ -25,13 +25,19 @@ pub struct Raised {
 }
 
 pub fn raise_table(image: &[u8]) -> Raised {
+    raise_named(image, None)
+}
+
+/// With the names of the table, where they are known.
+pub fn raise_named(image: &[u8], names: Option<&Names>) -> Raised {
     let (answer, raised) = by_library(image);
     let words = match (answer.number, read(image)) {
         (0 | 18, Ok(table)) => {
-            let names = Names::of_table(&table);
-            words(&table, &raised, &names, answer, &Source::Table)
+            let numbers = Names::of_table(&table);
+            let names = names.unwrap_or(&numbers);
+            words(&table, &raised, names, answer, &Source::Table)
         }
-        _ => explain::explain(image, answer),
+        _ => explain::explain_named(image, names, answer),
     };
     Raised {
         answer,

@@ -5,6 +5,7 @@ use super::chain::{chain, Begin};
 use super::flows::{flows, flows_to, raised, Flow, To};
 use crate::explain::{place, source};
 use crate::library;
+use crate::named::Named;
 use crate::names::Names;
 use crate::positions::Positions;
 use crate::print::body::Reader;
@@ -49,6 +50,13 @@ struct Teller<'a> {
 }
 
 impl Teller<'_> {
+    fn named(&self) -> Named<'_> {
+        Named {
+            table: self.given,
+            names: self.names,
+        }
+    }
+
     fn flow(&self, flow: &Flow) -> String {
         let To::State(target) = flow.to else {
             return String::new();
@@ -165,7 +173,7 @@ impl Teller<'_> {
     fn at(&self, flow: &Flow) -> String {
         match self.source {
             Source::Table => {
-                let text = layout::flat(&Reader::new(self.given).command(flow.command));
+                let text = layout::flat(&Reader::new(&self.named()).command(flow.command));
                 format!("command {}, `{text}`,", flow.command)
             }
             Source::Text(_, positions) => {
@@ -179,7 +187,7 @@ impl Teller<'_> {
     fn shown(&self, flow: &Flow) -> String {
         let number = usize::from(flow.command);
         match self.source {
-            Source::Table => place::command(self.given, number),
+            Source::Table => place::command(&self.named(), number),
             Source::Text(text, positions) => {
                 source::line(text, positions.at(Place::Command(number)))
             }

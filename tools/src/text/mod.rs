@@ -13,10 +13,11 @@ use fault::Fault;
 use gates::GateText;
 use lexer::Token;
 use parser::Parser;
+pub use parser::RESERVED;
 use tree::Design;
 
 pub fn parse(source: &str) -> Result<Design, Fault> {
-    Parser::new(lexer::tokens(source)?, parser::RESERVED).design()
+    Parser::new(lexer::tokens(source)?, RESERVED).design()
 }
 
 pub fn parse_gates(source: &str) -> Result<GateText, Fault> {

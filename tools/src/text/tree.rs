@@ -3,7 +3,7 @@
 use super::fault::Position;
 use crate::operator::Operator;
 
-#[derive(Debug)]
+#[derive(Clone, Debug)]
 pub struct Name {
     pub text: String,
     pub at: Position,

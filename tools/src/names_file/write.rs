@@ -1,0 +1,31 @@
+//! A names file as text.
+
+use super::{NamesFile, FIRST};
+use crate::sha256;
+
+impl NamesFile {
+    /// For the table of this image.
+    pub fn text(&self, image: &[u8]) -> String {
+        let counts = self.kinds.each_ref().map(Vec::len);
+        let counted: Vec<String> = (self.family.kinds().into_iter().zip(counts))
+            .map(|(kind, count)| format!("{kind}s {count}"))
+            .collect();
+        let (sum, counted) = (sha256::digits(image), counted.join(" "));
+        let mut text = format!("{FIRST}1 sha256 {sum} {counted}\n");
+        text += &format!("source {}\n", self.source);
+        let firsts = self.family.first_numbers(counts);
+        let kinds = self.family.kinds().into_iter().zip(firsts);
+        for ((kind, first), entries) in kinds.zip(&self.kinds) {
+            for (number, entry) in entries.iter().enumerate() {
+                let number = first + number;
+                text += &format!("{kind} {number} {} {}\n", entry.name, entry.line);
+            }
+        }
+        for (state, own) in self.parameters.iter().enumerate() {
+            for (index, entry) in own.iter().enumerate() {
+                text += &format!("parameter {state} {index} {} {}\n", entry.name, entry.line);
+            }
+        }
+        text
+    }
+}
