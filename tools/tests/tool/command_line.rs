@@ -75,8 +75,10 @@ fn assemble_keeps_its_source() {
 }
 
 #[test]
-fn print_gives_names() {
-    let output = caisson(&["print", "lease.table"]);
+fn print_gives_numbers() {
+    let table = format!("{}/unnamed.table", env!("CARGO_TARGET_TMPDIR"));
+    fs::write(&table, crate::common::bytes("designs/lease.table")).unwrap();
+    let output = caisson(&["print", &table]);
     assert_eq!(output.status.code(), Some(0));
     let expected = "label l0 -> l1\nlabel l1\n\nregister r0 : l0 = 3\nport r1 : l1 = 0\n\n\
                     state s0 : l0 { fall }\n\

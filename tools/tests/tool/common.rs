@@ -1,5 +1,6 @@
 //! What several tests need.
 
+use caisson_tools::{assemble_placed, explain, library};
 use std::fs;
 use std::path::PathBuf;
 use std::thread;
@@ -42,6 +43,15 @@ pub fn with_body(body: &str) -> String {
         "label low\nregister a : low = 0\nregister b : low = 0\nport c : low = 0\n\
          state root : low {{ fall }}\nstate s in root : low {{ {body} }}\n"
     )
+}
+
+/// What is said of a text: its verdict in its names, and its line.
+pub fn explained_text(source: &str) -> String {
+    let (image, positions) = assemble_placed(source).unwrap();
+    let answer = library::check(&image);
+    let shown = explain::explain_text(source, &image, &positions, answer);
+    assert!(answer.number == 0 || shown.contains("\nIn the text, line "));
+    shown
 }
 
 /// With the stack of the tool, for what nests deep.

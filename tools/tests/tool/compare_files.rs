@@ -41,9 +41,9 @@ fn texts_and_tables_are_compared() {
                  Labels, registers and state records are equal, apart from command numbers.\n"
             );
             assert!(out.starts_with(&head), "{out}");
-            assert!(
-                out.contains("\nLevel 0: nothing changes.\nLevel 1: the theorem says nothing. ")
-            );
+            assert!(out.contains(
+                "\nLevel 0 (low): nothing changes.\nLevel 1 (high): the theorem says nothing. "
+            ));
         }
     }
 }
@@ -70,6 +70,8 @@ fn a_level_has_its_status() {
         ("two_groups_edited.table", "0", 0),
         ("two_groups_edited.table", "1", 3),
         ("two_groups_edited.table", "01", 3),
+        ("two_groups_edited.table", "low", 0),
+        ("two_groups_edited.caisson", "high", 3),
         ("two_groups.caisson", "0", 0),
         ("two_groups.caisson", "1", 0),
         ("lease.table", "0", 3),
@@ -86,7 +88,10 @@ fn a_level_has_its_status() {
             0 => "nothing changes.\n",
             _ => "the theorem says nothing. ",
         };
-        let level: u8 = level.parse().unwrap();
+        let level = match level {
+            "0" | "low" => "0 (low)",
+            _ => "1 (high)",
+        };
         assert!(out.contains(&format!("\n\nLevel {level}: {said}")), "{out}");
         assert_eq!(out.matches("\nLevel ").count(), 1, "{out}");
     }
@@ -180,7 +185,8 @@ fn it_says_why_it_cannot() {
     let itself = |file: &str| format!("{file}: is the old design itself");
     let no_label =
         |level: &str| format!("{lease}: level {level} is no label: the design has labels 0 to 1");
-    let no_number = |level: &str| format!("--level {level}: a level is the number of a label");
+    let no_number =
+        |level: &str| format!("--level {level}: a level is the number or the name of a label");
     let [new, level] = ["two_groups.table", "--level"];
     for (arguments, words) in [
         (&["none.table", lease][..], missing.to_string()),
@@ -199,7 +205,18 @@ fn it_says_why_it_cannot() {
         (&[lease, new, level, "4294967296"], no_label("4294967296")),
         (&[lease, new, level, "-1"], no_number("-1")),
         (&[lease, new, level, "+1"], no_number("+1")),
-        (&[lease, new, level, "low"], no_number("low")),
+        (&[lease, new, level, "1x"], no_number("1x")),
+        (&[lease, new, level, "low-1"], no_number("low-1")),
+        (
+            &[lease, new, level, "middle"],
+            format!("{lease}: level middle is no label: the design has labels low, high"),
+        ),
+        (
+            &["diamond.table", new, level, "low"],
+            "diamond.table: level low is not known: no names file is beside the table, \
+             so that a level is the number of a label, 0 to 3"
+                .to_string(),
+        ),
         (&[lease, new, level, ""], no_number("")),
         (
             &[lease, new, level, "99999999999999999999"],
@@ -228,7 +245,7 @@ fn it_says_why_it_cannot() {
             "{err}"
         );
         assert!(
-            err.contains("\n       caisson compare OLD NEW [--level NUMBER]\n"),
+            err.contains("\n       caisson compare OLD NEW [--level LEVEL]\n"),
             "{err}"
         );
     }
@@ -242,6 +259,6 @@ fn a_copy_is_the_same() {
     let (status, out, _) = compare(&["lease.table", &copy]);
     assert_eq!(status, Some(0));
     let said = "\nBodies are the same in every state, apart from node numbers.\n\n\
-                Level 0: nothing changes.\nLevel 1: nothing changes.\n\n";
+                Level 0 (low): nothing changes.\nLevel 1 (high): nothing changes.\n\n";
     assert!(out.contains(said), "{out}");
 }

@@ -1,6 +1,6 @@
 //! The filing form of a design, the order over designs, and in what two differ first.
 
-use crate::common::{bytes, designs, text};
+use crate::common::{bytes, designs, explained_text, text};
 use crate::from_the_end::from_the_end;
 use crate::numberings::{leaves_first, renumbered};
 use caisson_tests::generate::random::Random;
@@ -273,9 +273,10 @@ fn a_refused_design_is_explained() {
         assert!(filed.image.is_empty());
         let explained = explain::explain(&image, filed.answer);
         assert_eq!(filed.words.unwrap(), explained);
-        let filed = file_text(&text(&format!("designs/{design}.caisson"))).unwrap();
+        let source = text(&format!("designs/{design}.caisson"));
+        let filed = file_text(&source).unwrap();
         let words = filed.words.unwrap();
-        assert!(words.starts_with(&explained) && words.contains("\nIn the text, line "));
+        assert_eq!(words, explained_text(&source));
         assert!(filed.image.is_empty());
     }
     // The tool lends an area as long as the image, so that it has 24 from no call of its own.

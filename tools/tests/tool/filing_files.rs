@@ -69,6 +69,10 @@ fn a_form_comes_from_either() {
             };
             assert!(out.starts_with(begin) && out.lines().count() == 1, "{out}");
             assert!(fs::read(to).unwrap() == bytes("designs/shelf/dosing_filed.table"));
+            // A text has names, and the names file stands beside the name that was given.
+            let names = format!("{to}.names");
+            assert_eq!(fs::metadata(&names).is_ok(), from == "dosing.caisson");
+            let _ = fs::remove_file(&names);
         }
         fs::remove_file(&new).unwrap();
     }
@@ -304,10 +308,19 @@ fn same_tells_designs_apart() {
     for (one, other, first) in [
         (lease, "diamond.caisson", "labels: from 2 to 4"),
         (lease, groups, "registers: from 2 to 4"),
-        (groups, "two_groups_edited.table", "the body of state 4"),
+        (
+            groups,
+            "two_groups_edited.table",
+            "the body of state 4 (first_a)",
+        ),
         (
             "shelf/two_groups_end.table",
             "two_groups_edited.caisson",
+            "the body of state 4 (first_a)",
+        ),
+        (
+            "shelf/two_groups_end.table",
+            "two_groups_edited.table",
             "the body of state 4",
         ),
     ] {

@@ -77,7 +77,7 @@ fn a_text_is_shown_with_its_line() {
     let source = "gates\n  input a trusted\n  gate up = nand a on\n  gate on = nand a a\n";
     let (image, wires) = gates::assemble_placed(source).unwrap();
     let text = explain::explain_text(source, &image, &wires, library::gates_check(&image));
-    let end = "its second wire 2, g1, is not lower than its own, 1\n\n\
+    let end = "its second wire 2, on, is not lower than its own, 1\n\n\
                In the text, line 3, column 8:\n      gate up = nand a on\n           ^\n";
     assert!(text.ends_with(end), "{text}");
 }

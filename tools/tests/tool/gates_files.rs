@@ -39,7 +39,9 @@ fn assemble_writes_a_gate_table() {
 
 #[test]
 fn print_knows_a_gate_table() {
-    let (status, out, _) = run(&["print", "counter.table"]);
+    let table = made("unnamed_counter.table");
+    fs::write(&table, bytes("designs/counter.table")).unwrap();
+    let (status, out, _) = run(&["print", &table]);
     let expected = "gates\n\ninput i0 trusted\n\nflipflop f0 = g3 start 1 untrusted\n\n\
                     gate g0 = nand i0 i0\ngate g1 = nand f0 f0\n\
                     gate g2 = nand g0 g1\ngate g3 = nand g2 g2\n";

@@ -271,10 +271,15 @@ fn raising_names_the_states_with_parameters() {
                   state t in root : low { goto t }\n\
                   state u(p : low..low, q : low..high) in root : q { goto t }";
     let source = format!("{DECLARED}{states}\n");
-    let expected = "\n\nStates with parameters:\n    state s2(p0 : l0..l1) in s0 : l0\n    \
+    let of_table = "\n\nStates with parameters:\n    state s2(p0 : l0..l1) in s0 : l0\n    \
                     state s4(p0 : l0..l0, p1 : l0..l3) in s0 : p1\n";
+    let of_text = "\n\nStates with parameters:\n    state s(p : low..north) in root : low\n    \
+                   state u(p : low..low, q : low..high) in root : q\n";
     let (image, _) = assemble_placed(&source).unwrap();
-    for raised in [raise_table(&image), raise_text(&source).unwrap().0] {
+    for (raised, expected) in [
+        (raise_table(&image), of_table),
+        (raise_text(&source).unwrap().0, of_text),
+    ] {
         assert_eq!(
             raised.answer,
             Answer {

@@ -63,6 +63,10 @@ fn a_table_comes_from_either() {
             assert_eq!((status, err.as_str()), (Some(0), ""));
             assert!(out.starts_with("5 of 11 states go:\n"), "{out}");
             assert!(fs::read(to).unwrap() == bytes("designs/spare_states_pruned.table"));
+            // A text has names, and the names file stands beside the name that was given.
+            let names = format!("{to}.names");
+            assert_eq!(fs::metadata(&names).is_ok(), from.ends_with(".caisson"));
+            let _ = fs::remove_file(&names);
         }
         fs::remove_file(&new).unwrap();
     }

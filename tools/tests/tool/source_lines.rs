@@ -1,17 +1,12 @@
 //! Texts explained: the line and the column of what stands at the place.
 
-use crate::common::{bytes, designs_alone, text};
+use crate::common::{bytes, designs_alone, explained_text, text};
 use caisson_tools::{assemble_placed, explain, library, old};
-
-fn explained(text: &str) -> String {
-    let (image, positions) = assemble_placed(text).unwrap();
-    explain::explain_text(text, &image, &positions, library::check(&image))
-}
 
 /// The text without its `@` is refused, and the marker stands where that was.
 fn assert_points(number: u32, marked: &str) {
     let (before, after) = marked.split_once('@').expect("a mark");
-    let shown = explained(&format!("{before}{after}"));
+    let shown = explained_text(&format!("{before}{after}"));
     let verdict = format!("refused by {number} at place ");
     assert!(shown.starts_with(&verdict), "{marked}\n{shown}");
     let (lines, start) = before.rsplit_once('\n').expect("a line before");
@@ -106,7 +101,7 @@ fn declarations_are_pointed_at() {
 /// A tab is as wide below the line as in it, and a line may end in other ways.
 #[test]
 fn markers_stand_below_tabs() {
-    let shown = explained(
+    let shown = explained_text(
         "label low\r\n\tport p : low = 0\t# é\r\nstate root : low { fall }\r\n\
          state s in root : low {\r\n\t\tskip;\tp := 1; goto s }\t# é\r\n",
     );
@@ -114,13 +109,15 @@ fn markers_stand_below_tabs() {
     assert!(shown.ends_with(expected), "{shown}");
 }
 
-/// What a table's explanation has, and the line of the text after it.
+/// What a table's explanation has by the text's names, and the line of the text after it.
 #[test]
 fn designs_are_explained_alike() {
     for name in designs_alone() {
         let image = bytes(&format!("designs/{name}.table"));
-        let table = explain::explain(&image, library::check(&image));
-        let shown = explained(&text(&format!("designs/{name}.caisson")));
+        let source = text(&format!("designs/{name}.caisson"));
+        let names = assemble_placed(&source).unwrap().1.into_names();
+        let table = explain::explain_named(&image, Some(&names), library::check(&image));
+        let shown = explained_text(&source);
         let line = shown
             .strip_prefix(&table)
             .unwrap_or_else(|| panic!("{name}: {shown}"));
@@ -147,5 +144,5 @@ fn no_text_is_taken_for_an_old_table() {
     let advice = old::advice(&image).unwrap();
     let shown = explain::explain(&image, library::check(&image));
     assert!(shown.ends_with(&format!("It {advice}.\n")), "{shown}");
-    assert!(!explained(&source).contains(&advice));
+    assert!(!explained_text(&source).contains(&advice));
 }
