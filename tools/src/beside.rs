@@ -1,11 +1,11 @@
 //! The names file beside a table: read with it, written with it, and removed where it would not fit.
 
-use crate::files::{load_design, replace, same_file};
+use crate::files::{is_other, load_design, replace, same_file, Prepared};
 use caisson_tools::names_file::{NamesFile, Shape, ENDING, FIRST};
 use std::fs::File;
 use std::io::{ErrorKind, Read};
 use std::path::PathBuf;
-use std::{fs, process};
+use std::{fs, io, process};
 
 fn names_path(table: &str) -> String {
     format!("{table}{ENDING}")
@@ -62,17 +62,24 @@ pub fn write_table(to: &str, image: &[u8], names: Option<&NamesFile>) -> Result<
 
 /// The same with the names file as text. What is there and is no file, such as a pipe, has nothing beside it.
 pub fn write_both(to: &str, image: &[u8], names: Option<&str>) -> Result<String, String> {
-    let written = |error| format!("{to}: {error}");
-    if fs::metadata(to).is_ok_and(|found| !found.is_file()) {
-        replace(to, image).map_err(written)?;
+    let fault = |error| format!("{to}: {error}");
+    if is_other(to) {
+        replace(to, image).map_err(fault)?;
         return Ok(String::new());
     }
     let beside = names_path(to);
     let there = is_there(&beside)?;
-    let change = Change::begin(&beside, names, there)?;
-    if let Err(error) = replace(to, image) {
+    let table = Prepared::new(to, image).map_err(fault)?;
+    let change = match Change::begin(&beside, names, there) {
+        Ok(change) => change,
+        Err(error) => {
+            table.discard();
+            return Err(format!("{beside}: {error}"));
+        }
+    };
+    if let Err(error) = table.put() {
         change.undo();
-        return Err(written(error));
+        return Err(fault(error));
     }
     change.finish();
     match there && names.is_none() {
@@ -90,7 +97,7 @@ fn is_there(path: &str) -> Result<bool, String> {
         Err(error) if is_none(error.kind()) => return Ok(false),
         Err(error) => return Err(format!("{path}: {error}")),
     };
-    let begins = || -> std::io::Result<bool> {
+    let begins = || -> io::Result<bool> {
         let mut first = Vec::new();
         let most = FIRST.len() as u64;
         File::open(path)?.take(most).read_to_end(&mut first)?;
@@ -104,40 +111,42 @@ fn is_there(path: &str) -> Result<bool, String> {
     }
 }
 
-/// A names file that was put in its place or taken away, and the one that was there.
+/// A names file that was put in its place or taken away, and the one that was there. It is not looked for through a
+/// link: nobody has named it.
 struct Change {
     place: PathBuf,
     before: Option<PathBuf>,
 }
 
 impl Change {
-    /// The new file is whole before the old one goes.
-    fn begin(path: &str, new: Option<&str>, there: bool) -> Result<Change, String> {
-        let place = PathBuf::from(path);
-        let kept = |name: &str| PathBuf::from(format!("{path}.{}.{name}", process::id()));
-        let (part, before) = (kept("part"), kept("before"));
-        let change = || {
-            if let Some(new) = new {
-                fs::write(&part, new)?;
-            }
-            if there {
-                fs::rename(&place, &before)?;
-            }
-            let put = match new {
-                Some(_) => fs::rename(&part, &place),
-                None => Ok(()),
-            };
-            if put.is_err() && there {
-                let _ = fs::rename(&before, &place);
-            }
-            put
+    /// The new file is whole before the old one goes. A failure changes nothing.
+    fn begin(path: &str, new: Option<&str>, there: bool) -> io::Result<Change> {
+        let own = |name: &str| PathBuf::from(format!("{path}.{}.{name}", process::id()));
+        let (part, before) = (own("part"), own("before"));
+        let change = Change {
+            place: PathBuf::from(path),
+            before: there.then_some(before),
         };
-        if let Err(error) = change() {
-            let _ = fs::remove_file(&part);
-            return Err(format!("{path}: {error}"));
+        let begun = new.map_or(Ok(()), |new| fs::write(&part, new));
+        let begun = begun.and_then(|()| change.put(new.is_some().then_some(&part)));
+        match begun {
+            Ok(()) => Ok(change),
+            Err(error) => {
+                let _ = fs::remove_file(&part);
+                Err(error)
+            }
         }
-        let before = there.then_some(before);
-        Ok(Change { place, before })
+    }
+
+    fn put(&self, part: Option<&PathBuf>) -> io::Result<()> {
+        if let Some(before) = &self.before {
+            fs::rename(&self.place, before)?;
+        }
+        let put = part.map_or(Ok(()), |part| fs::rename(part, &self.place));
+        if let (Err(_), Some(before)) = (&put, &self.before) {
+            let _ = fs::rename(before, &self.place);
+        }
+        put
     }
 
     fn undo(&self) {
@@ -151,5 +160,44 @@ impl Change {
         if let Some(before) = &self.before {
             let _ = fs::remove_file(before);
         }
+    }
+}
+
+#[cfg(test)]
+mod tests {
+    use super::*;
+
+    /// What a table that cannot be put in its place leaves: the names file as it was, and nothing beside it.
+    #[test]
+    fn a_change_is_undone() {
+        let folder = std::env::temp_dir().join(format!("caisson-beside-{}", process::id()));
+        fs::create_dir(&folder).unwrap();
+        let names = folder.join("t.names");
+        let path = names.to_str().unwrap();
+        for before in [None, Some("old")] {
+            for new in [None, Some("new")] {
+                let _ = fs::remove_file(&names);
+                if let Some(before) = before {
+                    fs::write(&names, before).unwrap();
+                }
+                let change = Change::begin(path, new, before.is_some()).unwrap();
+                assert_eq!(fs::read_to_string(&names).ok().as_deref(), new);
+                change.undo();
+                assert_eq!(fs::read_to_string(&names).ok().as_deref(), before);
+                let count = usize::from(before.is_some());
+                assert_eq!(fs::read_dir(&folder).unwrap().count(), count);
+                let change = Change::begin(path, new, before.is_some()).unwrap();
+                change.finish();
+                assert_eq!(fs::read_to_string(&names).ok().as_deref(), new);
+                let count = usize::from(new.is_some());
+                assert_eq!(fs::read_dir(&folder).unwrap().count(), count);
+            }
+        }
+        // A folder takes no file in its place.
+        let _ = fs::remove_file(&names);
+        fs::create_dir(&names).unwrap();
+        assert!(Change::begin(path, Some("new"), false).is_err());
+        assert_eq!(fs::read_dir(&folder).unwrap().count(), 1);
+        fs::remove_dir_all(&folder).unwrap();
     }
 }

@@ -49,17 +49,52 @@ pub fn judged(path: &str) -> Result<Result<Accepted, String>, String> {
 /// Writes a file beside the one named and then puts it in its place, so that there is never a part of it under
 /// the name. What is there and is no file, such as a pipe, is written to.
 pub fn replace(path: &str, bytes: &[u8]) -> io::Result<()> {
-    let place = fs::canonicalize(path).unwrap_or_else(|_| PathBuf::from(path));
-    if fs::metadata(&place).is_ok_and(|found| !found.is_file()) {
-        return fs::write(&place, bytes);
+    match is_other(path) {
+        true => fs::write(path, bytes),
+        false => Prepared::new(path, bytes)?.put(),
     }
-    let mut beside = place.clone().into_os_string();
-    beside.push(format!(".{}.part", process::id()));
-    let replaced = fs::write(&beside, bytes).and_then(|()| fs::rename(&beside, &place));
-    if replaced.is_err() {
-        let _ = fs::remove_file(&beside);
+}
+
+/// Whether something is there that is no file.
+pub fn is_other(path: &str) -> bool {
+    fs::metadata(path).is_ok_and(|found| !found.is_file())
+}
+
+/// A file that is whole and stands beside its place.
+pub struct Prepared {
+    beside: PathBuf,
+    place: PathBuf,
+}
+
+impl Prepared {
+    /// A link stays one: the place is that of the file.
+    pub fn new(path: &str, bytes: &[u8]) -> io::Result<Prepared> {
+        let place = fs::canonicalize(path).unwrap_or_else(|_| PathBuf::from(path));
+        let mut beside = place.clone().into_os_string();
+        beside.push(format!(".{}.part", process::id()));
+        let beside = PathBuf::from(beside);
+        let written = fs::write(&beside, bytes);
+        let prepared = Prepared { beside, place };
+        match written {
+            Ok(()) => Ok(prepared),
+            Err(error) => {
+                prepared.discard();
+                Err(error)
+            }
+        }
     }
-    replaced
+
+    pub fn put(self) -> io::Result<()> {
+        let put = fs::rename(&self.beside, &self.place);
+        if put.is_err() {
+            self.discard();
+        }
+        put
+    }
+
+    pub fn discard(self) {
+        let _ = fs::remove_file(self.beside);
+    }
 }
 
 pub fn status(answer: library::Answer) -> ExitCode {

@@ -15,6 +15,7 @@ mod gates_files;
 mod known_tables;
 mod names;
 mod names_files;
+mod names_first_line;
 mod names_moved;
 mod names_wrong;
 mod numberings;

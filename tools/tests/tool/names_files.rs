@@ -215,12 +215,15 @@ fn what_is_no_names_file_stays() {
     assert_eq!(files(&folder), ["t", "t.names"]);
 }
 
-/// Where the file system takes no byte, and where it takes the names and not the table.
+/// Where the file system takes no byte, and where it takes the table and not the names.
 #[test]
 fn a_failure_leaves_both() {
     let folder = folder("named_half");
     let (table, names) = (format!("{folder}/t"), format!("{folder}/t.names"));
-    for (blocks, at_fault) in [(0, &names), (1, &table)] {
+    let source = format!("{folder}/long.caisson");
+    let long = "l".repeat(2_000);
+    fs::write(&source, text("designs/lease.caisson").replace("low", &long)).unwrap();
+    for (blocks, at_fault) in [(0, &table), (1, &names)] {
         for before in [None, Some(text("designs/lease.table.names"))] {
             fs::write(&table, "old").unwrap();
             let _ = fs::remove_file(&names);
@@ -230,21 +233,25 @@ fn a_failure_leaves_both() {
             let mut command = Command::new("bash");
             let limited = format!(r#"trap "" XFSZ; ulimit -f {blocks}; exec "$0" "$@""#);
             command.args(["-c", &limited, env!("CARGO_BIN_EXE_caisson")]);
-            command.args(["assemble", "deepest.caisson", &table]);
+            command.args(["assemble", &source, &table]);
             let words = format!("{at_fault}: File too large (os error 27)");
             assert_eq!(called(command), failure(&words));
             assert_eq!(fs::read(&table).unwrap(), b"old");
             assert_eq!(fs::read_to_string(&names).ok(), before);
-            assert_eq!(files(&folder).len(), 1 + usize::from(before.is_some()));
+            assert_eq!(files(&folder).len(), 2 + usize::from(before.is_some()));
         }
     }
     // A text that is wrong, and a folder that is not there.
     let (status, _, err) = caisson(&["assemble", "lease.table", &table]);
     assert_eq!(status, Some(2), "{err}");
     assert_eq!(fs::read(&table).unwrap(), b"old");
-    let (status, ..) = caisson(&["assemble", "lease.caisson", &format!("{folder}/none/t")]);
-    assert_eq!(status, Some(2));
-    assert_eq!(files(&folder), ["t", "t.names"]);
+    let none = format!("{folder}/none/t");
+    let words = format!("{none}: No such file or directory (os error 2)");
+    assert_eq!(
+        caisson(&["assemble", "lease.caisson", &none]),
+        failure(&words)
+    );
+    assert_eq!(files(&folder), ["long.caisson", "t", "t.names"]);
 }
 
 /// A pipe has nothing beside it.

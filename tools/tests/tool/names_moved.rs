@@ -182,17 +182,6 @@ fn designs_are_compared_by_name() {
             failure(words)
         );
     }
-    let changed = renamed.replace("register timer : all", "register timer : high");
-    fs::write(
-        &source,
-        changed.replace(
-            "label all -> high\nlabel high",
-            "label all -> high, top\nlabel high -> top\nlabel top",
-        ),
-    )
-    .unwrap();
-    let (status, out, _) = caisson(&["compare", "two_groups.table", &source]);
-    assert_eq!(status, Some(1), "{out}");
     let changed = renamed.replace("port switch : all", "port switch : all width 4");
     fs::write(
         &source,

@@ -1,14 +1,15 @@
-//! Each way in which a names file can be wrong, with its words and its line.
+//! Each way in which a names file can be wrong behind its first line, with its words and its line.
 
 use crate::common::{bytes, text};
 use caisson_tools::assemble;
 use caisson_tools::names_file::{NamesFile, Shape};
 
-const OTHER: &str = "1: is not of this table: it was made for another, or the table was changed; \
+pub const OTHER: &str =
+    "1: is not of this table: it was made for another, or the table was changed; \
                      assemble it again or remove the names file";
 
 /// What is said of a file for the table of this image.
-fn said(file: &[u8], image: &[u8]) -> String {
+pub fn said(file: &[u8], image: &[u8]) -> String {
     let read = NamesFile::read(file, image, Shape::of(image).as_ref());
     read.expect_err("a fault").to_string()
 }
@@ -25,16 +26,16 @@ const LINES: &str = "source two.caisson\nlabel 0 low 1\nlabel 1 high 2\nregister
                      state 0 root 4\nstate 1 idle 5\nstate 2 group 6\nstate 3 rest 7\n\
                      state 4 sub 8\nparameter 2 0 a 6\nparameter 4 0 b 8\n";
 
-fn image() -> Vec<u8> {
+pub fn image() -> Vec<u8> {
     assemble(SOURCE).unwrap()
 }
 
-fn sum(image: &[u8]) -> String {
+pub fn sum(image: &[u8]) -> String {
     let file = NamesFile::of_text("two.caisson", SOURCE).unwrap();
     file.text(image).split(' ').nth(4).unwrap().to_string()
 }
 
-fn first() -> String {
+pub fn first() -> String {
     let sum = sum(&image());
     format!("caisson names 1 sha256 {sum} labels 2 registers 1 states 5\n")
 }
@@ -46,86 +47,6 @@ fn the_whole_is_right() {
     let whole = first() + LINES;
     let read = NamesFile::read(whole.as_bytes(), &image(), Shape::of(&image()).as_ref());
     assert_eq!(read, Ok(Some(file)));
-}
-
-#[test]
-fn the_first_line() {
-    let image = image();
-    let none = "1: is no names file, which begins with `caisson names 1 sha256 SUM ..`";
-    let sum = sum(&image);
-    let unexpected = |found: &str| {
-        format!("1: expected `caisson names 1 sha256 SUM ..`, found `caisson names {found}`")
-    };
-    let counts = |found: &str| {
-        let expected = "labels 2 registers 1 states 5";
-        format!("1: the table has `{expected}`, and the file names `{found}`")
-    };
-    for (line, words) in [
-        (String::new(), none.to_string()),
-        ("\n".into(), none.to_string()),
-        ("label low\n".into(), none.to_string()),
-        ("caisson name 1\n".into(), none.to_string()),
-        (format!(" {}", first()), none.to_string()),
-        (
-            first().replace("names 1", "names 2"),
-            "1: is a names file of version 2, and the tool reads version 1".into(),
-        ),
-        ("caisson names 01\n".into(), unexpected("01")),
-        ("caisson names x 1\n".into(), unexpected("x 1")),
-        ("caisson names 1\n".into(), unexpected("1")),
-        (
-            "caisson names 1 sha1 5 x\n".into(),
-            unexpected("1 sha1 5 x"),
-        ),
-        (
-            format!("caisson names 1 sha256 {}\n", &sum[1..]),
-            unexpected(&format!("1 sha256 {}", &sum[1..])),
-        ),
-        (
-            format!(
-                "caisson names 1 sha256 {} labels 2\n",
-                sum.replace(|one: char| one.is_ascii_digit(), "A")
-            ),
-            unexpected(&format!(
-                "1 sha256 {} labels 2",
-                sum.replace(|one: char| one.is_ascii_digit(), "A")
-            )),
-        ),
-        (
-            format!("caisson names 1 sha256 {sum}\n"),
-            unexpected(&format!("1 sha256 {sum}")),
-        ),
-        (
-            first().trim_end().into(),
-            "1: the last line has no line end".into(),
-        ),
-        (
-            format!("caisson names 1 sha256 {} labels 2\n", "0".repeat(64)),
-            OTHER.into(),
-        ),
-        (
-            first().replace("states 5", "states 4"),
-            counts("labels 2 registers 1 states 4"),
-        ),
-        (
-            first().replace("states 5", "states 05"),
-            counts("labels 2 registers 1 states 05"),
-        ),
-        (
-            first().replace(" states 5", ""),
-            counts("labels 2 registers 1"),
-        ),
-        (
-            first().replace('\n', "\r\n"),
-            counts("labels 2 registers 1 states 5\\r"),
-        ),
-        (
-            first().replace("labels 2 registers 1 states", "inputs 2 flipflops 1 gates"),
-            counts("inputs 2 flipflops 1 gates 5"),
-        ),
-    ] {
-        assert_eq!(said(line.as_bytes(), &image), words, "{line}");
-    }
 }
 
 /// A text in the place of another, the line that is at fault, and what is said of it.
