@@ -1,4 +1,3 @@
-PREFIX = /usr/local
 SOAK_DESIGN = designs/two_groups.table
 SOAK_SECONDS = 60
 SOAK_SEED = 1
@@ -9,7 +8,7 @@ library = target/staticlib/libcaisson.a
 soak_sources = $(wildcard tests/soak/*.c) $(addprefix host/, box.c design.c journal.c numbers.c refusals.c say.c table.c)
 soak_build = gcc -std=c11 -O2 -Wall -Wextra -Werror -Iinclude -Ihost -Itests/soak
 
-.PHONY: test quick definitions bench stack run host tool soak library lister install clean
+.PHONY: test quick definitions bench stack run host tool soak library lister clean
 
 # The gate, as CI runs it: proofs from nothing, must-fail edits, tests outside Rattle.
 test:
@@ -78,12 +77,7 @@ library:
 lister:
 	rt check lister >/dev/null
 
-# Library, headers and lister, below $(DESTDIR)$(PREFIX).
-install: library lister
-	install -d $(DESTDIR)$(PREFIX)/lib $(DESTDIR)$(PREFIX)/include $(DESTDIR)$(PREFIX)/bin
-	install -m 644 $(library) $(DESTDIR)$(PREFIX)/lib
-	install -m 644 include/caisson.h include/caisson_refusals.def $(DESTDIR)$(PREFIX)/include
-	install -m 755 target/bin/lister $(DESTDIR)$(PREFIX)/bin
+include install.mk
 
 # Removes everything built.
 clean:
