@@ -67,9 +67,16 @@ pub struct Prepared {
 }
 
 impl Prepared {
-    /// A link stays one: the place is that of the file.
+    /// A link stays one: the place is that of the file. Where there is none the link would be lost, such as one of
+    /// the system's.
     pub fn new(path: &str, bytes: &[u8]) -> io::Result<Prepared> {
-        let place = fs::canonicalize(path).unwrap_or_else(|_| PathBuf::from(path));
+        let place = match fs::canonicalize(path) {
+            Ok(place) => place,
+            Err(_) if fs::symlink_metadata(path).is_ok_and(|found| found.is_symlink()) => {
+                return Err(io::Error::other("is a link to no file"))
+            }
+            Err(_) => PathBuf::from(path),
+        };
         let mut beside = place.clone().into_os_string();
         beside.push(format!(".{}.part", process::id()));
         let beside = PathBuf::from(beside);

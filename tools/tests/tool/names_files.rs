@@ -254,25 +254,50 @@ fn a_failure_leaves_both() {
     assert_eq!(files(&folder), ["long.caisson", "t", "t.names"]);
 }
 
-/// A pipe has nothing beside it.
+/// A pipe has nothing beside it. The link to standard output is one of the test's own: were it taken for a file, the
+/// link would be lost, and that of the machine serves others.
 #[test]
 fn a_pipe_has_no_names() {
     let folder = folder("named_pipe");
+    let (link, pipe) = (format!("{folder}/link"), format!("{folder}/pipe"));
+    std::os::unix::fs::symlink("/proc/self/fd/1", &link).unwrap();
     let mut command = Command::new(env!("CARGO_BIN_EXE_caisson"));
-    command.args(["assemble", "lease.caisson", "/dev/stdout"]);
+    command.args(["assemble", "lease.caisson", &link]);
     let output = command.current_dir(path("designs")).output().unwrap();
     assert_eq!((output.status.code(), output.stderr), (Some(0), Vec::new()));
     assert!(output.stdout == bytes("designs/lease.table"));
-    let pipe = format!("{folder}/pipe");
-    assert!(Command::new("mkfifo")
-        .arg(&pipe)
-        .status()
-        .unwrap()
-        .success());
+    assert!(fs::symlink_metadata(&link).unwrap().is_symlink());
+    let made = Command::new("mkfifo").arg(&pipe).status().unwrap();
+    assert!(made.success());
     // Open for both, so that no end waits for the other.
     let mut options = fs::OpenOptions::new();
     let end = options.read(true).write(true).open(&pipe).unwrap();
     assert_eq!(caisson(&["assemble", "lease.caisson", &pipe]), silent());
     drop(end);
-    assert_eq!(files(&folder), ["pipe"]);
+    assert_eq!(files(&folder), ["link", "pipe"]);
+}
+
+/// By whatever command: a file in its place would be the end of it.
+#[test]
+fn a_link_to_no_file_stays() {
+    let folder = folder("named_link");
+    let (link, text) = (format!("{folder}/link"), format!("{folder}/link.caisson"));
+    for link in [&link, &text] {
+        std::os::unix::fs::symlink("none", link).unwrap();
+    }
+    let old = path("tools/tests/data/lease_format_2.table");
+    for (arguments, to) in [
+        (["assemble", "lease.caisson"], &link),
+        (["raise", "guessed.table"], &link),
+        (["raise", "guessed.caisson"], &text),
+        (["prune", "lease.table"], &link),
+        (["file", "lease.caisson"], &link),
+        (["upgrade", old.to_str().unwrap()], &link),
+    ] {
+        let words = format!("{to}: is a link to no file");
+        let [command, from] = arguments;
+        assert_eq!(caisson(&[command, from, to]), failure(&words));
+        assert!(fs::symlink_metadata(to).unwrap().is_symlink());
+        assert_eq!(files(&folder), ["link", "link.caisson"]);
+    }
 }
