@@ -1,10 +1,12 @@
 //! Designs and gate tables as source text. `designs/README.md` documents the text form.
 
 pub mod compare;
+pub mod draw;
 pub mod explain;
 pub mod filing;
 pub mod gates;
 pub mod library;
+pub mod lint;
 mod named;
 mod names;
 pub mod names_file;
@@ -17,6 +19,7 @@ pub mod raise;
 mod sha256;
 mod table;
 mod text;
+mod worded;
 
 pub use names::Names;
 use names_file::NamesFile;

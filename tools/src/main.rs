@@ -4,6 +4,7 @@ mod beside;
 mod files;
 mod level;
 mod shelf;
+mod views;
 
 use beside::{keeps, load_named, load_names, load_names_as, write_both, write_table};
 use caisson_tools::compare::compare_named;
@@ -34,7 +35,9 @@ const USAGE: &str = "usage: caisson assemble SOURCE TABLE
        caisson same ONE OTHER
        caisson upgrade OLD NEW
        caisson compare OLD NEW [--level LEVEL]
-OLD and NEW of compare, ONE and OTHER of same and each FILE of sort are a TABLE or a SOURCE.caisson";
+       caisson draw FILE [OUT]
+       caisson lint FILE
+OLD and NEW of compare, ONE and OTHER of same and each FILE are a TABLE or a SOURCE.caisson";
 
 const NO_TEXT: &str = "a table is raised to a table; `caisson print` makes a text of that";
 
@@ -46,8 +49,8 @@ const STACK: usize = 64 << 20;
 /// The status where a comparison says nothing for the level that was asked for.
 const NOT_SAID: u8 = 3;
 
-/// Ends with 0, with 1 where a design is refused, with 2 on any other failure, and with 3 as said above. Only `same`
-/// ends with 1 where two designs differ, and with 2 where one is refused.
+/// Ends with 0, with 1 where a design is refused, with 2 on any other failure, with 3 as said above, and `lint` with 4
+/// where it has warnings. Only `same` ends with 1 where two designs differ, and with 2 where one is refused.
 fn main() -> ExitCode {
     let work = thread::Builder::new().stack_size(STACK).spawn(command);
     match work.expect("a thread starts").join() {
@@ -76,6 +79,9 @@ fn command() -> Result<ExitCode, String> {
         ["upgrade", old, new] => upgrade_file(old, new),
         ["compare", old, new] => compare_files(old, new, None),
         ["compare", old, new, "--level", level] => compare_files(old, new, Some(Level::of(level)?)),
+        ["draw", file] => views::draw(file, None),
+        ["draw", file, out] => views::draw(file, Some(out)),
+        ["lint", file] => views::lint(file),
         _ => Err(USAGE.to_string()),
     }
 }

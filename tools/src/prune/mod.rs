@@ -1,6 +1,6 @@
 //! The design without what can never run, which is the proved library's, and what is said of it.
 
-mod reached;
+pub(crate) mod reached;
 
 use crate::explain;
 use crate::library::{self, Answer};

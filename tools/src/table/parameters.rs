@@ -10,6 +10,11 @@ pub fn of_register(byte: u16) -> Option<usize> {
     named(byte, PARAMETER_REGISTER)
 }
 
+/// The byte that names a parameter in the place of a register.
+pub fn register_byte(number: usize) -> u16 {
+    u16::from(PARAMETER_REGISTER) + number as u16
+}
+
 /// The number of the parameter that a state's label byte names.
 pub fn of_label(byte: u8) -> Option<usize> {
     named(u16::from(byte), PARAMETER_LABEL)
@@ -41,6 +46,14 @@ impl Table {
         match parent < state {
             true => self.scope(parent),
             false => Vec::new(),
+        }
+    }
+
+    /// The state that has a parameter in scope, and which of its own it is.
+    pub fn owner(&self, state: usize, number: usize) -> Option<(usize, usize)> {
+        match number.checked_sub(self.inherited(state).len()) {
+            Some(own) => (own < self.states[state].parameters().len()).then_some((state, own)),
+            None => self.owner(self.states[state].parent.into(), number),
         }
     }
 
