@@ -1,10 +1,10 @@
 //! What the commands read and write: files, and standard output.
 
 use crate::beside::load_named;
-use caisson_tools::{assemble_placed, explain, gates, library, Names};
+use caisson_tools::{assemble_placed, decode, explain, gates, library, Names};
 use std::io::Write;
 use std::os::unix::fs::MetadataExt;
-use std::path::PathBuf;
+use std::path::{Path, PathBuf};
 use std::process::ExitCode;
 use std::{fs, io, process};
 
@@ -14,6 +14,10 @@ pub const TEXT: &str = ".caisson";
 /// What is said of a gate table where a design is needed.
 pub const NO_DESIGN: &str =
     "is a gate table; only a design can be raised, pruned, filed, upgraded or compared";
+
+/// What is said of a table where a text is needed.
+const NO_TEXT: &str =
+    "is a table and no text: `caisson print` makes a text of it, `caisson explain` judges it";
 
 /// An accepted design, with its names where they are known.
 pub struct Accepted {
@@ -29,7 +33,7 @@ pub fn judged(path: &str) -> Result<Result<Accepted, String>, String> {
             return Err(format!("{path}: {NO_DESIGN}"));
         }
         let (image, positions) =
-            assemble_placed(&text).map_err(|fault| format!("{path}: {fault}"))?;
+            assemble_placed(&text).map_err(|faults| faults.report(path, &text))?;
         let answer = library::check(&image);
         let words = explain::explain_text(&text, &image, &positions, answer);
         (image, Some(positions.into_names()), answer, words)
@@ -120,12 +124,21 @@ pub fn same_file(one: &str, other: &str) -> bool {
     }
 }
 
-pub fn load(path: &str) -> Result<Vec<u8>, String> {
+fn load(path: &str) -> Result<Vec<u8>, String> {
     fs::read(path).map_err(|error| format!("{path}: {error}"))
 }
 
+/// Of a design or of gates.
+pub fn load_table(path: &str) -> Result<Vec<u8>, String> {
+    let bytes = load(path)?;
+    match is_no_table(path, &bytes) {
+        Some(advice) => Err(format!("{path}: {advice}")),
+        None => Ok(bytes),
+    }
+}
+
 pub fn load_design(path: &str) -> Result<Vec<u8>, String> {
-    let image = load(path)?;
+    let image = load_table(path)?;
     match gates::is_table(&image) {
         true => Err(format!("{path}: {NO_DESIGN}")),
         false => Ok(image),
@@ -133,7 +146,26 @@ pub fn load_design(path: &str) -> Result<Vec<u8>, String> {
 }
 
 pub fn load_text(path: &str) -> Result<String, String> {
-    String::from_utf8(load(path)?).map_err(|_| format!("{path}: the text is not UTF-8"))
+    let bytes = load(path)?;
+    if is_table(&bytes) {
+        return Err(format!("{path}: {NO_TEXT}"));
+    }
+    decode(bytes).map_err(|(text, faults)| faults.report(path, &text))
+}
+
+/// By the first offset. A text has no byte that is 0.
+fn is_table(bytes: &[u8]) -> bool {
+    gates::is_table(bytes) || bytes.starts_with(&[20, 0])
+}
+
+/// What is said where a text stands in the place of a table, by its bytes: a table has some below those of letters,
+/// and a text, blanks and line ends apart, has none.
+fn is_no_table(path: &str, bytes: &[u8]) -> Option<String> {
+    let of_text = |byte: &u8| *byte >= b' ' || matches!(byte, b'\t' | b'\n' | b'\r' | 0x0b | 0x0c);
+    let text = !bytes.is_empty() && bytes.iter().all(of_text);
+    let name = Path::new(path).with_extension("caisson");
+    let name = name.display();
+    text.then(|| format!("is a text and no table: name it {name}, or use `caisson check`"))
 }
 
 /// A reader that has gone away is a failure like any other, not a panic.

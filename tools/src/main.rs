@@ -4,24 +4,28 @@ mod beside;
 mod files;
 mod level;
 mod shelf;
+mod usage;
 mod views;
 
 use beside::{keeps, load_named, load_names, load_names_as, write_both, write_table};
+use caisson_tools::check::check;
 use caisson_tools::compare::compare_named;
 use caisson_tools::gates::WireNames;
 use caisson_tools::names_file::NamesFile;
 use caisson_tools::old;
 use caisson_tools::prune::{prune_named, prune_text};
 use caisson_tools::raise::{raise_named, raise_text};
+use caisson_tools::version::version;
 use caisson_tools::{assemble_named, assemble_placed, explain, gates, library};
-use caisson_tools::{print, print_named, read, Names, Table};
-use files::{judged, load, load_design, load_text, no_records, replace, same_file, show, status};
-use files::{NO_DESIGN, TEXT};
+use caisson_tools::{print, print_named, read, Faults, Names, Table};
+use files::{judged, load_design, load_table, load_text, no_records, replace, same_file, show};
+use files::{status, NO_DESIGN, TEXT};
 use level::Level;
 use std::process::ExitCode;
 use std::{env, thread};
 
 const USAGE: &str = "usage: caisson assemble SOURCE TABLE
+       caisson check SOURCE
        caisson print TABLE
        caisson explain TABLE
        caisson explain SOURCE.caisson
@@ -37,6 +41,8 @@ const USAGE: &str = "usage: caisson assemble SOURCE TABLE
        caisson compare OLD NEW [--level LEVEL]
        caisson draw FILE [OUT]
        caisson lint FILE
+       caisson --help
+       caisson --version
 OLD and NEW of compare, ONE and OTHER of same and each FILE are a TABLE or a SOURCE.caisson";
 
 const NO_TEXT: &str = "a table is raised to a table; `caisson print` makes a text of that";
@@ -67,7 +73,11 @@ fn command() -> Result<ExitCode, String> {
     let arguments: Vec<String> = env::args().skip(1).collect();
     let arguments: Vec<&str> = arguments.iter().map(String::as_str).collect();
     match arguments[..] {
+        ["--help" | "-h"] | [_, "--help" | "-h"] => {
+            show(&format!("{USAGE}\n")).map(|()| ExitCode::SUCCESS)
+        }
         ["assemble", source, table] => assemble_file(source, table),
+        ["check", source] => check_file(source),
         ["print", table] => print_file(table),
         ["explain", text] if text.ends_with(TEXT) => explain_text(text),
         ["explain", table] => explain_table(table),
@@ -82,7 +92,8 @@ fn command() -> Result<ExitCode, String> {
         ["draw", file] => views::draw(file, None),
         ["draw", file, out] => views::draw(file, Some(out)),
         ["lint", file] => views::lint(file),
-        _ => Err(USAGE.to_string()),
+        ["--version"] => show(&version()).map(|()| ExitCode::SUCCESS),
+        _ => Err(usage::refusal(USAGE, &arguments)),
     }
 }
 
@@ -90,13 +101,21 @@ fn assemble_file(source: &str, table: &str) -> Result<ExitCode, String> {
     let text = load_text(source)?;
     keeps(source, table, "the source")?;
     let (image, names) =
-        assemble_named(source, &text).map_err(|fault| format!("{source}: {fault}"))?;
+        assemble_named(source, &text).map_err(|faults| faults.report(source, &text))?;
     write_both(table, &image, Some(&names))?;
     Ok(ExitCode::SUCCESS)
 }
 
+/// What is refused stands on standard output, as with `explain`; what is wrong in the text is a failure.
+fn check_file(source: &str) -> Result<ExitCode, String> {
+    let text = load_text(source)?;
+    let checked = check(source, &text).map_err(|faults| faults.report(source, &text))?;
+    show(&checked.words)?;
+    Ok(status(checked.answer))
+}
+
 fn print_file(table: &str) -> Result<ExitCode, String> {
-    let image = load(table)?;
+    let image = load_table(table)?;
     if gates::is_table(&image) {
         let records = gates::read(&image).map_err(|why| no_records(table, &why))?;
         let text = match load_names(table, &image)? {
@@ -119,7 +138,7 @@ fn print_file(table: &str) -> Result<ExitCode, String> {
 }
 
 fn explain_table(table: &str) -> Result<ExitCode, String> {
-    let image = load(table)?;
+    let image = load_table(table)?;
     let names = load_names(table, &image)?;
     if gates::is_table(&image) {
         let names = names.as_ref().map(WireNames::of_file);
@@ -136,7 +155,7 @@ fn explain_table(table: &str) -> Result<ExitCode, String> {
 
 fn explain_text(source: &str) -> Result<ExitCode, String> {
     let text = load_text(source)?;
-    let wrong = |fault| format!("{source}: {fault}");
+    let wrong = |faults: Faults| faults.report(source, &text);
     if gates::is_text(&text) {
         let (image, wires) = gates::assemble_placed(&text).map_err(wrong)?;
         let answer = library::gates_check(&image);
@@ -158,7 +177,7 @@ fn raise_file(from: &str, to: &str) -> Result<ExitCode, String> {
         if gates::is_text(&source) {
             return Err(format!("{from}: {NO_DESIGN}"));
         }
-        let (raised, text) = raise_text(&source).map_err(|fault| format!("{from}: {fault}"))?;
+        let (raised, text) = raise_text(&source).map_err(|faults| faults.report(from, &source))?;
         (raised, text, NamesFile::of_text(from, &source).ok())
     } else if to.ends_with(TEXT) {
         return Err(format!("{to}: {NO_TEXT}"));
@@ -188,7 +207,7 @@ fn prune_file(from: &str, to: &str) -> Result<ExitCode, String> {
         if gates::is_text(&source) {
             return Err(format!("{from}: {NO_DESIGN}"));
         }
-        let pruned = prune_text(&source).map_err(|fault| format!("{from}: {fault}"))?;
+        let pruned = prune_text(&source).map_err(|faults| faults.report(from, &source))?;
         (pruned, NamesFile::of_text(from, &source).ok())
     } else {
         let (image, names) = load_named(from)?;

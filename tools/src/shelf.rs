@@ -25,7 +25,7 @@ pub fn file(from: &str, to: &str) -> Result<ExitCode, String> {
         if gates::is_text(&source) {
             return Err(format!("{from}: {NO_DESIGN}"));
         }
-        let filed = file_text(&source).map_err(|fault| format!("{from}: {fault}"))?;
+        let filed = file_text(&source).map_err(|faults| faults.report(from, &source))?;
         (filed, NamesFile::of_text(from, &source).ok())
     } else {
         let (image, names) = load_named(from)?;

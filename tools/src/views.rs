@@ -1,7 +1,7 @@
 //! The commands that show a design or look it over: `draw` and `lint`.
 
 use crate::beside::{keeps, load_names};
-use crate::files::{load, load_text, replace, show, TEXT};
+use crate::files::{load_table, load_text, replace, show, TEXT};
 use caisson_tools::draw::{draw_named, draw_text};
 use caisson_tools::lint::{lint_named, lint_text, Linted};
 use caisson_tools::{gates, Names};
@@ -29,7 +29,7 @@ pub fn draw(from: &str, to: Option<&str>) -> Result<ExitCode, String> {
     }
     let drawing = if from.ends_with(TEXT) {
         let source = text(from, NO_DRAWING)?;
-        draw_text(&source).map_err(|fault| format!("{from}: {fault}"))?
+        draw_text(&source).map_err(|faults| faults.report(from, &source))?
     } else {
         let (image, names) = table(from, NO_DRAWING)?;
         draw_named(&image, names.as_ref()).map_err(|why| format!("{from}: {why}"))?
@@ -52,7 +52,7 @@ pub fn draw(from: &str, to: Option<&str>) -> Result<ExitCode, String> {
 pub fn lint(file: &str) -> Result<ExitCode, String> {
     let linted = if file.ends_with(TEXT) {
         let source = text(file, NO_LINT)?;
-        lint_text(file, &source).map_err(|fault| format!("{file}: {fault}"))?
+        lint_text(file, &source).map_err(|faults| faults.report(file, &source))?
     } else {
         let (image, names) = table(file, NO_LINT)?;
         lint_named(file, &image, names.as_ref())
@@ -89,7 +89,7 @@ fn text(path: &str, no_design: &str) -> Result<String, String> {
 
 /// With its names, where they are known.
 fn table(path: &str, no_design: &str) -> Result<(Vec<u8>, Option<Names>), String> {
-    let image = load(path)?;
+    let image = load_table(path)?;
     if gates::is_table(&image) {
         return Err(format!("{path}: {no_design}"));
     }

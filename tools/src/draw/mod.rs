@@ -16,7 +16,7 @@ use crate::table::limits::COUNTS;
 use crate::table::old;
 use crate::table::read::{read, SECTIONS, STATES};
 use crate::table::Table;
-use crate::text::fault::Fault;
+use crate::text::faults::Faults;
 use crate::{numbering, text};
 use dot::Dot;
 
@@ -46,7 +46,7 @@ pub fn draw_named(image: &[u8], names: Option<&Names>) -> Result<Drawing, String
 }
 
 /// The parser keeps the limits.
-pub fn draw_text(source: &str) -> Result<Drawing, Fault> {
+pub fn draw_text(source: &str) -> Result<Drawing, Faults> {
     let design = text::parse(source)?;
     let (table, _) = numbering::number(&design)?;
     Ok(Drawing {

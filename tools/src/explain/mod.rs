@@ -9,7 +9,7 @@ pub(crate) mod place;
 mod ports;
 mod registers;
 pub(crate) mod rules;
-mod shape;
+pub(crate) mod shape;
 pub(crate) mod source;
 mod uses;
 

@@ -15,6 +15,14 @@ pub fn rule(number: u32) -> String {
     }
 }
 
+/// What is wrong alone.
+pub fn wrong(number: u32) -> String {
+    match row(number).map(strings).as_deref() {
+        Some([_place, wrong, _more]) => wrong.clone(),
+        _ => rule(number),
+    }
+}
+
 /// What stands at the place of a refusal of an image. None where the place is the number of nothing, of a
 /// wire or a record of a trace, which no image has, or of what a port write or a replay was given. A parameter is
 /// refused in the record of a state, else at a node.

@@ -67,7 +67,7 @@ fn has_child(table: &Named, state: usize) -> bool {
     others.any(|other| usize::from(other.parent) == state)
 }
 
-fn transfers(table: &Named, number: u16) -> bool {
+pub(crate) fn transfers(table: &Named, number: u16) -> bool {
     match command(table, number) {
         Some(Command::Fall | Command::Goto { .. }) => true,
         Some(Command::Sequence { second, .. }) => transfers(table, second),

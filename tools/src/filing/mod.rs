@@ -8,7 +8,7 @@ use crate::explain;
 use crate::library::{self, Answer};
 use crate::names::Names;
 use crate::table::read::read;
-use crate::text::fault::Fault;
+use crate::text::faults::Faults;
 use crate::{numbering, text};
 pub use order::Order;
 use std::cmp::Ordering;
@@ -40,7 +40,7 @@ pub fn file_named(image: &[u8], names: Option<&Names>) -> Filed {
     }
 }
 
-pub fn file_text(source: &str) -> Result<Filed, Fault> {
+pub fn file_text(source: &str) -> Result<Filed, Faults> {
     let design = text::parse(source)?;
     let (table, positions) = numbering::number(&design)?;
     let image = table.image();

@@ -3,7 +3,7 @@
 mod bytes;
 pub mod explain;
 mod names;
-mod numbering;
+pub(crate) mod numbering;
 mod print;
 
 pub use bytes::read;

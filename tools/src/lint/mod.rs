@@ -16,7 +16,7 @@ use crate::prune::reached::Reached;
 use crate::table::place::Place;
 use crate::table::read::read;
 use crate::table::Table;
-use crate::text::fault::Fault;
+use crate::text::faults::Faults;
 use crate::{numbering, text};
 use bindings::Bindings;
 
@@ -53,7 +53,7 @@ pub fn lint_named(file: &str, image: &[u8], names: Option<&Names>) -> Linted {
     }
 }
 
-pub fn lint_text(file: &str, source: &str) -> Result<Linted, Fault> {
+pub fn lint_text(file: &str, source: &str) -> Result<Linted, Faults> {
     let design = text::parse(source)?;
     let (table, positions) = numbering::number(&design)?;
     let answer = library::check(&table.image());

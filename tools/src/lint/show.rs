@@ -4,6 +4,7 @@ use super::Warning;
 use crate::names::Names;
 use crate::positions::Positions;
 use crate::table::place::Place;
+use crate::text::excerpt::excerpt;
 use crate::text::fault::Position;
 
 pub fn of_text(file: &str, source: &str, positions: &Positions, warnings: &[Warning]) -> String {
@@ -11,8 +12,8 @@ pub fn of_text(file: &str, source: &str, positions: &Positions, warnings: &[Warn
         let at = positions.at(warning.place);
         let Position { line, column } = at;
         let words = &warning.words;
-        let marked = marked(source, at);
-        format!("{file}:{line}:{column}: warning: {words}\n{marked}")
+        let lines = excerpt(source, at);
+        format!("{file}:{line}:{column}: warning: {words}\n{lines}")
     });
     each.collect()
 }
@@ -27,14 +28,4 @@ pub fn of_table(file: &str, names: &Names, warnings: &[Warning]) -> String {
         format!("{file}: {record}: warning: {}\n", warning.words)
     });
     each.collect()
-}
-
-/// The line, and `^` below the column. Space is kept as it is: a tab moves the marker as far as it moves the line.
-fn marked(source: &str, at: Position) -> String {
-    let shown = source.lines().nth(at.line - 1).unwrap_or_default();
-    let before = shown.chars().take(at.column - 1);
-    let before: String = before
-        .map(|one| if one.is_whitespace() { one } else { ' ' })
-        .collect();
-    format!("    {shown}\n    {before}^\n")
 }

@@ -9,7 +9,7 @@ pub use read::Wrong;
 pub use shape::Shape;
 
 use crate::gates;
-use crate::text::fault::Fault;
+use crate::text::faults::Faults;
 use crate::text::tree::{Design, Name};
 use crate::text::{self, gates::GateText};
 use std::path::Path;
@@ -56,8 +56,8 @@ impl Family {
     /// Words that are no names.
     fn reserved(self) -> &'static [&'static str] {
         match self {
-            Family::Design => text::RESERVED,
-            Family::Gates => text::gates::RESERVED,
+            Family::Design => text::DESIGN.reserved,
+            Family::Gates => text::gates::WORDS.reserved,
         }
     }
 
@@ -72,7 +72,7 @@ impl Family {
 
 impl NamesFile {
     /// Of the text of a file.
-    pub fn of_text(file: &str, source: &str) -> Result<NamesFile, Fault> {
+    pub fn of_text(file: &str, source: &str) -> Result<NamesFile, Faults> {
         match gates::is_text(source) {
             true => Ok(NamesFile::of_gates(file, &text::parse_gates(source)?)),
             false => Ok(NamesFile::of_design(file, &text::parse(source)?)),

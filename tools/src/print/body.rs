@@ -9,6 +9,7 @@ use crate::table::node::{Command, Expression};
 use crate::table::{Bounds, Node};
 
 /// A command ready for layout: what may be broken into lines, and leaves of text.
+#[derive(Clone, PartialEq, Eq)]
 pub enum Body {
     Leaf(String),
     Sequence(Box<Body>, Box<Body>),

@@ -3,6 +3,7 @@
 
 pub mod body;
 pub mod layout;
+mod listed;
 pub mod records;
 
 use crate::named::Named;

@@ -3,6 +3,7 @@
 
 use super::body::Reader;
 use super::layout;
+use super::listed::listed;
 use crate::named::{Named, Parameter};
 use crate::table::limits::{PARAMETERS, WIDTH};
 use crate::table::{largest, parameters, Bounds, INNER, PORT};
@@ -92,7 +93,7 @@ pub fn register(table: &Named, register: usize) -> String {
 
 pub fn state(table: &Named, state: usize, reader: &mut Reader) -> String {
     reader.enter(state);
-    let body = reader.command(table.states[state].command);
+    let body = listed(reader.command(table.states[state].command));
     layout::block(&state_head(table, state), &body)
 }
 

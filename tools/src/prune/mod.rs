@@ -7,7 +7,7 @@ use crate::library::{self, Answer};
 use crate::names::Names;
 use crate::table::read::{read, SECTIONS, STATES};
 use crate::table::{State, Table};
-use crate::text::fault::Fault;
+use crate::text::faults::Faults;
 use crate::{numbering, text};
 use reached::{Reached, Why};
 
@@ -41,7 +41,7 @@ pub fn prune_named(image: &[u8], names: Option<&Names>) -> Pruned {
     }
 }
 
-pub fn prune_text(source: &str) -> Result<Pruned, Fault> {
+pub fn prune_text(source: &str) -> Result<Pruned, Faults> {
     let design = text::parse(source)?;
     let (table, positions) = numbering::number(&design)?;
     let image = table.image();

@@ -11,7 +11,7 @@ use crate::library::{self, Answer};
 use crate::names::Names;
 use crate::table::read::read;
 use crate::table::Table;
-use crate::text::fault::Fault;
+use crate::text::faults::Faults;
 use crate::{numbering, text};
 use unmet::Source;
 
@@ -48,7 +48,7 @@ pub fn raise_named(image: &[u8], names: Option<&Names>) -> Raised {
 
 /// Gives the raised text too: the text as it was but for the labels that rose. It is empty where the
 /// design was refused.
-pub fn raise_text(source: &str) -> Result<(Raised, String), Fault> {
+pub fn raise_text(source: &str) -> Result<(Raised, String), Faults> {
     let design = text::parse(source)?;
     let (table, positions) = numbering::number(&design)?;
     let image = table.image();

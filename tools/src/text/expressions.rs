@@ -1,6 +1,8 @@
 //! Expressions, by how tightly each operator binds.
 
 use super::fault::Fault;
+use super::habits::{usage, Use};
+use super::lexer::Token;
 use super::parser::Parser;
 use super::tree::{Expression, Placed};
 use crate::operator::{Operator, COMPARISON};
@@ -19,7 +21,14 @@ impl Parser {
     fn binding(&mut self, least: u8) -> Result<Placed<Expression>, Fault> {
         let mut left = self.operand()?;
         let mut most = u8::MAX;
-        while let Some(operator) = self.operator() {
+        loop {
+            if self.take_wrong_operator() {
+                self.operand()?;
+                continue;
+            }
+            let Some(operator) = self.operator() else {
+                break;
+            };
             if operator.binding() < least || operator.left_binding() > most {
                 break;
             }
@@ -35,7 +44,45 @@ impl Parser {
         Ok(left)
     }
 
+    /// One that there is not, which is a fault. What follows it is read as if there were.
+    fn take_wrong_operator(&mut self) -> bool {
+        let assign = self.is_symbol("=") || self.is_symbol(":=");
+        if assign {
+            let fault = self.fault("an operator");
+            self.record(fault.hint("to compare write `==`"));
+        }
+        let wrong = assign || self.wrong_use() == Some(Use::Between);
+        if wrong {
+            self.advance();
+        }
+        wrong
+    }
+
+    fn wrong_use(&self) -> Option<Use> {
+        match self.peek() {
+            Token::Wrong(piece) => Some(usage(piece)),
+            _ => None,
+        }
+    }
+
+    /// Skips what is no token before what may be a part of an expression.
+    pub(super) fn skip_wrong(&mut self) {
+        while self.wrong_use() == Some(Use::Before) && self.is_part_ahead() {
+            self.advance();
+        }
+    }
+
+    fn is_part_ahead(&self) -> bool {
+        match self.ahead(1) {
+            Token::Word(word) => !self.words().reserved.contains(&word.as_str()),
+            Token::Symbol(symbol) => matches!(*symbol, "(" | "-"),
+            Token::Number(_) | Token::Wrong(_) => true,
+            Token::End => false,
+        }
+    }
+
     fn operand(&mut self) -> Result<Placed<Expression>, Fault> {
+        self.skip_wrong();
         if self.take_symbol("(") {
             let inner = self.nested(Parser::expression)?;
             self.symbol(")", "an operator or `)`")?;
@@ -44,7 +91,9 @@ impl Parser {
         self.count_expression()?;
         let at = self.at();
         let expected = "an expression: a number, the name of a register or `(`";
-        let node = if self.is_number() {
+        // What is no token may have been meant for a number.
+        let wrong = matches!(self.wrong_use(), Some(Use::Part | Use::Before));
+        let node = if self.is_number() || wrong {
             Expression::Constant(self.number(expected)?)
         } else {
             Expression::Register(self.name(expected)?)
@@ -60,6 +109,6 @@ impl Parser {
 
     fn count_expression(&mut self) -> Result<(), Fault> {
         self.expressions += 1;
-        self.bound(self.at(), self.expressions, EXPRESSIONS, "expressions")
+        self.limit(self.expressions, EXPRESSIONS, "expressions")
     }
 }

@@ -1,9 +1,9 @@
-//! Where a text goes wrong, and what was expected there.
+//! Where a text goes wrong, what was expected there, and what may have been meant.
 
 use std::fmt;
 
 /// Line and column, both from 1. Columns are counted in characters.
-#[derive(Clone, Copy, Debug, PartialEq, Eq)]
+#[derive(Clone, Copy, Debug, PartialEq, Eq, PartialOrd, Ord, Hash)]
 pub struct Position {
     pub line: usize,
     pub column: usize,
@@ -14,6 +14,8 @@ pub struct Fault {
     pub at: Position,
     pub expected: String,
     pub found: String,
+    /// For what people write from habit.
+    pub hint: Option<String>,
 }
 
 impl Fault {
@@ -22,19 +24,31 @@ impl Fault {
             at,
             expected: expected.into(),
             found: found.into(),
+            hint: None,
         }
+    }
+
+    pub fn hint(mut self, hint: impl Into<String>) -> Fault {
+        self.hint = Some(hint.into());
+        self
+    }
+
+    /// With a hint where one word is nearly another.
+    pub fn did_you_mean(self, meant: Option<&str>) -> Fault {
+        match meant {
+            Some(meant) => self.hint(format!("did you mean `{meant}`?")),
+            None => self,
+        }
+    }
+
+    pub fn message(&self) -> String {
+        format!("expected {}, found {}", self.expected, self.found)
     }
 }
 
 impl fmt::Display for Fault {
     fn fmt(&self, out: &mut fmt::Formatter) -> fmt::Result {
         let Position { line, column } = self.at;
-        let Fault {
-            expected, found, ..
-        } = self;
-        write!(
-            out,
-            "line {line}, column {column}: expected {expected}, found {found}"
-        )
+        write!(out, "line {line}, column {column}: {}", self.message())
     }
 }

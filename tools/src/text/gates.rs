@@ -2,24 +2,26 @@
 
 use super::fault::Fault;
 use super::lexer::Token;
-use super::parser::Parser;
+use super::parser::{Parser, Words};
 use super::tree::Name;
 use crate::table::limits::{FLIPFLOPS, GATES, INPUTS};
 
 /// The first word of a gate table's text. No design begins with it.
 pub const FIRST: &str = "gates";
 
-/// Words that are no names in a gate table.
-pub const RESERVED: &[&str] = &[
-    FIRST,
-    "input",
-    "flipflop",
-    "gate",
-    "nand",
-    "start",
-    "trusted",
-    "untrusted",
-];
+pub const WORDS: Words = Words {
+    reserved: &[
+        FIRST,
+        "input",
+        "flipflop",
+        "gate",
+        "nand",
+        "start",
+        "trusted",
+        "untrusted",
+    ],
+    declarations: &["input", "flipflop", "gate"],
+};
 
 /// A gate table by names.
 #[derive(Debug, Default)]
@@ -52,39 +54,53 @@ pub struct Gate {
 const A_WIRE: &str = "the name of an input, a flip-flop or a gate";
 
 impl Parser {
-    pub fn gates(&mut self) -> Result<GateText, Fault> {
-        self.word(FIRST, "`gates`")?;
+    /// What is wrong is kept as a fault, and the parser goes on at the next declaration.
+    pub fn gates(&mut self) -> GateText {
         let mut text = GateText::default();
-        while *self.peek() != Token::End {
-            self.wire(&mut text)?;
+        if let Err(fault) = self.word(FIRST, "`gates`") {
+            self.record(fault);
         }
-        Ok(text)
+        while *self.peek() != Token::End {
+            let start = self.next;
+            if let Err(fault) = self.wire(&mut text) {
+                self.record(fault);
+                self.skip_declaration(start, None);
+            }
+        }
+        text
     }
 
     fn wire(&mut self, text: &mut GateText) -> Result<(), Fault> {
         let at = self.at();
-        if self.take_word("input") {
-            text.inputs.push(self.input()?);
-            self.bound(at, text.inputs.len(), INPUTS, "inputs")
-        } else if self.take_word("flipflop") {
-            text.flipflops.push(self.flipflop()?);
-            self.bound(at, text.flipflops.len(), FLIPFLOPS, "flip-flops")
-        } else if self.take_word("gate") {
-            text.gates.push(self.gate()?);
-            self.bound(at, text.gates.len(), GATES, "gates")
-        } else {
-            Err(self.fault("`input`, `flipflop` or `gate`"))
+        let expected = "`input`, `flipflop` or `gate`";
+        let words = self.words().declarations;
+        let meant = self.meant(words);
+        if let Some(word) = meant {
+            self.word(word, expected)?;
         }
+        if meant == Some("input") || self.take_word("input") {
+            text.inputs.push(self.input()?);
+            self.bound(at, text.inputs.len(), INPUTS, "inputs");
+        } else if meant == Some("flipflop") || self.take_word("flipflop") {
+            text.flipflops.push(self.flipflop()?);
+            self.bound(at, text.flipflops.len(), FLIPFLOPS, "flip-flops");
+        } else if meant == Some("gate") || self.take_word("gate") {
+            text.gates.push(self.gate()?);
+            self.bound(at, text.gates.len(), GATES, "gates");
+        } else {
+            return Err(self.fault(expected));
+        }
+        Ok(())
     }
 
     fn input(&mut self) -> Result<Input, Fault> {
-        let name = self.name("the input's name")?;
+        let name = self.declared(FIRST, "the input's name")?;
         let untrusted = self.untrusted()?;
         Ok(Input { name, untrusted })
     }
 
     fn flipflop(&mut self) -> Result<FlipFlop, Fault> {
-        let name = self.name("the flip-flop's name")?;
+        let name = self.declared(FIRST, "the flip-flop's name")?;
         self.symbol("=", "`=` and the wire that it takes next")?;
         let next = self.name(A_WIRE)?;
         self.word("start", "`start` and the value it starts with")?;
@@ -99,7 +115,7 @@ impl Parser {
     }
 
     fn gate(&mut self) -> Result<Gate, Fault> {
-        let name = self.name("the gate's name")?;
+        let name = self.declared(FIRST, "the gate's name")?;
         self.symbol("=", "`= nand` and two wires")?;
         self.word("nand", "`nand` and two wires")?;
         let reads = [self.name(A_WIRE)?, self.name(A_WIRE)?];
@@ -113,15 +129,21 @@ impl Parser {
                 self.advance();
                 Ok(value as u8)
             }
+            Token::Wrong(_) => {
+                self.advance();
+                Ok(0)
+            }
             _ => Err(self.fault("a value, 0 or 1")),
         }
     }
 
     fn untrusted(&mut self) -> Result<bool, Fault> {
-        if self.take_word("trusted") {
+        let expected = "`trusted` or `untrusted`";
+        if self.is_word("trusted") || self.meant(&["trusted", "untrusted"]) == Some("trusted") {
+            self.word("trusted", expected)?;
             return Ok(false);
         }
-        self.word("untrusted", "`trusted` or `untrusted`")?;
+        self.word("untrusted", expected)?;
         Ok(true)
     }
 }

@@ -22,6 +22,8 @@ pub struct Design {
     pub labels: Vec<Label>,
     pub registers: Vec<Register>,
     pub states: Vec<State>,
+    /// Bodies of states whose heads are wrong, so that there are none where the text is right.
+    pub loose: Vec<Placed<Command>>,
 }
 
 #[derive(Debug)]

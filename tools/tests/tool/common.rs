@@ -3,7 +3,19 @@
 use caisson_tools::{assemble_placed, explain, library};
 use std::fs;
 use std::path::PathBuf;
+use std::process::Command;
 use std::thread;
+
+/// What is said of the text `label low\nstate root : high { fall }`, behind the name of its file.
+pub const HIGH_FAULT: &str = ":2:14: expected the name of a label, found `high`
+    state root : high { fall }
+                 ^";
+
+/// What is said of the bytes `label \xff`.
+pub const BYTE_FAULT: &str = ":1:7: expected UTF-8, found the byte 0xFF
+    label \u{fffd}
+          ^
+    hint: save the text as UTF-8";
 
 /// A file or folder of the repository.
 pub fn path(name: &str) -> PathBuf {
@@ -12,6 +24,14 @@ pub fn path(name: &str) -> PathBuf {
 
 pub fn text(name: &str) -> String {
     fs::read_to_string(path(name)).unwrap_or_else(|error| panic!("{name}: {error}"))
+}
+
+/// A folder of its own for the files of one test, empty.
+pub fn folder(name: &str) -> String {
+    let folder = format!("{}/{name}", env!("CARGO_TARGET_TMPDIR"));
+    let _ = fs::remove_dir_all(&folder);
+    fs::create_dir_all(&folder).unwrap();
+    folder
 }
 
 pub fn bytes(name: &str) -> Vec<u8> {
@@ -58,4 +78,13 @@ pub fn explained_text(source: &str) -> String {
 pub fn on_large_stack(work: impl FnOnce() + Send + 'static) {
     let thread = thread::Builder::new().stack_size(64 << 20).spawn(work);
     thread.unwrap().join().unwrap();
+}
+
+/// Status, standard output and standard error of the tool, in the folder of designs.
+pub fn said(arguments: &[&str]) -> (Option<i32>, String, String) {
+    let mut command = Command::new(env!("CARGO_BIN_EXE_caisson"));
+    command.args(arguments).current_dir(path("designs"));
+    let output = command.output().unwrap();
+    let [out, err] = [output.stdout, output.stderr].map(|text| String::from_utf8(text).unwrap());
+    (output.status.code(), out, err)
 }

@@ -1,6 +1,6 @@
 //! `caisson compare` as one calls it: texts and tables, what it says of bad ones, and its status.
 
-use crate::common::{bytes, path, text};
+use crate::common::{self, bytes, folder, path, text};
 use caisson_tools::{assemble, explain, library};
 use std::fs;
 use std::process::Command;
@@ -20,14 +20,6 @@ fn caisson(arguments: &[&str]) -> (Option<i32>, String, String) {
 
 fn compare(arguments: &[&str]) -> (Option<i32>, String, String) {
     caisson(&[&["compare"], arguments].concat())
-}
-
-/// A folder of its own, empty.
-fn folder(name: &str) -> String {
-    let folder = format!("{}/{name}", env!("CARGO_TARGET_TMPDIR"));
-    let _ = fs::remove_dir_all(&folder);
-    fs::create_dir_all(&folder).unwrap();
-    folder
 }
 
 #[test]
@@ -180,8 +172,8 @@ fn it_says_why_it_cannot() {
     fs::hard_link(&own, &hard).unwrap();
     let lease = "lease.table";
     let missing = "none.table: No such file or directory (os error 2)";
-    let fault = format!("{wrong}: line 2, column 14: expected the name of a label, found `high`");
-    let not_utf8 = format!("{other}: the text is not UTF-8");
+    let fault = format!("{wrong}{}", common::HIGH_FAULT);
+    let not_utf8 = format!("{other}{}", common::BYTE_FAULT);
     let itself = |file: &str| format!("{file}: is the old design itself");
     let no_label =
         |level: &str| format!("{lease}: level {level} is no label: the design has labels 0 to 1");
@@ -240,8 +232,11 @@ fn it_says_why_it_cannot() {
     ] {
         let (status, out, err) = compare(arguments);
         assert_eq!((status, out.as_str()), (Some(2), ""), "{arguments:?}");
+        let usage = err.strip_prefix("there is no option `--levels`; did you mean `--level`?\n");
+        assert_eq!(usage.is_some(), arguments.contains(&"--levels"));
+        let usage = usage.unwrap_or(&err);
         assert!(
-            err.starts_with("usage: caisson assemble SOURCE TABLE\n"),
+            usage.starts_with("usage: caisson assemble SOURCE TABLE\n"),
             "{err}"
         );
         assert!(

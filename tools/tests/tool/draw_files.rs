@@ -1,29 +1,12 @@
 //! `caisson draw` as one calls it: the files it reads and writes, what it says of bad ones, and its status.
 
-use crate::common::{bytes, path, text};
+use crate::common::{bytes, folder, said, text, BYTE_FAULT, HIGH_FAULT};
 use caisson_tools::{read, Table};
 use std::fs;
-use std::process::Command;
 
 /// The status, standard output and standard error.
 fn draw(arguments: &[&str]) -> (Option<i32>, String, String) {
-    let mut command = Command::new(env!("CARGO_BIN_EXE_caisson"));
-    command.arg("draw").args(arguments);
-    let output = command.current_dir(path("designs")).output().unwrap();
-    let text = |bytes| String::from_utf8(bytes).unwrap();
-    (
-        output.status.code(),
-        text(output.stdout),
-        text(output.stderr),
-    )
-}
-
-/// A folder of its own, empty.
-fn folder(name: &str) -> String {
-    let folder = format!("{}/{name}", env!("CARGO_TARGET_TMPDIR"));
-    let _ = fs::remove_dir_all(&folder);
-    fs::create_dir_all(&folder).unwrap();
-    folder
+    said(&[&["draw"], arguments].concat())
 }
 
 #[test]
@@ -111,63 +94,60 @@ fn bad_inputs() {
         "label low\nstate root : high { fall }\n",
     )
     .unwrap();
-    fs::write(file("bytes.caisson"), [0xff, 0xfe]).unwrap();
+    fs::write(file("bytes.caisson"), b"label \xff").unwrap();
     let old = "../tools/tests/data/lease_format_2.table".to_string();
     for (name, words) in [
         (
             "counter.caisson".to_string(),
-            "is a gate table; only designs are drawn",
+            ": is a gate table; only designs are drawn",
         ),
         (
             "counter.table".to_string(),
-            "is a gate table; only designs are drawn",
+            ": is a gate table; only designs are drawn",
         ),
         (
             "none.caisson".to_string(),
-            "No such file or directory (os error 2)",
+            ": No such file or directory (os error 2)",
         ),
         (
             "none.table".to_string(),
-            "No such file or directory (os error 2)",
+            ": No such file or directory (os error 2)",
         ),
         (
             "cut_short.table".to_string(),
-            "cannot be cut into records: the sections end at 235, the image at 234",
+            ": cannot be cut into records: the sections end at 235, the image at 234",
         ),
         (
             file("empty.table"),
-            "cannot be cut into records: a directory has 20 bytes, the image 0",
+            ": cannot be cut into records: a directory has 20 bytes, the image 0",
         ),
-        (file("labels.table"), "has 17 labels, and 16 are the most"),
+        (file("labels.table"), ": has 17 labels, and 16 are the most"),
         (
             file("registers.table"),
-            "has 65 registers, and 64 are the most",
+            ": has 65 registers, and 64 are the most",
         ),
-        (file("states.table"), "has 65 states, and 64 are the most"),
+        (file("states.table"), ": has 65 states, and 64 are the most"),
         (
             file("commands.table"),
-            "has 1025 commands, and 1024 are the most",
+            ": has 1025 commands, and 1024 are the most",
         ),
         (
             file("expressions.table"),
-            "has 2049 expressions, and 2048 are the most",
+            ": has 2049 expressions, and 2048 are the most",
         ),
-        (file("stateless.table"), "has no states"),
-        (
-            file("wrong.caisson"),
-            "line 2, column 14: expected the name of a label, found `high`",
-        ),
-        (file("bytes.caisson"), "the text is not UTF-8"),
+        (file("stateless.table"), ": has no states"),
+        (file("wrong.caisson"), HIGH_FAULT),
+        (file("bytes.caisson"), BYTE_FAULT),
         (
             old,
-            "is a table of format 2, whose state records have 4 bytes; \
+            ": is a table of format 2, whose state records have 4 bytes; \
              `caisson upgrade OLD NEW` makes one of format 3 from it",
         ),
     ] {
         let out = file("never.dot");
         for arguments in [vec![name.as_str()], vec![name.as_str(), &out]] {
             let said = draw(&arguments);
-            let expected = format!("{name}: {words}\n");
+            let expected = format!("{name}{words}\n");
             assert_eq!(said, (Some(2), String::new(), expected));
         }
         assert!(fs::metadata(&out).is_err());

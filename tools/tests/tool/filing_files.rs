@@ -1,6 +1,6 @@
 //! `caisson file`, `sort` and `same` as one calls them: the files, what is said of bad ones, and the status.
 
-use crate::common::{bytes, path, text};
+use crate::common::{self, bytes, folder, path, text};
 use std::fs;
 use std::io::Read;
 use std::process::Command;
@@ -22,14 +22,6 @@ fn caisson(arguments: &[&str]) -> Said {
     let mut command = Command::new(env!("CARGO_BIN_EXE_caisson"));
     command.args(arguments).current_dir(path("designs"));
     called(command)
-}
-
-/// A folder of its own, empty.
-fn folder(name: &str) -> String {
-    let folder = format!("{}/{name}", env!("CARGO_TARGET_TMPDIR"));
-    let _ = fs::remove_dir_all(&folder);
-    fs::create_dir_all(&folder).unwrap();
-    folder
 }
 
 /// The names of the files in a folder, sorted.
@@ -197,13 +189,12 @@ fn all_three_say_what_is_no_design() {
         ("counter.table", no_design),
         ("counter.caisson", no_design),
         ("gates_cut_short.table", no_design),
-        (&other, "the text is not UTF-8"),
-        (
-            &wrong,
-            "line 2, column 14: expected the name of a label, found `high`",
-        ),
+        (&other, common::BYTE_FAULT),
+        (&wrong, common::HIGH_FAULT),
     ] {
-        let expected = (Some(2), String::new(), format!("{bad}: {words}\n"));
+        // The faults of a text have a place behind the name.
+        let part = if words.starts_with(':') { "" } else { ": " };
+        let expected = (Some(2), String::new(), format!("{bad}{part}{words}\n"));
         for arguments in [
             &["file", bad, &new][..],
             &["sort", bad],

@@ -1,29 +1,13 @@
 //! `caisson lint` as one calls it: what it prints of texts and of tables, what it says of bad files, and its status.
 
-use crate::common::{path, text};
+use crate::common::{folder, path, said, text, BYTE_FAULT};
 use caisson_tools::assemble;
 use std::fs;
 use std::process::Command;
 
 /// The status, standard output and standard error.
 fn lint(arguments: &[&str]) -> (Option<i32>, String, String) {
-    let mut command = Command::new(env!("CARGO_BIN_EXE_caisson"));
-    command.arg("lint").args(arguments);
-    let output = command.current_dir(path("designs")).output().unwrap();
-    let text = |bytes| String::from_utf8(bytes).unwrap();
-    (
-        output.status.code(),
-        text(output.stdout),
-        text(output.stderr),
-    )
-}
-
-/// A folder of its own, empty.
-fn folder(name: &str) -> String {
-    let folder = format!("{}/{name}", env!("CARGO_TARGET_TMPDIR"));
-    let _ = fs::remove_dir_all(&folder);
-    fs::create_dir_all(&folder).unwrap();
-    folder
+    said(&[&["lint"], arguments].concat())
 }
 
 /// In the order of the text, each with its line and a marker; a tab is kept.
@@ -150,41 +134,42 @@ fn bad_inputs() {
     )
     .unwrap();
     fs::write(file("empty.caisson"), "").unwrap();
-    fs::write(file("bytes.caisson"), [0xff]).unwrap();
+    fs::write(file("bytes.caisson"), b"label \xff").unwrap();
     fs::write(file("control.caisson"), "label low\nstate \u{14}").unwrap();
     for (name, words) in [
         (
             "counter.caisson".to_string(),
-            "is a gate table; only designs are looked over",
+            ": is a gate table; only designs are looked over",
         ),
         (
             "gates_cut_short.table".to_string(),
-            "is a gate table; only designs are looked over",
+            ": is a gate table; only designs are looked over",
         ),
         (
             "none.caisson".to_string(),
-            "No such file or directory (os error 2)",
+            ": No such file or directory (os error 2)",
         ),
         (
             "none.table".to_string(),
-            "No such file or directory (os error 2)",
+            ": No such file or directory (os error 2)",
         ),
-        (folder.clone(), "Is a directory (os error 21)"),
+        (folder.clone(), ": Is a directory (os error 21)"),
         (
             file("wrong.caisson"),
-            "line 3, column 31: expected the name of a state, found `}`",
+            ":3:31: expected the name of a state, found `}`\n    state s in root : low { goto  }\n    \
+             \x20                             ^",
         ),
         (
             file("empty.caisson"),
-            "line 1, column 1: expected at least one label, found the end of the text",
+            ":1:1: expected at least one label, found the end of the text\n    \n    ^",
         ),
-        (file("bytes.caisson"), "the text is not UTF-8"),
+        (file("bytes.caisson"), BYTE_FAULT),
         (
             file("control.caisson"),
-            "line 2, column 7: expected a name, a number or a symbol, found `\u{14}`",
+            ":2:7: expected a name, a number or a symbol, found U+0014\n    state \u{fffd}\n          ^",
         ),
     ] {
-        let expected = format!("{name}: {words}\n");
+        let expected = format!("{name}{words}\n");
         assert_eq!(lint(&[&name]), (Some(2), String::new(), expected));
     }
 }

@@ -1,5 +1,6 @@
 //! The tests of the tool, as one program.
 
+mod check;
 mod command_line;
 mod common;
 mod compare;
@@ -9,17 +10,21 @@ mod designs;
 mod draw;
 mod draw_files;
 mod draw_odd;
+mod encodings;
+mod faults;
 mod filing;
 mod filing_files;
 mod from_the_end;
 mod gates;
 mod gates_explained;
 mod gates_files;
+mod hints;
 mod known_tables;
 mod lint;
 mod lint_bodies;
 mod lint_runs;
 mod lint_words;
+mod long_bodies;
 mod names;
 mod names_files;
 mod names_first_line;
@@ -39,3 +44,4 @@ mod round_trip;
 mod source_lines;
 mod text_form;
 mod upgrade;
+mod usage;

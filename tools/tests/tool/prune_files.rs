@@ -1,6 +1,6 @@
 //! `caisson prune` as one calls it: the files it reads and writes, what it says of bad ones, and its status.
 
-use crate::common::{bytes, path, text};
+use crate::common::{self, bytes, folder, path, text};
 use std::fs;
 use std::io::Read;
 use std::process::Command;
@@ -26,14 +26,6 @@ fn caisson(arguments: &[&str]) -> Said {
 
 fn prune(from: &str, to: &str) -> Said {
     caisson(&["prune", from, to])
-}
-
-/// A folder of its own, empty.
-fn folder(name: &str) -> String {
-    let folder = format!("{}/{name}", env!("CARGO_TARGET_TMPDIR"));
-    let _ = fs::remove_dir_all(&folder);
-    fs::create_dir_all(&folder).unwrap();
-    folder
 }
 
 /// The names of the files in a folder, sorted.
@@ -186,12 +178,8 @@ fn it_says_why_it_cannot() {
             &new,
             format!("counter.caisson: {no_design}"),
         ),
-        (
-            &wrong,
-            &new,
-            format!("{wrong}: line 2, column 14: expected the name of a label, found `high`"),
-        ),
-        (&other, &new, format!("{other}: the text is not UTF-8")),
+        (&wrong, &new, format!("{wrong}{}", common::HIGH_FAULT)),
+        (&other, &new, format!("{other}{}", common::BYTE_FAULT)),
     ] {
         let expected = (Some(2), String::new(), format!("{words}\n"));
         assert_eq!(prune(from, to), expected, "{from} {to}");

@@ -1,6 +1,6 @@
 //! `caisson raise` as one calls it: the files it reads and writes, and its status.
 
-use crate::common::{bytes, path, text};
+use crate::common::{self, bytes, folder, path, text};
 use caisson_tools::assemble;
 use std::fs;
 use std::process::{Command, Output};
@@ -17,14 +17,6 @@ fn failure(output: &Output) -> String {
     assert_eq!(output.status.code(), Some(2));
     assert!(output.stdout.is_empty());
     String::from_utf8(output.stderr.clone()).unwrap()
-}
-
-/// A folder of its own, empty.
-fn folder(name: &str) -> String {
-    let folder = format!("{}/{name}", env!("CARGO_TARGET_TMPDIR"));
-    let _ = fs::remove_dir_all(&folder);
-    fs::create_dir_all(&folder).unwrap();
-    folder
 }
 
 #[test]
@@ -143,8 +135,7 @@ fn it_says_why_it_cannot() {
     }
     fs::write(&text, "label low\nstate root : high { fall }\n").unwrap();
     let message = failure(&raise(&text, &format!("{folder}/new.table")));
-    let expected = "line 2, column 14: expected the name of a label, found `high`\n";
-    assert_eq!(message, format!("{text}: {expected}"));
+    assert_eq!(message, format!("{text}{}\n", common::HIGH_FAULT));
     let nowhere = format!("{folder}/none/new.table");
     assert!(failure(&raise("guessed.table", &nowhere)).starts_with(&format!("{nowhere}: ")));
     assert!(failure(&raise("none.table", &nowhere)).starts_with("none.table: "));

@@ -23,13 +23,15 @@ fn assert_same_design(name: &str, image: &[u8]) -> Vec<u8> {
     let (one, other) = (read(image).unwrap(), read(&again).unwrap());
     assert_eq!((&one.rows, &one.registers), (&other.rows, &other.registers));
     assert_eq!(one.states.len(), other.states.len());
+    // What is too deep is nested anew by the assembler.
+    let deep = too_deep(image);
     for (left, right) in one.states.iter().zip(&other.states) {
         assert_eq!((left.parent, left.label), (right.parent, right.label));
         assert_eq!((left.count, left.bounds), (right.count, right.bounds));
-        assert!(
-            same_command(&one, left.command, &other, right.command),
-            "{name}"
-        );
+        let (left, right) = (left.command, right.command);
+        let same = same_command(&one, left, &other, right);
+        let same = same || deep && same_commands(&one, left, &other, right);
+        assert!(same, "{name}");
     }
     assert_comes_back(name, &again);
     again
@@ -48,6 +50,40 @@ fn same_command(one: &Table, left: u16, other: &Table, right: u16) -> bool {
             5 => value(left.a, right.a) && same(left.b, right.b) && same(left.c, right.c),
             _ => true,
         }
+}
+
+/// Whether commands are nested too deep.
+fn too_deep(image: &[u8]) -> bool {
+    let answer = library::check(image);
+    answer.number == 7 && answer.place < 1_024
+}
+
+/// The same commands in the same order, however their sequences nest.
+fn same_commands(one: &Table, left: u16, other: &Table, right: u16) -> bool {
+    let (left, right) = (listed(one, left), listed(other, right));
+    left.len() == right.len()
+        && left.into_iter().zip(right).all(|(left, right)| {
+            let nodes = (
+                one.commands[usize::from(left)],
+                other.commands[usize::from(right)],
+            );
+            match (nodes.0.kind, nodes.1.kind) {
+                (5, 5) => {
+                    same_expression(one, nodes.0.a, other, nodes.1.a)
+                        && same_commands(one, nodes.0.b, other, nodes.1.b)
+                        && same_commands(one, nodes.0.c, other, nodes.1.c)
+                }
+                _ => same_command(one, left, other, right),
+            }
+        })
+}
+
+fn listed(table: &Table, command: u16) -> Vec<u16> {
+    let node = table.commands[usize::from(command)];
+    match node.kind {
+        2 => [listed(table, node.a), listed(table, node.b)].concat(),
+        _ => vec![command],
+    }
 }
 
 fn same_expression(one: &Table, left: u16, other: &Table, right: u16) -> bool {
@@ -186,7 +222,8 @@ fn designs_refused_from_7_on_come_back_apart_from_node_numbers() {
             if before >= 7 && !printed(&image).contains('[') {
                 compared += 1;
                 let again = assert_same_design(&format!("round {round}"), &image);
-                assert_eq!(library::check(&again).number, before);
+                let after = library::check(&again).number;
+                assert!(after == before || too_deep(&image) && after != 7, "{after}");
                 if let 10..=12 = before {
                     assert_eq!(shown(&again), shown(&image));
                 }

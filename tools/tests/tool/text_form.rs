@@ -230,8 +230,8 @@ fn faults_of_declarations() {
         ("label a register width : a = 0", "line 1, column 18: expected the register's name, found `width`"),
         ("label a\nport é : a = 0", "line 2, column 6: expected a name, a number or a symbol, found `é`"),
         (
-            "register r : a = 4294967296",
-            "line 1, column 18: expected a decimal number from 0 to 4294967295, found `4294967296`",
+            "label a register r : a = 4294967296",
+            "line 1, column 26: expected a decimal number from 0 to 4294967295, found `4294967296`",
         ),
         (
             "label a port r : a = -2147483649",
