@@ -1,6 +1,7 @@
 //! What the commands read and write: files, and standard output.
 
 use crate::beside::load_named;
+use caisson_tools::names_file::{ENDING, FIRST};
 use caisson_tools::{assemble_placed, decode, explain, gates, library, Names};
 use std::io::Write;
 use std::os::unix::fs::MetadataExt;
@@ -124,8 +125,17 @@ pub fn same_file(one: &str, other: &str) -> bool {
     }
 }
 
+/// A table or a text. A names file is neither, and is easily given for its table.
 fn load(path: &str) -> Result<Vec<u8>, String> {
-    fs::read(path).map_err(|error| format!("{path}: {error}"))
+    let bytes = fs::read(path).map_err(|error| format!("{path}: {error}"))?;
+    match (
+        bytes.starts_with(FIRST.as_bytes()),
+        path.strip_suffix(ENDING),
+    ) {
+        (false, _) => Ok(bytes),
+        (true, Some(table)) => Err(format!("{path}: is a names file: name its table, {table}")),
+        (true, None) => Err(format!("{path}: is a names file, and no table or text")),
+    }
 }
 
 /// Of a design or of gates.

@@ -1,7 +1,7 @@
 //! The names file beside a table, on the command line: written with it, read with it, and refused where it is not of
 //! the table.
 
-use crate::common::{bytes, path, text};
+use crate::common::{bytes, folder, path, text};
 use std::fs;
 use std::process::Command;
 
@@ -31,14 +31,6 @@ pub fn silent() -> Said {
 
 pub fn failure(words: &str) -> Said {
     (Some(2), String::new(), format!("{words}\n"))
-}
-
-/// A folder of its own, empty.
-pub fn folder(name: &str) -> String {
-    let folder = format!("{}/{name}", env!("CARGO_TARGET_TMPDIR"));
-    let _ = fs::remove_dir_all(&folder);
-    fs::create_dir_all(&folder).unwrap();
-    folder
 }
 
 pub fn files(folder: &str) -> Vec<String> {

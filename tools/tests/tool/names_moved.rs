@@ -1,7 +1,7 @@
 //! Names that go along with a design: raised, pruned, filed, upgraded; and two designs side by side by name.
 
-use crate::common::{bytes, path, text};
-use crate::names_files::{caisson, called, failure, files, folder, silent};
+use crate::common::{bytes, folder, path, text};
+use crate::names_files::{caisson, called, failure, files, silent};
 use caisson_tools::names_file::NamesFile;
 use std::fs;
 use std::process::Command;

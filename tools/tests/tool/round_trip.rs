@@ -1,10 +1,11 @@
 //! Tables printed and assembled again.
 
 use crate::common::{bytes, designs_alone, on_large_stack, with_body};
+use crate::same_bodies::{same_command, same_commands};
 use caisson_tests::generate::random::Random;
 use caisson_tests::generate::{any_design, faults, parameterised, Size};
 use caisson_tests::{designs::largest, examples, reference, table};
-use caisson_tools::{assemble, explain, library, print, read, Table};
+use caisson_tools::{assemble, explain, library, print, read};
 
 fn printed(image: &[u8]) -> String {
     print(&read(image).unwrap())
@@ -37,63 +38,10 @@ fn assert_same_design(name: &str, image: &[u8]) -> Vec<u8> {
     again
 }
 
-fn same_command(one: &Table, left: u16, other: &Table, right: u16) -> bool {
-    let left = one.commands[usize::from(left)];
-    let right = other.commands[usize::from(right)];
-    let same = |left, right| same_command(one, left, other, right);
-    let value = |left, right| same_expression(one, left, other, right);
-    (left.kind, left.which) == (right.kind, right.which)
-        && match left.kind {
-            1 => value(left.a, right.a),
-            2 => same(left.a, right.a) && same(left.b, right.b),
-            4 => left == right,
-            5 => value(left.a, right.a) && same(left.b, right.b) && same(left.c, right.c),
-            _ => true,
-        }
-}
-
 /// Whether commands are nested too deep.
 fn too_deep(image: &[u8]) -> bool {
     let answer = library::check(image);
     answer.number == 7 && answer.place < 1_024
-}
-
-/// The same commands in the same order, however their sequences nest.
-fn same_commands(one: &Table, left: u16, other: &Table, right: u16) -> bool {
-    let (left, right) = (listed(one, left), listed(other, right));
-    left.len() == right.len()
-        && left.into_iter().zip(right).all(|(left, right)| {
-            let nodes = (
-                one.commands[usize::from(left)],
-                other.commands[usize::from(right)],
-            );
-            match (nodes.0.kind, nodes.1.kind) {
-                (5, 5) => {
-                    same_expression(one, nodes.0.a, other, nodes.1.a)
-                        && same_commands(one, nodes.0.b, other, nodes.1.b)
-                        && same_commands(one, nodes.0.c, other, nodes.1.c)
-                }
-                _ => same_command(one, left, other, right),
-            }
-        })
-}
-
-fn listed(table: &Table, command: u16) -> Vec<u16> {
-    let node = table.commands[usize::from(command)];
-    match node.kind {
-        2 => [listed(table, node.a), listed(table, node.b)].concat(),
-        _ => vec![command],
-    }
-}
-
-fn same_expression(one: &Table, left: u16, other: &Table, right: u16) -> bool {
-    let left = one.expressions[usize::from(left)];
-    let right = other.expressions[usize::from(right)];
-    let same = |left, right| same_expression(one, left, other, right);
-    match left.kind {
-        0 | 1 => left == right,
-        _ => left.kind == right.kind && same(left.a, right.a) && same(left.b, right.b),
-    }
 }
 
 #[test]
