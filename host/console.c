@@ -41,7 +41,7 @@ struct command {
 static enum status show(struct console *console, char *const *words, size_t count)
 {
     const struct site *site = console->site;
-    enum status status = record_sample(site->box, site->done, site->options->parties, site->options->party_count);
+    enum status status = records_sample(site->records, site->box, site->done);
 
     (void)words;
     (void)count;
@@ -77,18 +77,23 @@ static enum status back(struct console *console, char *const *words, size_t coun
     if (answer.number == CAISSON_ACCEPTED)
         return show(console, words, count);
     /* A place of 14 is one of the saved state, which the areas do not tell. */
-    refusal_say(answer, NULL);
+    refusal_say(answer, NULL, console->site->names);
     if (answer.number == CAISSON_STEPS_BACK)
         say("  the journal goes back %" PRIu64 " cycles, not %" PRIu64 "\n", journal_reach(console->site->journal),
             cycles);
     return STATUS_DONE;
 }
 
-/* A register as its number or as the records have it: 2 or r2. */
-static bool register_read(const char *word, uint32_t *reg)
+/* A register by its name, as its number or as records without names have it: reading, 2 or r2. */
+static bool register_read(const struct names *names, const char *word, uint32_t *reg)
 {
     uint64_t number;
+    size_t named;
 
+    if (register_named(names, word, strlen(word), &named)) {
+        *reg = (uint32_t)named;
+        return true;
+    }
     if (!number_read_all(word[0] == 'r' ? word + 1 : word, UINT32_MAX, &number))
         return false;
     *reg = (uint32_t)number;
@@ -102,15 +107,25 @@ static bool value_read(const char *word, uint32_t *value)
     return number_read_word(&word, end, value) && word == end;
 }
 
+static enum status written(const struct names *names, uint32_t reg, uint32_t value)
+{
+    const char *name = name_of_register(names, reg);
+
+    return name != NULL ? record_line("%s=%" PRIu32 "\n", name, value)
+                        : record_line("r%" PRIu32 "=%" PRIu32 "\n", reg, value);
+}
+
 static enum status write_port(struct console *console, char *const *words, size_t count)
 {
+    const struct names *names = console->site->names;
     struct box *box = console->site->box;
     uint32_t reg, value;
     caisson_answer answer;
 
     (void)count;
-    if (!register_read(words[0], &reg)) {
-        say("write takes a register as its number, 2 or r2, not %s\n", words[0]);
+    if (!register_read(names, words[0], &reg)) {
+        say("write takes a register %sas its number, 2 or r2, not %s\n",
+            name_of_register(names, 0) != NULL ? "by its name or " : "", words[0]);
         return STATUS_DONE;
     }
     if (!value_read(words[1], &value)) {
@@ -119,8 +134,8 @@ static enum status write_port(struct console *console, char *const *words, size_
     }
     answer = box_write_port(box, reg, value);
     if (answer.number == CAISSON_ACCEPTED)
-        return record_line("r%" PRIu32 "=%" PRIu32 "\n", reg, value);
-    reading_refused(box, reg, value, answer);
+        return written(names, reg, value);
+    reading_refused(console->site, reg, value, answer);
     return STATUS_DONE;
 }
 
@@ -130,7 +145,7 @@ static enum status reset(struct console *console, char *const *words, size_t cou
 
     if (answer.number == CAISSON_ACCEPTED)
         return show(console, words, count);
-    refusal_say(answer, NULL);
+    refusal_say(answer, NULL, console->site->names);
     return STATUS_DONE;
 }
 

@@ -3,7 +3,10 @@
 #define CYCLES_H
 
 #include "box.h"
+#include "names.h"
+#include "notices.h"
 #include "options.h"
+#include "records.h"
 #include "status.h"
 #include "trace.h"
 
@@ -11,19 +14,22 @@
 struct site {
     struct box *box;
     struct journal *journal; /* NULL: none is kept */
-    const struct trace *trace;
+    const struct trace *trace; /* without readings, where these come as they come */
+    struct readings *readings;
+    const struct names *names;     /* all NULL where there is no names file */
     const struct options *options; /* with at least one party, if the design has labels */
-    uint64_t done;                 /* cycles, without those gone back over */
-    size_t written;                /* readings of the trace, without those before cycles gone back over */
+    struct records *records;
+    struct notices *notices;
+    uint64_t done; /* cycles, without those gone back over */
 };
 
 /* What the library refuses a port write by, and of a value too large what its port would take. */
-void reading_refused(const struct box *box, uint32_t reg, uint32_t value, caisson_answer answer);
+void reading_refused(const struct site *site, uint32_t reg, uint32_t value, caisson_answer answer);
 
 /* The latter alone: what a port takes, and not this value. */
-void reading_too_large(const struct box *box, uint32_t reg, uint32_t value);
+void reading_too_large(const struct site *site, uint32_t reg, uint32_t value);
 
-/* The cycle to end with. */
+/* The cycle to end with, as far as it is known. */
 uint64_t cycles_last(const struct site *site);
 
 /*
@@ -32,11 +38,11 @@ uint64_t cycles_last(const struct site *site);
  * one that the library refuses.
  */
 CAISSON_LOOK_AT_ANSWER
-enum status cycles_rehearse(const struct box *box, const struct trace *trace, const char *path);
+enum status cycles_rehearse(const struct site *site, const struct trace *trace);
 
 /*
  * Before each cycle its readings, then the cycle, then its sample where one is due; as many cycles as the
- * options say. Says at the end what was done, with the late cycles.
+ * options say, or until a signal. Says at the end what was done, with the late cycles.
  */
 CAISSON_LOOK_AT_ANSWER
 enum status cycles_run(struct site *site);

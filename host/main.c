@@ -1,5 +1,5 @@
 /*
- * outstation: checks a design, takes the readings of the undertakings at a site from a trace, runs
+ * outstation: checks a design, takes the readings of the undertakings at a site from a trace or as they come, runs
  * the design's cycles and writes each party's flow record; then, where it is asked to, it takes commands.
  * README.md describes it.
  */
@@ -8,37 +8,52 @@
 #include "console.h"
 #include "cycles.h"
 #include "design.h"
+#include "feed.h"
 #include "record.h"
 #include "refusals.h"
 #include "replay.h"
 #include "say.h"
+#include "signals.h"
 
-static enum status refused(const char *path, caisson_answer answer)
+/* What is read before the first cycle. */
+struct inputs {
+    struct design design;
+    struct names names;
+    struct trace trace;
+    struct feed feed;
+};
+
+static enum status refused(const char *path, caisson_answer answer, const struct names *names)
 {
     say("%s: ", path);
-    refusal_say(answer, NULL);
+    refusal_say(answer, NULL, names);
     return STATUS_REFUSED;
 }
 
 /* The options with a party for each label where none was given; `each_label` must outlive them. */
 static struct options with_parties(const struct options *options, struct party each_label[CAISSON_LABELS],
-                                   const uint8_t *image)
+                                   const struct inputs *inputs)
 {
     struct options chosen = *options;
 
     if (chosen.party_count == 0) {
         chosen.parties = each_label;
-        chosen.party_count = parties_of_labels(each_label, image);
+        chosen.party_count = parties_of_labels(each_label, inputs->design.image, &inputs->names);
     }
     return chosen;
 }
 
-/* The cycles, and then the console. */
+/* The cycles, and then the console, which a signal ends as any program. */
 static enum status site_run(struct site *site)
 {
-    enum status status = cycles_run(site);
+    enum status status;
 
-    return status == STATUS_DONE && site->options->console ? console_run(site) : status;
+    signals_start();
+    status = cycles_run(site);
+    if (status != STATUS_DONE || !site->options->console || signals_stop())
+        return status;
+    signals_end();
+    return console_run(site);
 }
 
 /* With a journal, where the options ask for one. */
@@ -59,29 +74,65 @@ static enum status site_operate(struct site *site)
     return status;
 }
 
-/* Judges everything before the first cycle: the design, the parties' levels, all port writes. */
-static enum status operate(const struct options *options, const struct design *design, const struct trace *trace)
+/* With the records open. Lines that were lost are a failure, and so is an input that broke, unless the site was
+   asked to end. */
+static enum status site_record(struct site *site, const struct inputs *inputs)
 {
-    struct party each_label[CAISSON_LABELS];
-    struct options chosen;
-    struct box box;
-    struct site site = {.box = &box, .trace = trace, .options = &chosen};
-    enum status status;
-    caisson_answer answer = caisson_check(design->image, design->length);
+    static struct records records; /* a writer that a disk holds still has it */
+    enum status status = records_open(&records, site->options, site->names, &inputs->design);
+    uint64_t lost;
 
-    if (answer.number != CAISSON_ACCEPTED)
-        return refused(options->design, answer);
-    chosen = with_parties(options, each_label, design->image);
-    status = parties_judge(chosen.parties, chosen.party_count, design->image);
+    site->records = &records;
+    if (status == STATUS_DONE)
+        status = site->options->replay ? replay_run(site) : site_operate(site);
+    lost = records_close(&records, signals_stop());
+    if (status == STATUS_DONE && !signals_stop() && (lost > 0 || inputs->feed.broken))
+        return STATUS_INPUT;
+    return status;
+}
+
+/* Judges everything before the first cycle: the parties' levels, all port writes of a trace. */
+static enum status operate(const struct options *options, struct inputs *inputs)
+{
+    const struct design *design = &inputs->design;
+    struct party each_label[CAISSON_LABELS];
+    struct options chosen = with_parties(options, each_label, inputs);
+    struct notices notices = {.rare = options->forever};
+    struct box box;
+    struct site site = {.box = &box,
+                        .trace = &inputs->trace,
+                        .readings = options->feed ? &inputs->feed.source : &inputs->trace.source,
+                        .names = &inputs->names,
+                        .options = &chosen,
+                        .notices = &notices};
+    enum status status = parties_judge(chosen.parties, chosen.party_count, design->image, &inputs->names);
+    caisson_answer answer;
+
     if (status != STATUS_DONE)
         return status;
+    feed_start(&inputs->feed, &inputs->names, &notices);
     answer = box_start(&box, design->image, design->length);
     if (answer.number != CAISSON_ACCEPTED)
-        return refused(options->design, answer);
-    if (options->replay)
-        return replay_run(&site);
-    status = cycles_rehearse(&box, trace, options->trace);
-    return status == STATUS_DONE ? site_operate(&site) : status;
+        return refused(options->design, answer, &inputs->names);
+    if (!options->replay)
+        status = cycles_rehearse(&site, &inputs->trace);
+    return status == STATUS_DONE ? site_record(&site, inputs) : status;
+}
+
+/* The design is judged, and its names are read. Without the shape of a design there are no names for its places. */
+static enum status design_take(const char *path, struct inputs *inputs)
+{
+    enum status status = design_load(&inputs->design, path);
+    caisson_answer answer;
+
+    if (status != STATUS_DONE)
+        return status;
+    answer = caisson_check(inputs->design.image, inputs->design.length);
+    if (answer.number != CAISSON_DIRECTORY)
+        status = names_load(&inputs->names, path, &inputs->design);
+    if (status != STATUS_DONE)
+        return status;
+    return answer.number == CAISSON_ACCEPTED ? STATUS_DONE : refused(path, answer, &inputs->names);
 }
 
 static enum status help(void)
@@ -89,22 +140,22 @@ static enum status help(void)
     return fputs(options_usage, stdout) == EOF ? STATUS_INPUT : record_flush();
 }
 
-/* Reads both files before anything is done with either. */
+/* The design comes first: its names may stand in the trace. */
 static enum status outstation(const struct options *options)
 {
-    struct design design;
-    struct trace trace = {0};
-    enum status status = STATUS_DONE;
+    static struct inputs inputs;
+    enum status status;
 
     if (options->help)
         return help();
-    if (options->trace != NULL)
-        status = trace_read(&trace, options->trace);
+    trace_start(&inputs.trace, options->trace);
+    status = design_take(options->design, &inputs);
+    if (status == STATUS_DONE && options->trace != NULL)
+        status = trace_read(&inputs.trace, &inputs.names);
     if (status == STATUS_DONE)
-        status = design_load(&design, options->design);
-    if (status == STATUS_DONE)
-        status = operate(options, &design, &trace);
-    trace_free(&trace);
+        status = operate(options, &inputs);
+    trace_free(&inputs.trace);
+    names_free(&inputs.names);
     return status;
 }
 

@@ -10,20 +10,28 @@
 #define CONSOLE_JOURNAL 1000u    /* where a console has to do without --journal */
 
 const char options_usage[] =
-    "usage: outstation DESIGN TRACE [--fast] [--cycles N] [--every K] [--party NAME:LEVEL]... [--journal N]\n"
-    "       outstation DESIGN [TRACE] --console [the same options]\n"
-    "       outstation DESIGN TRACE --replay [--cycles N] [--every K] [--party NAME:LEVEL]...\n"
+    "usage: outstation DESIGN TRACE [--fast] [--cycles N | --forever] [--every K] [--party NAME:LEVEL]...\n"
+    "                  [--records DIR] [--journal N]\n"
+    "       outstation DESIGN --readings - [the same options]\n"
+    "       outstation DESIGN [TRACE] --console [--fast] [--cycles N] [--every K] [--party NAME:LEVEL]...\n"
+    "                  [--journal N]\n"
+    "       outstation DESIGN TRACE --replay [--cycles N] [--every K] [--party NAME:LEVEL]... [--records DIR]\n"
     "  --fast              run as fast as possible, not 100 cycles a second\n"
     "  --cycles N          stop after N cycles, not after the last cycle that the trace names\n"
+    "  --forever           run on until SIGTERM or SIGINT, whatever the readings; at most a message a minute\n"
     "  --every K           a sample after each K cycles, not after each cycle\n"
-    "  --party NAME:LEVEL  a flow record at this label, not one for each label; may be repeated\n"
+    "  --party NAME:LEVEL  a flow record at this label, by its name or number, not one for each label; may be\n"
+    "                      repeated\n"
+    "  --records DIR       a file DIR/NAME.record for each party, not standard output; no cycle waits for it,\n"
+    "                      and SIGHUP opens the files anew\n"
+    "  --readings -        readings from standard input as they come, not from a trace\n"
     "  --journal N         keep a journal of the last N cycles at least, to go back to\n"
     "  --console           take commands from standard input afterwards, with a journal of 1000 cycles if\n"
     "                      none is asked for; `help` lists them\n"
     "  --replay            hand the trace to the library, which makes the port writes and the cycles in one\n"
     "                      call from sample to sample, as fast as possible\n"
-    "A line of TRACE is CYCLE REGISTER VALUE. A VALUE below zero, as -40, is written to the port as its\n"
-    "two's complement.\n";
+    "A line of TRACE is CYCLE REGISTER VALUE, one of standard input REGISTER VALUE: a register by its number or,\n"
+    "with DESIGN.names, by its name. A VALUE below zero, as -40, is written to the port as its two's complement.\n";
 
 static enum status wrong(const char *what, const char *argument)
 {
@@ -59,6 +67,14 @@ static enum status valued_read(struct options *options, const char *name, const 
     } else if (strcmp(name, "--journal") == 0) {
         if (!number_read_all(value, LONGEST_JOURNAL, &options->journal) || options->journal == 0)
             return wrong("--journal takes a number of cycles from 1 to 1000000, not ", value);
+    } else if (strcmp(name, "--records") == 0) {
+        options->records = value;
+        if (value[0] == '\0')
+            return wrong("--records takes a folder", "");
+    } else if (strcmp(name, "--readings") == 0) {
+        options->feed = true;
+        if (strcmp(value, "-") != 0)
+            return wrong("--readings takes -, standard input, not ", value);
     } else {
         return party_add(options, value);
     }
@@ -79,7 +95,7 @@ static enum status path_read(struct options *options, const char *path)
 static bool takes_value(const char *name)
 {
     return strcmp(name, "--cycles") == 0 || strcmp(name, "--every") == 0 || strcmp(name, "--party") == 0 ||
-           strcmp(name, "--journal") == 0;
+           strcmp(name, "--journal") == 0 || strcmp(name, "--records") == 0 || strcmp(name, "--readings") == 0;
 }
 
 /* An option without a value; false where it is none. */
@@ -91,6 +107,8 @@ static bool flag_read(struct options *options, const char *name)
         options->console = true;
     else if (strcmp(name, "--replay") == 0)
         options->replay = true;
+    else if (strcmp(name, "--forever") == 0)
+        options->forever = true;
     else if (strcmp(name, "--help") == 0)
         options->help = true;
     else
@@ -116,8 +134,32 @@ static enum status argument_read(struct options *options, int argc, char **argv,
     return valued_read(options, argument, argv[at + 1]);
 }
 
+/* What does not go together, or is missing; NULL where all is well. */
+static const char *contradiction(const struct options *options)
+{
+    if (options->replay && (options->console || options->journal > 0))
+        return "--replay keeps no journal and goes with no console";
+    if (options->replay && (options->feed || options->forever))
+        return "--replay is for a trace that ends: neither --readings nor --forever goes with it";
+    if (options->console && options->feed)
+        return "--console takes standard input, and so does --readings";
+    if (options->console && (options->forever || options->records != NULL))
+        return "--console shows the records of cycles that end: neither --forever nor --records goes with it";
+    if (options->forever && options->limited)
+        return "either --cycles or --forever";
+    if (options->feed && options->trace != NULL)
+        return "readings come from a trace or from standard input, not from both";
+    if ((options->console || options->feed) && options->design == NULL)
+        return "a design is needed";
+    if (options->trace == NULL && !options->console && !options->feed)
+        return "a design and a trace are needed";
+    return NULL;
+}
+
 enum status options_read(struct options *options, int argc, char **argv)
 {
+    const char *against;
+
     *options = (struct options){.every = 1};
     /* No more parties than arguments, and at least one, since room for none may be NULL. */
     options->parties = calloc((size_t)argc + 1, sizeof *options->parties);
@@ -131,12 +173,9 @@ enum status options_read(struct options *options, int argc, char **argv)
     }
     if (options->help)
         return STATUS_DONE;
-    if (options->replay && (options->console || options->journal > 0))
-        return wrong("--replay keeps no journal and goes with no console", "");
-    if (options->console && options->design == NULL)
-        return wrong("a design is needed", "");
-    if (options->trace == NULL && !options->console)
-        return wrong("a design and a trace are needed", "");
+    against = contradiction(options);
+    if (against != NULL)
+        return wrong(against, "");
     if (options->console && options->journal == 0)
         options->journal = CONSOLE_JOURNAL;
     return STATUS_DONE;

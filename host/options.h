@@ -10,10 +10,13 @@
 struct options {
     const char *design; /* path of the design */
     const char *trace;  /* path of the trace; NULL: there is none */
+    bool feed;          /* readings come on standard input */
+    const char *records; /* a folder for the parties' files; NULL: standard output */
     bool help;          /* only say how the program is used */
     bool fast;          /* do not wait between cycles */
     bool limited;       /* `cycles` was given */
     uint64_t cycles;    /* how many to run */
+    bool forever;       /* until a signal */
     uint64_t every;     /* a sample after each so many cycles; at least 1 */
     bool replay;        /* through caisson_replay, not by port writes and runs */
     bool console;       /* take commands afterwards */

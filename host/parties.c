@@ -17,15 +17,18 @@ static const char *const label_names[CAISSON_LABELS] = {
 
 bool party_read(struct party *party, const char *text)
 {
-    uint64_t level;
+    uint64_t number = 0;
+    const char *level;
 
     party->name = text;
     party->name_length = strspn(text, name_characters);
     if (party->name_length == 0 || party->name_length > PARTY_LONGEST_NAME || text[party->name_length] != ':')
         return false;
-    if (!number_read_all(text + party->name_length + 1, UINT32_MAX, &level))
+    level = text + party->name_length + 1;
+    party->level_name = is_name(level, strlen(level)) ? level : NULL;
+    if (party->level_name == NULL && !number_read_all(level, UINT32_MAX, &number))
         return false;
-    party->level = (uint32_t)level;
+    party->level = (uint32_t)number;
     return true;
 }
 
@@ -34,25 +37,57 @@ bool party_same_name(const struct party *party, const struct party *other)
     return party->name_length == other->name_length && memcmp(party->name, other->name, party->name_length) == 0;
 }
 
-size_t parties_of_labels(struct party parties[CAISSON_LABELS], const uint8_t *image)
+size_t parties_of_labels(struct party parties[CAISSON_LABELS], const uint8_t *image, const struct names *names)
 {
     size_t labels = table_labels(image);
 
-    for (size_t label = 0; label < labels; label++)
-        parties[label] = (struct party){label_names[label], strlen(label_names[label]), (uint32_t)label};
+    for (size_t label = 0; label < labels; label++) {
+        const char *name = name_of_label(names, label);
+
+        if (name == NULL)
+            name = label_names[label];
+        parties[label] = (struct party){.name = name, .name_length = strlen(name), .level = (uint32_t)label};
+    }
     return labels;
 }
 
-enum status parties_judge(const struct party *parties, size_t count, const uint8_t *image)
+static enum status no_such_name(const struct party *party, const struct names *names)
 {
-    size_t labels = table_labels(image);
+    say("party %.*s: level %s is no ", (int)party->name_length, party->name, party->level_name);
+    if (name_of_label(names, 0) == NULL) {
+        say("number, and the design has no names file\n");
+        return STATUS_INPUT;
+    }
+    say("label of the design, which has ");
+    for (size_t label = 0; label < CAISSON_LABELS && name_of_label(names, label) != NULL; label++)
+        say("%s%s", label == 0 ? "" : ", ", name_of_label(names, label));
+    say("\n");
+    return STATUS_INPUT;
+}
 
+static enum status level_judge(struct party *party, size_t labels, const struct names *names)
+{
+    size_t label;
+
+    if (party->level_name != NULL) {
+        if (!label_named(names, party->level_name, strlen(party->level_name), &label))
+            return no_such_name(party, names);
+        party->level = (uint32_t)label;
+    }
+    if (party->level < labels)
+        return STATUS_DONE;
+    say("party %.*s: level %lu is no label of the design, which has labels 0 to %zu\n", (int)party->name_length,
+        party->name, (unsigned long)party->level, labels - 1);
+    return STATUS_INPUT;
+}
+
+enum status parties_judge(struct party *parties, size_t count, const uint8_t *image, const struct names *names)
+{
     for (size_t i = 0; i < count; i++) {
-        if (parties[i].level >= labels) {
-            say("party %.*s: level %lu is no label of the design, which has labels 0 to %zu\n",
-                (int)parties[i].name_length, parties[i].name, (unsigned long)parties[i].level, labels - 1);
-            return STATUS_INPUT;
-        }
+        enum status status = level_judge(&parties[i], table_labels(image), names);
+
+        if (status != STATUS_DONE)
+            return status;
     }
     return STATUS_DONE;
 }

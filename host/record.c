@@ -3,69 +3,70 @@
 #include <errno.h>
 #include <inttypes.h>
 #include <stdarg.h>
-#include <stdbool.h>
 #include <stdio.h>
 #include <string.h>
 
 #include "say.h"
 #include "table.h"
 
-static enum status not_written(void)
+/* By name, or by number behind a letter: ` timer` or ` r0`. */
+static bool thing_add(struct text *text, const char *before, const char *name, char letter, size_t number)
 {
-    say("standard output: cannot be written: %s\n", strerror(errno));
-    return STATUS_INPUT;
+    return name != NULL ? text_add(text, "%s%s", before, name) : text_add(text, "%s%c%zu", before, letter, number);
 }
 
-/* Of a state with parameters its number and the numbers of the registers bound to them: ` s2(r4,r5)`. */
-static bool state_write(const struct box *box, size_t state)
+/* Of a state with parameters which it is and the registers bound to them: ` s2(r4,r5)`. */
+static bool state_add(struct text *text, const struct box *box, const struct names *names, size_t state)
 {
     size_t parameters = table_parameters(box->image, state);
 
     if (parameters == 0)
         return true;
-    if (printf(" s%zu", state) < 0)
+    if (!thing_add(text, " ", name_of_state(names, state), 's', state))
         return false;
     for (size_t i = 0; i < parameters; i++) {
-        if (printf("%cr%zu", i == 0 ? '(' : ',', table_bound(box->image, box->targets_before, state, i)) < 0)
+        size_t bound = table_bound(box->image, box->targets_before, state, i);
+
+        if (!thing_add(text, i == 0 ? "(" : ",", name_of_register(names, bound), 'r', bound))
             return false;
     }
-    return putchar(')') != EOF;
+    return text_add(text, ")");
 }
 
-static bool states_write(const struct box *box, const struct party *party)
+static bool states_add(struct text *text, const struct box *box, const struct names *names, uint32_t level)
 {
     uint8_t states[CAISSON_STATES];
-    size_t count = box_path(box, party->level, states);
+    size_t count = box_path(box, level, states);
 
     for (size_t i = 0; i < count; i++) {
-        if (!state_write(box, states[i]))
+        if (!state_add(text, box, names, states[i]))
             return false;
     }
     return true;
 }
 
-static bool line_write(const struct box *box, uint64_t cycle, const struct party *party)
+bool record_add(struct text *text, const struct box *box, const struct names *names, uint64_t cycle,
+                const struct party *party)
 {
     size_t registers = box_registers(box);
 
-    if (printf("cycle %" PRIu64 " party %.*s:", cycle, (int)party->name_length, party->name) < 0)
+    if (!text_add(text, "cycle %" PRIu64 " party %.*s:", cycle, (int)party->name_length, party->name))
         return false;
     for (size_t reg = 0; reg < registers; reg++) {
-        if (table_sees(box->image, party->level, reg) && printf(" r%zu=%" PRIu32, reg, box_value(box, reg)) < 0)
+        if (table_sees(box->image, party->level, reg) &&
+            (!thing_add(text, " ", name_of_register(names, reg), 'r', reg) ||
+             !text_add(text, "=%" PRIu32, box_value(box, reg))))
             return false;
     }
-    if (table_has_parameters(box->image) && !states_write(box, party))
+    if (table_has_parameters(box->image) && !states_add(text, box, names, party->level))
         return false;
-    return putchar('\n') != EOF;
+    return text_add(text, "\n");
 }
 
-enum status record_sample(const struct box *box, uint64_t cycle, const struct party *parties, size_t count)
+static enum status not_written(void)
 {
-    for (size_t i = 0; i < count; i++) {
-        if (!line_write(box, cycle, &parties[i]))
-            return not_written();
-    }
-    return STATUS_DONE;
+    say("standard output: cannot be written: %s\n", strerror(errno));
+    return STATUS_INPUT;
 }
 
 enum status record_line(const char *format, ...)

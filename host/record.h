@@ -1,18 +1,21 @@
-/* record.h: the flow record of a party, on standard output. */
+/* record.h: a line of a party's flow record; and what a console writes beside it, on standard output. */
 #ifndef RECORD_H
 #define RECORD_H
 
 #include "box.h"
+#include "names.h"
 #include "parties.h"
 #include "status.h"
+#include "text.h"
 
 /*
- * Writes a sample: one line for each party, with the registers at or below its level and no other, and of a
- * design with parameters the states that it may have seen run, with the registers bound to them.
- * STATUS_INPUT, with a message, where it cannot be written.
+ * Adds the line of a party after a cycle, with the registers at or below its level and no other, and of a design
+ * with parameters the states that it may have seen run, with the registers bound to them. By name where there are
+ * names. False where there is no memory.
  */
 CAISSON_LOOK_AT_ANSWER
-enum status record_sample(const struct box *box, uint64_t cycle, const struct party *parties, size_t count);
+bool record_add(struct text *text, const struct box *box, const struct names *names, uint64_t cycle,
+                const struct party *party);
 
 /* Writes beside the records, for a console. STATUS_INPUT, with a message, where it cannot be written. */
 #if defined(__GNUC__) || defined(__clang__)
@@ -21,7 +24,7 @@ __attribute__((format(printf, 1, 2)))
 CAISSON_LOOK_AT_ANSWER
 enum status record_line(const char *format, ...);
 
-/* Hands all samples written so far to the system; STATUS_INPUT, with a message, where that fails. */
+/* Hands all that was written so far to the system; STATUS_INPUT, with a message, where that fails. */
 CAISSON_LOOK_AT_ANSWER
 enum status record_flush(void);
 

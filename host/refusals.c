@@ -45,36 +45,48 @@ static void node_say(size_t number)
         say(" at expression %zu", number - CAISSON_EXPRESSION_PLACE);
 }
 
-static void place_say(enum place place, size_t number)
+/* Behind a number the name of what has it. */
+static void named_say(const char *kind, size_t number, const char *name)
+{
+    say(" %s %zu", kind, number);
+    if (name != NULL)
+        say(" (%s)", name);
+}
+
+static void place_say(enum place place, size_t number, const struct names *names)
 {
     switch (place) {
     case PLACE_NONE:
     case PLACE_WRITE: /* the call has told which */
         break;
     case PLACE_LABEL:
-        say(" at label %zu", number);
+        named_say("at label", number, name_of_label(names, number));
         break;
     case PLACE_REGISTER:
-        say(" at register %zu", number);
+        named_say("at register", number, name_of_register(names, number));
         break;
     case PLACE_STATE:
-        say(" at state %zu", number);
+        named_say("at state", number, name_of_state(names, number));
         break;
     case PLACE_NODE:
         node_say(number);
         break;
     case PLACE_AREA:
-        if (number == 0)
+        if (number == 0) {
             say(" at a length, register 0 or state 0");
-        else
-            say(" at register %zu or state %zu", number, number);
+        } else {
+            named_say("at register", number, name_of_register(names, number));
+            named_say("or state", number, name_of_state(names, number));
+        }
         break;
     case PLACE_PARAMETER:
         /* The image tells which; `caisson explain` reads it. */
-        if (number < CAISSON_STATES)
-            say(" at state %zu or command %zu", number, number);
-        else
+        if (number < CAISSON_STATES) {
+            named_say("at state", number, name_of_state(names, number));
+            say(" or command %zu", number);
+        } else {
             node_say(number);
+        }
         break;
     case PLACE_RECORD:
         say(" at record %zu", number);
@@ -93,7 +105,7 @@ static enum place place_known(enum place place, const struct box *box, enum plac
     return place == PLACE_WRITE ? write : place;
 }
 
-static void answer_say(caisson_answer answer, const struct box *box, enum place write)
+static void answer_say(caisson_answer answer, const struct box *box, const struct names *names, enum place write)
 {
     say("refused by rule %u", (unsigned)answer.number);
     /* A later library may have more rules than this table. */
@@ -101,16 +113,16 @@ static void answer_say(caisson_answer answer, const struct box *box, enum place 
         say(" at place %zu, which this host has no words for.\n", answer.place);
         return;
     }
-    place_say(place_known(rules[answer.number].place, box, write), answer.place);
+    place_say(place_known(rules[answer.number].place, box, write), answer.place, names);
     say(": %s\n", rules[answer.number].words);
 }
 
-void refusal_say(caisson_answer answer, const struct box *box)
+void refusal_say(caisson_answer answer, const struct box *box, const struct names *names)
 {
-    answer_say(answer, box, PLACE_REGISTER);
+    answer_say(answer, box, names, PLACE_REGISTER);
 }
 
-void replay_refusal_say(caisson_answer answer, const struct box *box)
+void replay_refusal_say(caisson_answer answer, const struct box *box, const struct names *names)
 {
-    answer_say(answer, box, PLACE_RECORD);
+    answer_say(answer, box, names, PLACE_RECORD);
 }

@@ -3,7 +3,6 @@
 #include <inttypes.h>
 #include <stdlib.h>
 
-#include "record.h"
 #include "refusals.h"
 #include "say.h"
 #include "table.h"
@@ -11,6 +10,7 @@
 struct replay {
     struct site *site;
     caisson_record *records; /* room for all readings of the trace */
+    size_t written;          /* readings of the trace so far */
     uint64_t last;           /* cycle to end with */
     uint64_t superseded;
 };
@@ -33,7 +33,7 @@ static size_t records_make(const struct replay *replay, uint32_t cycles)
     uint64_t end = site->done + cycles;
     size_t count = 0;
 
-    for (size_t i = site->written; i < trace->count; i++) {
+    for (size_t i = replay->written; i < trace->count; i++) {
         const struct reading *reading = &trace->readings[i];
 
         if (reading->cycle > end && end < replay->last)
@@ -54,12 +54,12 @@ static void record_refused(const struct replay *replay, caisson_answer answer)
     const struct site *site = replay->site;
     const struct reading *reading;
 
-    answer.place += site->written;
+    answer.place += replay->written;
     reading = &site->trace->readings[answer.place];
-    say("%s:%zu: ", site->options->trace, reading->line);
-    replay_refusal_say(answer, site->box);
+    say("%s:%" PRIu64 ": ", site->options->trace, reading->line);
+    replay_refusal_say(answer, site->box, site->names);
     if (answer.number == CAISSON_PORT_VALUE)
-        reading_too_large(site->box, reading->reg, reading->value);
+        reading_too_large(site, reading->reg, reading->value);
     if (answer.number == CAISSON_TRACE_CYCLE)
         say("  the reading is for cycle %" PRIu64 ", and %" PRIu64 " cycles are to be replayed\n", reading->cycle,
             replay->last);
@@ -71,7 +71,7 @@ static enum status refused(const struct replay *replay, caisson_answer answer)
         record_refused(replay, answer);
     } else {
         say("before cycle %" PRIu64 ": ", replay->site->done + 1);
-        replay_refusal_say(answer, replay->site->box);
+        replay_refusal_say(answer, replay->site->box, replay->site->names);
     }
     return STATUS_REFUSED;
 }
@@ -85,7 +85,7 @@ static enum status part(struct replay *replay, uint32_t cycles)
     if (answer.number != CAISSON_ACCEPTED)
         return refused(replay, answer);
     site->done += cycles;
-    site->written += count;
+    replay->written += count;
     replay->superseded += answer.count;
     return STATUS_DONE;
 }
@@ -136,7 +136,7 @@ static enum status step(struct replay *replay)
 
     if (status != STATUS_DONE || site->done % site->options->every != 0)
         return status;
-    return record_sample(site->box, site->done, site->options->parties, site->options->party_count);
+    return records_sample(site->records, site->box, site->done);
 }
 
 static enum status run(struct replay *replay)
@@ -149,8 +149,8 @@ static enum status run(struct replay *replay)
     while (status == STATUS_DONE && site->done < replay->last)
         status = step(replay);
     if (status == STATUS_DONE)
-        status = record_flush();
-    say("%" PRIu64 " cycles, %zu records replayed, %" PRIu64 " of them superseded\n", site->done, site->written,
+        status = records_flush(site->records);
+    say("%" PRIu64 " cycles, %zu records replayed, %" PRIu64 " of them superseded\n", site->done, replay->written,
         replay->superseded);
     return status;
 }

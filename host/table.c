@@ -41,6 +41,11 @@ size_t table_labels(const uint8_t *image)
     return number_at(image + DIRECTORY_PAIR * LABELS + 2) / CAISSON_LABEL_LENGTH;
 }
 
+size_t table_registers(const uint8_t *image)
+{
+    return number_at(image + DIRECTORY_PAIR * REGISTERS + 2) / CAISSON_REGISTER_LENGTH;
+}
+
 bool table_flows(const uint8_t *image, size_t from, size_t to)
 {
     return number_at(records(image, LABELS) + CAISSON_LABEL_LENGTH * from) >> to & 1;

@@ -15,6 +15,8 @@
 
 size_t table_labels(const uint8_t *image); /* how many labels; from 1 to CAISSON_LABELS */
 
+size_t table_registers(const uint8_t *image); /* how many registers; at most CAISSON_REGISTERS */
+
 /* Whether label `from` flows to label `to`, that is, lies at or below it. */
 bool table_flows(const uint8_t *image, size_t from, size_t to);
 

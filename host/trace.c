@@ -6,57 +6,23 @@
 #include <stdlib.h>
 #include <string.h>
 
+#include "fields.h"
 #include "lines.h"
-#include "numbers.h"
 #include "say.h"
 
-/* A line of the file: its characters from `at` up to `end`. */
-struct text {
-    const char *at;
-    const char *end;
-};
-
-static void skip_blanks(struct text *text)
-{
-    while (text->at < text->end && is_blank(*text->at))
-        text->at++;
-}
-
-/* Whether a field ends here; the blanks behind it are skipped. */
-static bool field_end(struct text *text)
-{
-    const char *start = text->at;
-
-    skip_blanks(text);
-    return text->at > start || text->at == text->end;
-}
-
-static bool field_read(struct text *text, uint64_t most, uint64_t *number)
-{
-    return number_read(&text->at, text->end, most, number) && field_end(text);
-}
-
-/* A reading may be below zero. */
-static bool value_read(struct text *text, uint32_t *value)
-{
-    return number_read_word(&text->at, text->end, value) && field_end(text);
-}
-
 /* What is wrong with a line that has a reading, or NULL. */
-static const char *reading_read(struct reading *reading, struct text *text)
+static const char *reading_read(struct reading *reading, struct fields *fields, const struct names *names)
 {
-    uint64_t reg;
+    const char *wrong;
 
-    if (!field_read(text, UINT64_MAX, &reading->cycle) || reading->cycle == 0)
+    if (!field_number(fields, UINT64_MAX, &reading->cycle) || reading->cycle == 0)
         return "the cycle is no number from 1 to 18446744073709551615";
-    if (!field_read(text, UINT32_MAX, &reg))
-        return "the register is no number from 0 to 4294967295";
-    if (!value_read(text, &reading->value))
-        return "the value is no number from -2147483648 to 4294967295";
-    if (text->at != text->end)
-        return "more than the three numbers CYCLE REGISTER VALUE";
-    reading->reg = (uint32_t)reg;
-    return NULL;
+    wrong = field_register(fields, names, &reading->reg);
+    if (wrong == NULL)
+        wrong = field_value(fields, &reading->value);
+    if (wrong == NULL && fields_left(fields))
+        wrong = "more than the three numbers CYCLE REGISTER VALUE";
+    return wrong;
 }
 
 /* What hinders adding a reading, or NULL. */
@@ -80,17 +46,14 @@ static const char *trace_add(struct trace *trace, const struct reading *reading)
 }
 
 /* Takes a line into the trace; what is wrong with it, or NULL. */
-static const char *line_take(struct trace *trace, const char *characters, size_t length, size_t line)
+static const char *line_take(struct trace *trace, const struct names *names, struct fields fields, size_t line)
 {
-    const char *comment = memchr(characters, '#', length);
-    struct text text = {characters, comment != NULL ? comment : characters + length};
     struct reading reading = {.line = line};
     const char *wrong;
 
-    skip_blanks(&text);
-    if (text.at == text.end)
+    if (!fields_left(&fields))
         return NULL;
-    wrong = reading_read(&reading, &text);
+    wrong = reading_read(&reading, &fields, names);
     return wrong != NULL ? wrong : trace_add(trace, &reading);
 }
 
@@ -104,8 +67,9 @@ static enum status not_read(const char *path)
     return STATUS_INPUT;
 }
 
-static enum status lines_read(struct trace *trace, FILE *file, const char *path)
+static enum status lines_read(struct trace *trace, FILE *file, const struct names *names)
 {
+    const char *path = trace->source.name;
     char characters[TRACE_LONGEST_LINE];
 
     for (size_t line = 1;; line++) {
@@ -117,7 +81,7 @@ static enum status lines_read(struct trace *trace, FILE *file, const char *path)
         case LINE_NONE:
             return STATUS_DONE;
         case LINE_READ:
-            wrong = line_take(trace, characters, length, line);
+            wrong = line_take(trace, names, fields_of(characters, length), line);
             break;
         case LINE_TOO_LONG:
             wrong = "the line is too long";
@@ -132,22 +96,72 @@ static enum status lines_read(struct trace *trace, FILE *file, const char *path)
     }
 }
 
-enum status trace_read(struct trace *trace, const char *path)
+enum status trace_read(struct trace *trace, const struct names *names)
 {
+    const char *path = trace->source.name;
     FILE *file = fopen(path, "r");
     enum status status;
 
-    *trace = (struct trace){0};
     if (file == NULL) {
         say("%s: cannot be opened: %s\n", path, strerror(errno));
         return STATUS_INPUT;
     }
-    status = lines_read(trace, file, path);
+    status = lines_read(trace, file, names);
     if (fclose(file) != 0 && status == STATUS_DONE) {
         say("%s: cannot be closed: %s\n", path, strerror(errno));
         status = STATUS_INPUT;
     }
     return status;
+}
+
+/* The source is the first member of its trace. */
+static bool take(struct readings *readings, uint64_t cycle, struct reading *reading)
+{
+    const struct trace *trace = (const struct trace *)readings;
+
+    if (readings->made == trace->count || trace->readings[readings->made].cycle > cycle)
+        return false;
+    *reading = trace->readings[readings->made++];
+    return true;
+}
+
+static uint64_t next(const struct readings *readings, uint64_t cycle)
+{
+    const struct trace *trace = (const struct trace *)readings;
+
+    (void)cycle;
+    return readings->made < trace->count ? trace->readings[readings->made].cycle : UINT64_MAX;
+}
+
+static uint64_t last(const struct readings *readings)
+{
+    const struct trace *trace = (const struct trace *)readings;
+
+    return trace->count > 0 ? trace->readings[trace->count - 1].cycle : 0;
+}
+
+static uint64_t left(const struct readings *readings)
+{
+    return ((const struct trace *)readings)->count - readings->made;
+}
+
+static void back(struct readings *readings, uint64_t cycle)
+{
+    const struct trace *trace = (const struct trace *)readings;
+
+    while (readings->made > 0 && trace->readings[readings->made - 1].cycle > cycle)
+        readings->made--;
+}
+
+void trace_start(struct trace *trace, const char *path)
+{
+    *trace = (struct trace){.source = {.name = path,
+                                       .judged = true,
+                                       .take = take,
+                                       .next = next,
+                                       .last = last,
+                                       .left = left,
+                                       .back = back}};
 }
 
 void trace_free(struct trace *trace)

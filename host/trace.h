@@ -8,29 +8,28 @@
 #define TRACE_H
 
 #include "caisson.h"
+#include "names.h"
+#include "readings.h"
 #include "status.h"
 
 #define TRACE_LONGEST_LINE 1000u /* bytes, the line feed not counted */
 
-struct reading {
-    uint64_t cycle; /* written before this cycle; from 1 */
-    uint32_t reg;
-    uint32_t value; /* of a reading below zero its two's complement */
-    size_t line;    /* where it stands in the file; from 1 */
-};
-
 struct trace {
+    struct readings source;   /* the trace as any source of readings */
     struct reading *readings; /* no later one has a lower cycle */
     size_t count;
     size_t room; /* how many readings fit before more is allocated */
 };
 
+/* One without readings. */
+void trace_start(struct trace *trace, const char *path);
+
 /*
- * Reads a whole file. STATUS_INPUT, with a message that names file and line, where it cannot be read
- * or a line is wrong. In either case trace_free is to be called.
+ * Reads a whole file into one without readings. STATUS_INPUT, with a message that names file and line, where it
+ * cannot be read or a line is wrong. In either case trace_free is to be called.
  */
 CAISSON_LOOK_AT_ANSWER
-enum status trace_read(struct trace *trace, const char *path);
+enum status trace_read(struct trace *trace, const struct names *names);
 
 void trace_free(struct trace *trace);
 

@@ -1,0 +1,59 @@
+#define _POSIX_C_SOURCE 200809L
+
+#include "notices.h"
+
+#include <inttypes.h>
+#include <stdio.h>
+#include <string.h>
+
+#include "say.h"
+
+void notices_bad_line(struct notices *notices, const char *source, uint64_t line, const char *words)
+{
+    (void)snprintf(notices->words, sizeof notices->words, "%s:%" PRIu64 ": %s", source, line, words);
+    notices->bad++;
+    if (!notices->rare)
+        say("%s\n", notices->words);
+}
+
+/* Whether a minute has gone, and standard error would not keep the cycles waiting. */
+static bool may_say(struct notices *notices)
+{
+    struct timespec now;
+
+    if (clock_gettime(CLOCK_MONOTONIC, &now) != 0)
+        return false;
+    if (notices->any && now.tv_sec - notices->said.tv_sec <= NOTICES_SECONDS)
+        return false;
+    if (!say_is_ready())
+        return false;
+    notices->any = true;
+    notices->said = now;
+    return true;
+}
+
+void notices_tell(struct notices *notices, uint64_t cycle, uint64_t late, const struct records *records)
+{
+    uint64_t lost = records_lost(records);
+    struct text line = {0};
+    const char *failing;
+    int error;
+    bool whole;
+
+    if (!notices->rare || (late == notices->late && lost == notices->lost && notices->bad == notices->bad_told) ||
+        !may_say(notices))
+        return;
+    failing = records_failing(records, &error);
+    whole = text_add(&line, "cycle %" PRIu64 ": %" PRIu64 " late cycles, %" PRIu64 " lines of records lost", cycle,
+                     late, lost);
+    if (whole && failing != NULL)
+        whole = text_add(&line, "; %s: %s", failing, strerror(error));
+    if (whole && notices->bad > notices->bad_told)
+        whole = text_add(&line, "; %" PRIu64 " lines of readings left out, the last %s", notices->bad, notices->words);
+    if (whole)
+        say("%s\n", line.characters);
+    text_free(&line);
+    notices->late = late;
+    notices->lost = lost;
+    notices->bad_told = notices->bad;
+}

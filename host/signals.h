@@ -1,0 +1,22 @@
+/* signals.h: what signals ask of the cycles. README.md has the table. */
+#ifndef SIGNALS_H
+#define SIGNALS_H
+
+#include <stdbool.h>
+
+/* From now on SIGTERM and SIGINT ask the cycles to end; a second one ends the program. */
+void signals_start(void);
+
+/* With files for the records: SIGHUP asks to open them anew, and a pipe without a reader or a file that may not grow
+   is an error of a write and ends nothing. */
+void signals_start_files(void);
+
+/* As before, for what is not a matter of cycles. */
+void signals_end(void);
+
+bool signals_stop(void);
+
+/* Whether a SIGHUP has come since it was asked last. */
+bool signals_reopen(void);
+
+#endif

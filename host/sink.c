@@ -1,0 +1,242 @@
+#define _POSIX_C_SOURCE 200809L
+
+#include "sink.h"
+
+#include <errno.h>
+#include <fcntl.h>
+#include <inttypes.h>
+#include <stdio.h>
+#include <stdlib.h>
+#include <string.h>
+#include <sys/stat.h>
+#include <unistd.h>
+
+#include "say.h"
+
+#define GAP_ROOM 80u /* bytes of the line of a gap at most */
+
+/* A regular file is also read, for its last byte. A pipe must not be, or it would be its own reader. */
+static int file_open(const char *path)
+{
+    struct stat found;
+    int how = O_APPEND | O_CLOEXEC;
+
+    if (stat(path, &found) == 0 && !S_ISREG(found.st_mode))
+        return open(path, how | O_WRONLY | O_NONBLOCK);
+    return open(path, how | O_RDWR | O_CREAT, S_IRUSR | S_IWUSR | S_IRGRP);
+}
+
+/* Whether a file ends in the midst of a line, as a power failure may leave it. */
+static bool ends_in_line(int file)
+{
+    off_t end = lseek(file, 0, SEEK_END);
+    char last;
+
+    return end > 0 && pread(file, &last, 1, end - 1) == 1 && last != '\n';
+}
+
+/* The first line at once and whole, with a cycle where the file continues another; 0 or the reason why not. */
+static int first_write(const struct sink *sink, int file, uint64_t cycle)
+{
+    struct text line = {0};
+    int error = ENOMEM;
+
+    if ((!ends_in_line(file) || text_add(&line, "\n")) && text_add(&line, "%s", sink->first.characters) &&
+        (cycle == 0 || text_add(&line, ", continued, cycle %" PRIu64, cycle)) && text_add(&line, "\n")) {
+        ssize_t written = write(file, line.characters, line.length);
+
+        error = written == (ssize_t)line.length ? 0 : written < 0 ? errno : ENOSPC;
+    }
+    text_free(&line);
+    return error;
+}
+
+enum status sink_open(struct sink *sink)
+{
+    const char *path = sink->path.characters;
+
+    sink->memory = malloc(SINK_MEMORY);
+    sink->file = file_open(path);
+    if (sink->memory == NULL) {
+        say("%s: no memory for its lines\n", path);
+        return STATUS_INPUT;
+    }
+    if (sink->file < 0) {
+        say("%s: cannot be opened: %s\n", path, errno == ENXIO ? "nobody reads this pipe" : strerror(errno));
+        return STATUS_INPUT;
+    }
+    return STATUS_DONE;
+}
+
+enum status sink_begin(struct sink *sink)
+{
+    int error = first_write(sink, sink->file, 0);
+
+    if (error == 0)
+        return STATUS_DONE;
+    say("%s: cannot be written: %s\n", sink->path.characters, strerror(error));
+    return STATUS_INPUT;
+}
+
+void sink_close(struct sink *sink)
+{
+    if (sink->file >= 0)
+        (void)close(sink->file);
+    sink->file = -1;
+    free(sink->memory);
+    sink->memory = NULL;
+    text_free(&sink->path);
+    text_free(&sink->first);
+}
+
+static size_t room(const struct sink *sink)
+{
+    return SINK_MEMORY - (atomic_load(&sink->head) - atomic_load(&sink->tail));
+}
+
+bool sink_has_room(const struct sink *sink, size_t length)
+{
+    return room(sink) >= GAP_ROOM + length;
+}
+
+/* The head moves once the whole is there: half a line is never seen by the writer. */
+static void bytes_put(struct sink *sink, size_t *head, const char *bytes, size_t length)
+{
+    size_t at = *head % SINK_MEMORY;
+    size_t before = length < SINK_MEMORY - at ? length : SINK_MEMORY - at;
+
+    memcpy(sink->memory + at, bytes, before);
+    memcpy(sink->memory, bytes + before, length - before);
+    *head += length;
+}
+
+static void gap_put(struct sink *sink, size_t *head)
+{
+    char gap[GAP_ROOM];
+    int length;
+
+    if (sink->gap_first == 0)
+        return;
+    length = snprintf(gap, sizeof gap, "# lost cycles %" PRIu64 " to %" PRIu64 "\n", sink->gap_first, sink->gap_last);
+    bytes_put(sink, head, gap, (size_t)length);
+    sink->gap_first = 0;
+}
+
+bool sink_put(struct sink *sink, const struct text *line, uint64_t cycle)
+{
+    size_t head = atomic_load(&sink->head);
+
+    if (!sink_has_room(sink, line->length)) {
+        if (sink->gap_first == 0)
+            sink->gap_first = cycle;
+        sink->gap_last = cycle;
+        sink->lost++;
+        return false;
+    }
+    gap_put(sink, &head);
+    bytes_put(sink, &head, line->characters, line->length);
+    atomic_store(&sink->head, head);
+    sink->lines++;
+    return true;
+}
+
+void sink_end_gap(struct sink *sink)
+{
+    size_t head = atomic_load(&sink->head);
+
+    if (!sink_has_room(sink, 0))
+        return;
+    gap_put(sink, &head);
+    atomic_store(&sink->head, head);
+}
+
+/* What was taken counts once its line is whole, so that a line can be written again to a file that is new. */
+static void sent_add(struct sink *sink, size_t count)
+{
+    size_t tail = atomic_load(&sink->tail);
+
+    sink->sent += count;
+    for (size_t length = sink->sent; length > sink->sent - count; length--) {
+        if (sink->memory[(tail + length - 1) % SINK_MEMORY] == '\n') {
+            sink->sent -= length;
+            atomic_store(&sink->tail, tail + length);
+            return;
+        }
+    }
+}
+
+/* Up to so many bytes since the start. */
+static bool write_up_to(struct sink *sink, size_t end)
+{
+    bool any = false;
+
+    for (;;) {
+        size_t from = atomic_load(&sink->tail) + sink->sent;
+        size_t count = end - from;
+        size_t at = from % SINK_MEMORY;
+        ssize_t written;
+
+        if (count == 0)
+            return any;
+        if (count > SINK_MEMORY - at)
+            count = SINK_MEMORY - at;
+        written = write(sink->file, sink->memory + at, count);
+        if (written <= 0) {
+            int error = written == 0 ? ENOSPC : errno;
+
+            atomic_store(&sink->last, error);
+            /* The next reader of a pipe begins with a whole line. */
+            if (error == EPIPE)
+                sink->sent = 0;
+            return any;
+        }
+        atomic_store(&sink->last, 0);
+        sent_add(sink, (size_t)written);
+        any = true;
+    }
+}
+
+bool sink_write(struct sink *sink)
+{
+    return write_up_to(sink, atomic_load(&sink->head));
+}
+
+int sink_reopen(struct sink *sink, uint64_t cycle)
+{
+    size_t mark = atomic_load(&sink->mark);
+    int file, error;
+
+    if (mark > atomic_load(&sink->tail) + sink->sent)
+        (void)write_up_to(sink, mark);
+    file = file_open(sink->path.characters);
+    error = file < 0 ? errno : first_write(sink, file, cycle);
+    if (error != 0) {
+        if (file >= 0)
+            (void)close(file);
+        return error;
+    }
+    (void)close(sink->file);
+    sink->file = file;
+    sink->sent = 0;
+    return 0;
+}
+
+bool sink_is_empty(const struct sink *sink)
+{
+    return atomic_load(&sink->head) == atomic_load(&sink->tail);
+}
+
+uint64_t sink_unwritten(const struct sink *sink)
+{
+    uint64_t lines = 0;
+    bool starts = true;
+
+    for (size_t at = atomic_load(&sink->tail); at != atomic_load(&sink->head); at++) {
+        char character = sink->memory[at % SINK_MEMORY];
+
+        /* The lines of gaps are none of a cycle. */
+        lines += starts && character != '#';
+        starts = character == '\n';
+    }
+    return lines;
+}
