@@ -71,6 +71,12 @@ static bool number_take(char **at, uint64_t *number)
     return true;
 }
 
+/* Also no space behind the last word, which a word that was taken has with it. */
+static bool at_end(const char *at)
+{
+    return at[0] == '\0' && at[-1] != ' ';
+}
+
 static bool count_judge(const struct reader *reader, char **at, const char *kind, size_t count)
 {
     uint64_t number;
@@ -102,7 +108,7 @@ static bool first_line(struct reader *reader, const struct design *design)
         !count_judge(reader, &at, "registers", table_registers(design->image)) ||
         !count_judge(reader, &at, "states", table_states(design->image)))
         return false;
-    return *at == '\0' || wrong(reader, "more than the counts stands in the first line");
+    return at_end(at) || wrong(reader, "more than the counts stands in the first line");
 }
 
 static bool source_line(struct reader *reader)
@@ -122,7 +128,7 @@ static bool name_take(const struct reader *reader, char *at, const char *head, c
 
     if (*behind == ' ')
         behind++;
-    if (!is_name(at, length) || !number_take(&behind, &number) || number == 0 || *behind != '\0')
+    if (!is_name(at, length) || !number_take(&behind, &number) || number == 0 || !at_end(behind))
         return wrong(reader, "a name and the line of its declaration are expected behind `%s`", head);
     at[length] = '\0';
     *name = at;

@@ -4,7 +4,6 @@
 
 #include <inttypes.h>
 #include <stdio.h>
-#include <string.h>
 
 #include "say.h"
 
@@ -47,7 +46,7 @@ void notices_tell(struct notices *notices, uint64_t cycle, uint64_t late, const 
     whole = text_add(&line, "cycle %" PRIu64 ": %" PRIu64 " late cycles, %" PRIu64 " lines of records lost", cycle,
                      late, lost);
     if (whole && failing != NULL)
-        whole = text_add(&line, "; %s: %s", failing, strerror(error));
+        whole = text_add(&line, "; %s: %s", failing, sink_error(error));
     if (whole && notices->bad > notices->bad_told)
         whole = text_add(&line, "; %" PRIu64 " lines of readings left out, the last %s", notices->bad, notices->words);
     if (whole)

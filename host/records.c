@@ -211,10 +211,11 @@ uint64_t records_close(struct records *records, bool hurried)
     for (size_t i = 0; i < records->count; i++) {
         struct sink *sink = &records->sinks[i];
         uint64_t unwritten = sink_unwritten(sink);
+        uint64_t lost = sink->lost + unwritten;
 
-        say("%s: %" PRIu64 " lines, %" PRIu64 " lost\n", sink->path.characters, sink->lines - unwritten,
-            sink->lost + unwritten);
-        all += sink->lost + unwritten;
+        say("%s: %" PRIu64 " lines, %" PRIu64 " lost%s%s\n", sink->path.characters, sink->lines - unwritten, lost,
+            lost > 0 ? ": " : "", lost > 0 ? sink_error(sink->lost > 0 ? sink->why : atomic_load(&sink->last)) : "");
+        all += lost;
     }
     if (atomic_load(&records->writer.ended))
         files_close(records);

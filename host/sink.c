@@ -129,6 +129,8 @@ bool sink_put(struct sink *sink, const struct text *line, uint64_t cycle)
     if (!sink_has_room(sink, line->length)) {
         if (sink->gap_first == 0)
             sink->gap_first = cycle;
+        if (sink->lost == 0)
+            sink->why = atomic_load(&sink->last);
         sink->gap_last = cycle;
         sink->lost++;
         return false;
@@ -219,6 +221,13 @@ int sink_reopen(struct sink *sink, uint64_t cycle)
     sink->file = file;
     sink->sent = 0;
     return 0;
+}
+
+const char *sink_error(int error)
+{
+    if (error == 0)
+        return "it takes its lines too slowly";
+    return error == EAGAIN || error == EWOULDBLOCK ? "its reader does not read" : strerror(error);
 }
 
 bool sink_is_empty(const struct sink *sink)

@@ -36,6 +36,7 @@ struct sink {
     uint64_t lost;      /* dropped */
     uint64_t gap_first; /* the cycle of the first line dropped since one was put in; 0: none was */
     uint64_t gap_last;
+    int why;      /* the error that the first gap began with */
     bool stalled; /* the file has taken nothing for so long that it is not waited for, where it ever is */
 };
 
@@ -64,6 +65,9 @@ bool sink_write(struct sink *sink);
 /* Writes what is before the mark, if the file takes it, and opens the file anew under its path, with a first line
    that names the cycle of the mark. Where that fails the old one stays, and the reason is answered, else 0. */
 int sink_reopen(struct sink *sink, uint64_t cycle);
+
+/* An error of a write in words. */
+const char *sink_error(int error);
 
 bool sink_is_empty(const struct sink *sink);
 

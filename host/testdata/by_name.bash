@@ -1,0 +1,187 @@
+# Designs with names files, for host/test: parties, traces, records, refusals, the console and replays by name, and
+# names files that are refused. The names are those of the texts in the folder of designs.
+
+names=$made/names
+mkdir "$names"
+
+# A table with its names file.
+named() {
+    for design in "$@"; do
+        cp ../designs/"$design".table "$names"
+        testdata/names ../designs/"$design".caisson "$names/$design".table >"$names/$design".table.names
+    done
+}
+
+# A record of two_groups or two_groups_shared in names, from one in numbers.
+in_names() {
+    sed -E 's/ r0=/ timer=/g; s/ r1=/ mode=/g; s/(^| )r2=/\1reading=/g; s/ r3=/ switch=/g; s/ r4=/ first_data=/g
+        s/ r5=/ second_data=/g; s/s2\(r4\)/group(first_data)/; s/s2\(r5\)/group(second_data)/' "$1"
+}
+
+runs_by_name() {
+    local design trace
+    named two_groups two_groups_shared
+    for design in two_groups two_groups_shared; do
+        in_names $design.expected >"$made/expected"
+        ! grep -qE ' [rs][0-9]' "$made/expected" || fail "a number is left in $made/expected"
+        for trace in two_groups.trace two_groups_by_name.trace; do
+            records "$made/expected" "$names"/$design.table $trace --fast --party south:low --party north:high
+            records "$made/expected" "$names"/$design.table $trace --replay --party south:0 --party north:high
+        done
+    done
+    # Without parties each label has a record under its name.
+    in_names two_groups.expected | sed 's/party south/party low/; s/party north/party high/' >"$made/expected"
+    records "$made/expected" "$names/two_groups.table" two_groups.trace --fast
+    # The console; all that it shows but the commands of the history is in names.
+    in_names two_groups_console.expected >"$made/expected"
+    session "$made/expected" two_groups.console "$names/two_groups.table" two_groups_by_name.trace --cycles 0 \
+        --party south:low --party north:high
+    sed 's/^write r2/write reading/' two_groups.console >"$made/commands"
+    sed -i 's/  write r2/  write reading/' "$made/expected"
+    session "$made/expected" "$made/commands" "$names/two_groups.table" two_groups.trace --cycles 0 --party south:low \
+        --party north:high
+}
+
+# What is said of the console's commands on the named design.
+console_says() {
+    printf '%b' "$1" >"$made/commands"
+    "${under[@]}" $host "$names/two_groups.table" --console <"$made/commands" >"$made/out" 2>&1 ||
+        fail "a console by name: $(cat "$made/out")"
+    tail -n +3 "$made/out" | diff <(printf '%s\n' "$2") - >&2 || fail "a console by name on: $1"
+    runs=$((runs + 1))
+}
+
+commands_by_name() {
+    console_says 'write reading 7\nwrite 2 8\nwrite r2 9\n' $'reading=7\nreading=8\nreading=9'
+    console_says 'write readin 7' 'write takes a register by its name or as its number, 2 or r2, not readin'
+    console_says 'write Reading 7' 'write takes a register by its name or as its number, 2 or r2, not Reading'
+    console_says 'write timer 7' "refused by rule 13 at register 0 (timer): A port write or a record of a port trace \
+names a register that does not exist or that is inner."
+    # A name comes first, also one that looks as a number does elsewhere.
+    cp $designs/lease.table "$names/exchanged.table"
+    testdata/names ../designs/lease.caisson "$names/exchanged.table" |
+        sed 's/register 0 timer/register 0 r1/; s/register 1 wish/register 1 r0/' >"$names/exchanged.table.names"
+    printf 'write r0 5\nshow\n' >"$made/commands"
+    "${under[@]}" $host "$names/exchanged.table" --console --party a:high <"$made/commands" >"$made/out" 2>&1 ||
+        fail "exchanged names: $(cat "$made/out")"
+    grep -qx 'cycle 0 party a: r1=3 r0=5' "$made/out" || fail "exchanged names: $(cat "$made/out")"
+}
+
+# A line of a trace for the named two_groups, and what is said of it.
+bad_line() {
+    printf '3 reading 1\n%b\n' "$2" >"$made/bad.trace"
+    says "${3:-2}" "$made/bad.trace:2: $1" "$names/two_groups.table" "$made/bad.trace" --fast
+}
+
+wrong_names() {
+    named valves low_child no_lattice wide_reset own_parent default_parameter leak lease
+    for word in readin Reading reading2 r2 s0 low root _; do
+        bad_line 'the register is no name of one of the design and no number from 0 to 4294967295' "4 $word 1"
+    done
+    bad_line 'the value is no number' '4 reading'
+    bad_line 'the value is no number' '4 reading switch'
+    bad_line 'more than the three numbers' '4 reading 1 1'
+    bad_line 'the cycle is no number' 'reading 1'
+    bad_line 'refused by rule 13 at register 0 (timer): ' '4 timer 1' 1
+    bad_line 'refused by rule 13 at register 4: ' '4 4 1' 1
+    printf '1 wanted 1023\n2 wanted 1024\n' >"$made/bad.trace"
+    for way in --fast --replay; do
+        says 1 "$made/bad.trace:2: refused by rule 17 at re" "$names/valves.table" "$made/bad.trace" $way
+        grep -qxF '  register 2 (wanted) has width 10: it takes 0 to 1023, not 1024' "$made/err" ||
+            fail "$(cat "$made/err")"
+    done
+    # Without a names file a name is no register.
+    printf '3 reading 1\n' >"$made/bad.trace"
+    says 2 "$made/bad.trace:1: the register is no number from 0 to 4294967295, and the design has no names file" \
+        $designs/two_groups.table "$made/bad.trace" --fast
+
+    says 2 'party north: level hihg is no label of the design, which has low, high' "$names/lease.table" lease.trace \
+        --party south:low --party north:hihg
+    says 2 'party north: level wish is no label of the design, which has low, high' "$names/lease.table" lease.trace \
+        --party north:wish
+    says 2 'party north: level 2 is no label of the design, which has labels 0 to 1' "$names/lease.table" lease.trace \
+        --party north:2
+    says 2 'party north: level high is no number, and the design has no names file' $designs/lease.table lease.trace \
+        --party north:high
+    says 2 'a second party of the same name: north:low' "$names/lease.table" lease.trace --party north:high \
+        --party north:low
+
+    says 1 'low_child.table: refused by rule 9 at state 2 (open): ' "$names/low_child.table" lease.trace
+    says 1 'no_lattice.table: refused by rule 2 at label 1 (left): ' "$names/no_lattice.table" lease.trace
+    says 1 'wide_reset.table: refused by rule 3 at register 1 (flag): ' "$names/wide_reset.table" lease.trace
+    says 1 'own_parent.table: refused by rule 4 at state 1 (loop): ' "$names/own_parent.table" lease.trace
+    says 1 'default_parameter.table: refused by rule 19 at state 1 (count) or command 1: ' \
+        "$names/default_parameter.table" lease.trace
+    says 1 'leak.table: refused by rule 10 at command 1: ' "$names/leak.table" lease.trace
+}
+
+# An edit of the names file of two_groups_shared, whose first 16 lines are those of the design: what is said of it.
+bad_names() {
+    local line=$1 words=$2 file=$names/edited.table
+    shift 2
+    cp ../designs/two_groups_shared.table "$file"
+    sed "$@" "$names/two_groups_shared.table.names" >"$file.names"
+    says 2 "$file.names:$line: $words" "$file" lease.trace --fast
+}
+
+wrong_names_files() {
+    local other='is not of this table: it was made for another, or the table was changed; assemble it again or remove '
+    bad_names 1 'is no names file: it does not begin with `caisson names`' 's/caisson/Caisson/'
+    bad_names 1 'is no names file: it does not begin with `caisson names`' d
+    bad_names 1 'is no names file: it does not begin with `caisson names`' 's/names 1 /names  1 /'
+    bad_names 1 'is no names file: it does not begin with `caisson names`' '1s/ 1 / one /'
+    bad_names 1 'is a names file of version 2; only 1 is known' '1s/ 1 / 2 /'
+    bad_names 1 'is no names file: the first line has no checksum' '1s/sha256/sha512/'
+    bad_names 1 'is no names file: the first line has no checksum' '1s/sha256 ./sha256 /'
+    bad_names 1 'is no names file: the first line has no checksum' '1s/sha256 \(.*\) labels/sha256 \U\1\E labels/'
+    bad_names 1 "$other"'the names file' '1s/sha256 ./sha256 0/'
+    bad_names 1 'is not of a design: the first line has no number of labels' '1s/labels.*/inputs 2 flipflops 6 gates 5/'
+    bad_names 1 'has 3 labels, and the table has 2' '1s/labels 2/labels 3/'
+    bad_names 1 'has 5 registers, and the table has 6' '1s/registers 6/registers 5/'
+    bad_names 1 'has 64 states, and the table has 5' '1s/states 5/states 64/'
+    bad_names 1 'is not of a design: the first line has no number of states' '1s/states 5/states 05/'
+    bad_names 1 'more than the counts stands in the first line' '1s/$/ 1/'
+    bad_names 1 'more than the counts stands in the first line' '1s/$/ /'
+    bad_names 2 'the line `source FILE` is missing' 2d
+    bad_names 2 'the line `source FILE` is missing' '2s/two_/two /'
+    bad_names 3 '`label 0` is expected here, in the order of the numbers, not `label 1 high 11`' 3d
+    bad_names 4 '`label 1` is expected here, in the order of the numbers, not `label 2 high 11`' '4s/1/2/'
+    bad_names 4 '`label 1` is expected here, in the order of the numbers, not `label 10 high 11`' '4s/1/10/'
+    bad_names 4 'the label name low stands here a second time' '4s/high/low/'
+    bad_names 8 'the register name mode stands here a second time' '8s/switch/mode/'
+    bad_names 5 '`register 0` is expected here' '5s/register/port/'
+    bad_names 5 'a name and the line of its declaration are expected behind `register 0`' '5s/timer/ti-mer/'
+    bad_names 5 'a name and the line of its declaration are expected behind `register 0`' '5s/timer/2timer/'
+    bad_names 5 'a name and the line of its declaration are expected behind `register 0`' '5s/ 13//'
+    bad_names 5 'a name and the line of its declaration are expected behind `register 0`' '5s/13/0/'
+    bad_names 5 'a name and the line of its declaration are expected behind `register 0`' '5s/13/13 /'
+    bad_names 5 'a name and the line of its declaration are expected behind `register 0`' '5s/$/\r/'
+    bad_names 13 'the state name choose stands here a second time' '13s/group/choose/'
+    bad_names 16 'the file ends where `parameter 2 0` is expected' 16d
+    bad_names 16 '`parameter 2 0` is expected here' '16s/ 0 / 1 /'
+    bad_names 17 'a line too many' '16s/$/\nparameter 2 1 more 25/'
+    bad_names 17 'a line too many' '16s/$/\n/'
+    # A last line without its line feed was cut; a NUL would hide the rest of a line.
+    cp "$names/two_groups_shared.table" "$names/edited.table"
+    head -c -1 "$names/two_groups_shared.table.names" >"$names/edited.table.names"
+    says 2 'edited.table.names:16: the file ends where `parameter 2 0` is expected' "$names/edited.table" lease.trace
+    sed '5s/timer/ti\x00mer/' "$names/two_groups_shared.table.names" >"$names/edited.table.names"
+    says 2 'edited.table.names:5: the file ends where `register 0` is expected' "$names/edited.table" lease.trace
+    truncate -s 65537 "$names/edited.table.names"
+    says 2 'edited.table.names: is larger than 65536 bytes, which no names file is' "$names/edited.table" lease.trace
+    rm "$names/edited.table.names"
+    mkdir "$names/edited.table.names"
+    says 2 'edited.table.names: cannot be read: Is a directory' "$names/edited.table" lease.trace
+    rmdir "$names/edited.table.names"
+    # Beside what is no design no names are read.
+    cp ../designs/counter.table "$names"
+    echo 'caisson names 1 sha256' >"$names/counter.table.names"
+    says 1 'counter.table: refused by rule 1:' "$names/counter.table" lease.trace
+}
+
+by_name() {
+    runs_by_name
+    commands_by_name
+    wrong_names
+    wrong_names_files
+}

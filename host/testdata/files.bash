@@ -1,0 +1,267 @@
+# A file for each party, for host/test: what stands in it, and what becomes of it on a full disk, with a reader that
+# stops or goes, and with signals. No cycle waits for it.
+
+# Tries a command until it succeeds. The time is there to end a test that fails, not to be measured.
+awaits() {
+    for ((try = 0; try < 400; try++)); do
+        if "$@"; then return; fi
+        sleep 0.05
+    done
+    fail "in vain: $*; $(cat "$made/err")"
+}
+
+# An empty folder for records.
+folder() {
+    rm -rf "$made/records"
+    mkdir "$made/records"
+}
+
+# Whether a record has every cycle from its first one on, but those that it says it lost; prints how many those are.
+whole() {
+    awk '$1 == "#" && $2 == "lost" { if ($4 != last + 1 || $6 < $4) exit 1; lost += $6 - $4 + 1; last = $6; next }
+        $1 == "#" { next }
+        $1 == "cycle" && (last == "" || $2 == last + 1) && $0 ~ /:( [a-z_]+=[0-9]+)+$/ { last = $2; next }
+        { exit 1 }
+        END { print lost + 0 }' "$1" || fail "$1 is not whole: $(cut -c 1-60 "$1" | head -n 20)"
+}
+
+first_lines() {
+    local sum
+    sum=$(sha256sum <"$names/two_groups.table" | cut -d ' ' -f 1)
+    folder
+    for run in 1 2; do
+        records /dev/null "$names/two_groups.table" two_groups_by_name.trace --fast --party south:low --party north:high \
+            --records "$made/records"
+        grep -qx "$made/records/south.record: 16 lines, 0 lost" "$made/err" || fail "$(cat "$made/err")"
+    done
+    for party in 'south low' 'north high'; do
+        read -r name level <<<"$party"
+        in_names two_groups.expected | grep "party $name:" >"$made/expected"
+        # The first lines in the place of what they are to be.
+        sed -E "s/^# caisson record, party $name, level $level, design sha256 $sum, library [0-9.]+, started \
+20[0-9]{2}-[01][0-9]-[0-3][0-9]T[0-2][0-9]:[0-5][0-9]:[0-6][0-9]Z\$/first/" "$made/records/$name.record" |
+            diff <(echo first; cat "$made/expected"; echo first; cat "$made/expected") - >&2 || fail "$name.record"
+    done
+    # By number; another design in the same folder has another sum. A line that was cut is ended.
+    printf 'cycle 9 par' >"$made/records/a.record"
+    records /dev/null $designs/lease.table lease.trace --replay --records "$made/records" --party a:1
+    sed -n 2p "$made/records/a.record" | grep -q "^# caisson record, party a, level 1, design sha256 \
+$(sha256sum <../designs/lease.table | cut -d ' ' -f 1), library " || fail "$(cat "$made/records/a.record")"
+    $host $designs/lease.table lease.trace --fast --party a:1 2>"$made/err" | diff - <(tail -n +3 "$made/records/a.record") ||
+        fail "a.record has other lines than standard output"
+    [ "$(stat -c %a "$made/records/a.record")" != 666 ] || fail "a record that everybody may write"
+}
+
+# What hinders the start: no cycle is run, and no file has a first line.
+not_started() {
+    local words=$1
+    says 2 "$made/records/$words" "$names/two_groups.table" two_groups.trace --fast --party south:low --party north:high \
+        --records "$made/records"
+    ! grep -q cycles "$made/err" || fail "cycles without records: $(cat "$made/err")"
+    [ ! -s "$made/records/south.record" ] || fail "a first line of a run that was not: $words"
+}
+
+wrong_folders() {
+    rm -rf "$made/records"
+    not_started 'south.record: cannot be opened: No such file or directory'
+    folder
+    mkdir "$made/records/north.record"
+    not_started 'north.record: cannot be opened: Is a directory'
+    folder
+    mkfifo "$made/records/north.record"
+    not_started 'north.record: cannot be opened: nobody reads this pipe'
+    folder
+    ln -s /dev/full "$made/records/south.record"
+    not_started 'south.record: cannot be written: No space left on device'
+    folder
+    : >"$made/file"
+    says 2 "$made/file/low.record: cannot be opened: Not a directory" "$names/two_groups.table" two_groups.trace --fast \
+        --records "$made/file"
+}
+
+# A design whose lines are long, so that its files and pipes are soon full.
+long_lines() {
+    local long
+    printf -v long '%08000d' 0
+    cp ../designs/two_groups.table "$names/long.table"
+    sed -E "s/^(register . )([a-z]+)/\1\2${long//0/_}/" "$names/two_groups.table.names" >"$names/long.table.names"
+}
+
+# Starts a box that runs on, with a record for the south and one for the north, and more options. It must not have the
+# test's end of a pipe, or it would be its own reader.
+start_box() {
+    "${under[@]}" $host "$names/long.table" two_groups.trace --forever --party south:low --party north:high \
+        --records "$made/records" "$@" 2>"$made/err" {reader}>&- &
+    box=$!
+}
+
+# Ends it, and looks whether it counts what the files say was lost.
+stop_box() {
+    kill -"${1:-TERM}" $box
+    wait $box || fail "a box that was asked to end: status $?: $(cat "$made/err")"
+    box=
+    grep -qE '^[0-9]+ cycles, [0-9]+ port writes' "$made/err" || fail "no summary: $(cat "$made/err")"
+    runs=$((runs + 1))
+}
+
+has() {
+    grep -q "$1" "$2" 2>/dev/null
+}
+
+counts_lost() {
+    grep -qxE "$made/records/$1.record: [0-9]+ lines, $2" "$made/err" || fail "not $2: $(cat "$made/err")"
+}
+
+# The file may not grow any more, which a write meets as a full disk: then it is renamed, and the new one has the gap.
+full_disk() {
+    folder
+    # A third party reads from a pipe, and shows how far the cycles have come.
+    mkfifo "$made/records/clock.record"
+    exec {reader}<>"$made/records/clock.record"
+    cat <&$reader >"$made/read" &
+    local cat=$!
+    # The limit is for the box alone.
+    ulimit -S -f 512
+    start_box --party clock:low
+    ulimit -S -f unlimited
+    awaits has '^cycle 80 ' "$made/read"
+    for party in south north; do mv "$made/records/$party.record" "$made/$party.1"; done
+    kill -HUP $box
+    awaits has '^# lost cycles' "$made/records/north.record"
+    awaits has '^# lost cycles' "$made/records/south.record"
+    stop_box
+    exec {reader}>&-
+    kill $cat
+    wait $cat 2>/dev/null || true
+    [ "$(whole "$made/read")" = 0 ] || fail "a pipe has lost lines to a full disk"
+    counts_lost south '[1-9][0-9]* lost: File too large'
+    # The line that the old file has cut is whole in the new one.
+    for party in south north; do
+        head -n 1 "$made/records/$party.record" | grep -qE "started .*Z, continued, cycle [0-9]+\$" || fail "$party"
+        grep -a ':.*=[0-9]*$' "$made/$party.1" | grep -v '^#' | cat - "$made/records/$party.record" |
+            awk '!seen[$0]++' >"$made/both"
+        [ "$(whole "$made/both")" -gt 0 ] || fail "$party.record has no gap"
+    done
+}
+
+# A reader that stops holds neither the cycles nor the other party; when it reads again it finds the gap.
+stopped_reader() {
+    folder
+    mkfifo "$made/records/north.record"
+    exec {reader}<>"$made/records/north.record"
+    start_box
+    awaits has '^cycle 80 ' "$made/records/south.record"
+    cat <&$reader >"$made/read" &
+    local cat=$!
+    awaits has '^# lost cycles' "$made/read"
+    stop_box INT
+    sleep 0.1
+    kill $cat
+    wait $cat 2>/dev/null || true
+    exec {reader}>&-
+    [ "$(whole "$made/records/south.record")" = 0 ] || fail "the south has lost lines too"
+    counts_lost south '0 lost'
+    counts_lost north '[1-9][0-9]* lost: its reader does not read'
+    # A gap may be the last thing in the pipe that was not read.
+    [ "$(whole "$made/read")" -gt 0 ] || fail "no gap"
+}
+
+# The reader goes, and another one comes: it begins with a whole line.
+closed_pipe() {
+    folder
+    mkfifo "$made/records/north.record"
+    exec {reader}<>"$made/records/north.record"
+    cat <&$reader >"$made/read" &
+    local cat=$!
+    start_box
+    awaits has '^cycle' "$made/read"
+    exec {reader}>&-
+    kill $cat
+    wait $cat 2>/dev/null || true
+    awaits has '^cycle 80 ' "$made/records/south.record"
+    timeout 60 cat "$made/records/north.record" >"$made/read" &
+    cat=$!
+    awaits has '^# lost cycles' "$made/read"
+    stop_box
+    wait $cat || fail "the pipe was not closed"
+    [ "$(whole "$made/records/south.record")" = 0 ] || fail "the south has lost lines too"
+    counts_lost north '[1-9][0-9]* lost: Broken pipe'
+    # The pipe had lines that nobody has read, so the first cycle is not 1.
+    [ "$(whole "$made/read")" -gt 0 ] || fail "no gap"
+}
+
+# Rotation: no line is lost, none stands twice, and the new first line names the cycle that follows.
+rotated() {
+    local cycle
+    folder
+    start_box
+    for turn in 1 2; do
+        awaits has '^cycle' "$made/records/south.record"
+        for party in south north; do mv "$made/records/$party.record" "$made/$party.$turn"; done
+        kill -HUP $box
+        awaits has '^cycle' "$made/records/north.record"
+    done
+    stop_box INT
+    for party in south north; do
+        cat "$made/$party".{1,2} "$made/records/$party.record" >"$made/all"
+        [ "$(whole "$made/all")" = 0 ] || fail "$party: lines lost by rotation"
+        cycle=$(sed -nE '1s/.*, continued, cycle //p' "$made/records/$party.record")
+        sed -n 2p "$made/records/$party.record" | grep -q "^cycle $cycle party $party: " || fail "not cycle $cycle"
+        head -n 1 "$made/$party.1" | grep -q continued && fail "the first file continues none"
+        counts_lost $party '0 lost'
+    done
+    # Where a file cannot be opened anew, the old one is written on.
+    folder
+    start_box
+    awaits has '^cycle' "$made/records/south.record"
+    mv "$made/records/north.record" "$made/north.1"
+    ln -s /dev/full "$made/records/north.record"
+    kill -HUP $box
+    awaits has 'north.record: cannot be opened anew: No space left on device; the old file is written on' "$made/err"
+    stop_box
+    [ "$(whole "$made/north.1")" = 0 ] || fail "lines lost, though the old file is written on"
+    [ "$(whole "$made/records/south.record")" = 0 ] || fail "the south has lost lines"
+}
+
+# As fast as possible: a slow file is waited for, one that takes nothing is not, and the end is no success.
+fast_files() {
+    local got=0
+    folder
+    records /dev/null "$names/long.table" /dev/null --fast --cycles 200 --party south:low --records "$made/records"
+    [ "$(whole "$made/records/south.record")" = 0 ] || fail "lines lost on a good disk"
+    counts_lost south '0 lost'
+    folder
+    (
+        ulimit -S -f 512
+        "${under[@]}" $host "$names/long.table" /dev/null --fast --cycles 200 --party south:low --records "$made/records"
+    ) 2>"$made/err" || got=$?
+    [ $got = 2 ] || fail "a full disk: status $got: $(cat "$made/err")"
+    grep -qx '200 cycles, 0 port writes, 0 late cycles' "$made/err" || fail "cycles lost: $(cat "$made/err")"
+    [ "$(stat -c %s "$made/records/south.record")" = 524288 ] || fail "the file is not full"
+    runs=$((runs + 1))
+}
+
+# Without files, too, a signal ends the cycles with a summary.
+signals() {
+    local signal
+    for signal in TERM INT; do
+        "${under[@]}" $host "$names/two_groups.table" two_groups.trace --forever --party a:low >"$made/out" 2>"$made/err" &
+        box=$!
+        awaits has '^cycle 20 ' "$made/out"
+        stop_box $signal
+        [ "$(whole "$made/out")" = 0 ] || fail "a line was lost"
+    done
+}
+
+files() {
+    exec {reader}</dev/null
+    first_lines
+    wrong_folders
+    long_lines
+    full_disk
+    stopped_reader
+    closed_pipe
+    rotated
+    fast_files
+    signals
+}
