@@ -5,7 +5,8 @@ SOAK_LEVEL =
 SOAK_NEIGHBOUR =
 
 library = target/staticlib/libcaisson.a
-soak_sources = $(wildcard tests/soak/*.c) $(addprefix host/, box.c design.c journal.c numbers.c refusals.c say.c table.c)
+soak_sources = $(wildcard tests/soak/*.c) $(addprefix host/, \
+	box.c design.c journal.c names.c names_file.c numbers.c refusals.c say.c sha256.c table.c)
 soak_build = gcc -std=c11 -O2 -Wall -Wextra -Werror -Iinclude -Ihost -Itests/soak
 
 .PHONY: test quick definitions bench stack run host tool soak library lister clean
@@ -47,7 +48,8 @@ tool: library
 		cargo build --quiet --release --offline --manifest-path tools/Cargo.toml
 
 # Two boxes side by side with unlike readings for one party, which also replay traces and go back by equal
-# numbers, for SOAK_SECONDS: at each level in turn, or at SOAK_LEVEL. The second box runs SOAK_NEIGHBOUR, if given.
+# numbers, for SOAK_SECONDS: at each level in turn, or at SOAK_LEVEL, a label by name or number. The second box runs
+# SOAK_NEIGHBOUR, if given.
 soak: library
 	$(MAKE) target/soak/soak
 	target/soak/soak $(SOAK_DESIGN) --seconds $(SOAK_SECONDS) --seed $(SOAK_SEED) \

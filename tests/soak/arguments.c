@@ -2,6 +2,7 @@
 
 #include <string.h>
 
+#include "names.h"
 #include "numbers.h"
 #include "say.h"
 
@@ -11,7 +12,8 @@ const char arguments_usage[] =
     "                      same labels, registers and states; soak at the levels that see no edited body\n"
     "  --seconds N         run so long, 60 if not given, in equal parts for the levels\n"
     "  --seed N            what chance starts from, 1 if not given\n"
-    "  --level LABEL       soak at this level only, not at each in turn\n"
+    "  --level LABEL       soak at this level only, not at each in turn: its number or, with DESIGN.names,\n"
+    "                      its name\n"
     "  --help              print this\n"
     "It ends with\n"
     "  0  equal at every level that has a register in sight, and a port or all edited bodies out of sight\n"
@@ -43,9 +45,11 @@ static bool valued_read(struct arguments *arguments, const char *name, const cha
         if (!number_read_all(value, UINT64_MAX, &arguments->seed))
             return wrong("--seed takes a number, not ", value);
     } else {
-        arguments->one_level = true;
-        if (!number_read_all(value, UINT32_MAX, &arguments->level))
-            return wrong("--level takes the number of a label, not ", value);
+        uint64_t number;
+
+        arguments->level = value;
+        if (!is_name(value, strlen(value)) && !number_read_all(value, UINT32_MAX, &number))
+            return wrong("--level takes the name or number of a label, not ", value);
     }
     return true;
 }

@@ -19,8 +19,7 @@ struct arguments {
     const char *neighbour; /* of the second box; NULL where that has the same design */
     uint64_t seconds; /* for all levels together */
     uint64_t seed;
-    uint64_t level; /* where one_level */
-    bool one_level;
+    const char *level; /* a label's name or number; NULL: each level in turn */
     bool help;
 };
 

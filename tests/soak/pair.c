@@ -6,6 +6,7 @@
 #include "neighbour.h"
 #include "refusals.h"
 #include "say.h"
+#include "shown.h"
 #include "table.h"
 
 #define LONGEST_RUN 4096u /* cycles between two samples, at most */
@@ -41,22 +42,22 @@ static uint32_t random_value(struct pair *pair, uint32_t reg)
 }
 
 /* `box` is NULL for a call other than port write and run, as in refusals.h. */
-static bool accepted(const char *what, caisson_answer answer, const struct box *box)
+static bool accepted(const struct pair *pair, const char *what, caisson_answer answer, const struct box *box)
 {
     if (answer.number == CAISSON_ACCEPTED)
         return true;
     say("%s: ", what);
-    refusal_say(answer, box);
+    refusal_say(answer, box, pair->names);
     return false;
 }
 
 /* The same of a replay. */
-static bool replayed(caisson_answer answer, const struct box *box)
+static bool replayed(const struct pair *pair, caisson_answer answer, const struct box *box)
 {
     if (answer.number == CAISSON_ACCEPTED)
         return true;
     say("replay: ");
-    replay_refusal_say(answer, box);
+    replay_refusal_say(answer, box, pair->names);
     return false;
 }
 
@@ -103,13 +104,14 @@ static bool low_equal(const struct pair *pair)
 
 static bool both_reset(struct pair *pair)
 {
-    return accepted("reset", box_reset(&pair->boxes[0]), NULL) && accepted("reset", box_reset(&pair->boxes[1]), NULL);
+    return accepted(pair, "reset", box_reset(&pair->boxes[0]), NULL) &&
+           accepted(pair, "reset", box_reset(&pair->boxes[1]), NULL);
 }
 
 static bool write_port(struct pair *pair, int box, uint32_t reg, uint32_t value)
 {
     pair->writes++;
-    return accepted("port write", box_write_port(&pair->boxes[box], reg, value), &pair->boxes[box]);
+    return accepted(pair, "port write", box_write_port(&pair->boxes[box], reg, value), &pair->boxes[box]);
 }
 
 static bool run(struct pair *pair, int box, uint32_t cycles, bool journalled)
@@ -117,7 +119,7 @@ static bool run(struct pair *pair, int box, uint32_t cycles, bool journalled)
     caisson_answer answer = journalled ? box_run_journalled(&pair->boxes[box], &pair->journals[box], cycles)
                                        : box_run(&pair->boxes[box], cycles);
 
-    if (!accepted("run", answer, &pair->boxes[box]))
+    if (!accepted(pair, "run", answer, &pair->boxes[box]))
         return false;
     if (answer.count != cycles)
         say("run: %zu cycles done of %" PRIu32 "\n", answer.count, cycles);
@@ -230,7 +232,7 @@ static bool random_replay(struct pair *pair)
     for (int box = 0; box < 2; box++) {
         caisson_answer answer = box_replay(&pair->boxes[box], traces[box].records, traces[box].count, cycles);
 
-        if (!replayed(answer, &pair->boxes[box]) || !run(pair, box, 1, false))
+        if (!replayed(pair, answer, &pair->boxes[box]) || !run(pair, box, 1, false))
             return false;
     }
     return true;
@@ -244,7 +246,7 @@ static bool random_back(struct pair *pair)
     pair->steps_back += cycles > 0;
     pair->gone_back += cycles;
     for (int box = 0; box < 2; box++) {
-        if (!accepted("going back", box_step_back(&pair->boxes[box], &pair->journals[box], cycles), NULL))
+        if (!accepted(pair, "going back", box_step_back(&pair->boxes[box], &pair->journals[box], cycles), NULL))
             return false;
     }
     return true;
@@ -263,9 +265,11 @@ static bool leads_to_edited(const struct pair *pair, const struct box *box)
 static bool sample(struct pair *pair)
 {
     if (!low_equal(pair)) {
-        say("the boxes differ at level %zu after %" PRIu64 " cycles and %" PRIu64 " steps back, at sample %" PRIu64
+        char digits[SHOWN_DIGITS];
+
+        say("the boxes differ at level %s after %" PRIu64 " cycles and %" PRIu64 " steps back, at sample %" PRIu64
             "\n",
-            pair->level, pair->cycles, pair->steps_back, pair->samples);
+            level_shown(pair->names, pair->level, digits), pair->cycles, pair->steps_back, pair->samples);
         return false;
     }
     pair->samples++;
@@ -308,11 +312,12 @@ bool pair_hides_edits(const struct pair *pair, size_t *state)
     return true;
 }
 
-bool pair_start(struct pair *pair, const struct design *const designs[2], size_t level, uint64_t seed)
+bool pair_start(struct pair *pair, const struct design *const designs[2], const struct names *names, size_t level,
+                uint64_t seed)
 {
-    *pair = (struct pair){.image = designs[0]->image, .level = level, .random = seed};
+    *pair = (struct pair){.names = names, .image = designs[0]->image, .level = level, .random = seed};
     for (int box = 0; box < 2; box++) {
-        if (!accepted("reset", box_start(&pair->boxes[box], designs[box]->image, designs[box]->length), NULL))
+        if (!accepted(pair, "reset", box_start(&pair->boxes[box], designs[box]->image, designs[box]->length), NULL))
             return false;
     }
     sort_registers(pair);

@@ -12,10 +12,12 @@
 
 #include "box.h"
 #include "design.h"
+#include "names.h"
 
 struct pair {
     struct box boxes[2];
     struct journal journals[2];
+    const struct names *names; /* of the first */
     const uint8_t *image; /* of the first; the second has the same labels, registers and state records */
     size_t level;
     uint64_t random;
@@ -42,7 +44,8 @@ struct pair {
    pair. False, with a message, where a call is refused, here and below, or where there is no memory. In either
    case pair_end is to be called. */
 CAISSON_LOOK_AT_ANSWER
-bool pair_start(struct pair *pair, const struct design *const designs[2], size_t level, uint64_t seed);
+bool pair_start(struct pair *pair, const struct design *const designs[2], const struct names *names, size_t level,
+                uint64_t seed);
 
 /* Whether all edited bodies are out of sight of the level; otherwise the lowest state whose body is not. */
 bool pair_hides_edits(const struct pair *pair, size_t *state);

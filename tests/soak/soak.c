@@ -11,10 +11,12 @@
 
 #include "arguments.h"
 #include "design.h"
+#include "names.h"
 #include "neighbour.h"
 #include "pair.h"
 #include "refusals.h"
 #include "say.h"
+#include "shown.h"
 #include "table.h"
 
 #define PROGRESS_SECONDS 5.0
@@ -38,6 +40,7 @@ struct level {
 struct soak {
     const struct arguments *arguments;
     const struct design *designs[2]; /* of either box */
+    const struct names *names;       /* of the first */
     struct level levels[CAISSON_LABELS];
     size_t first; /* of those asked for */
     size_t end;   /* behind the last */
@@ -52,7 +55,7 @@ static enum trial level_start(const struct soak *soak, size_t level, struct pair
     size_t state;
     bool can_differ;
 
-    if (!pair_start(pair, soak->designs, level, soak->arguments->seed))
+    if (!pair_start(pair, soak->designs, soak->names, level, soak->arguments->seed))
         return TRIAL_BROKEN;
     if (!pair_hides_edits(pair, &state))
         return TRIAL_SEEN;
@@ -78,8 +81,10 @@ static bool seconds_now(double *seconds)
 
 static bool progress_print(const struct pair *pair, double seconds)
 {
-    return printf("level %zu, %.0f s: %" PRIu64 " cycles in each box, %" PRIu64 " samples equal\n", pair->level,
-                  seconds, pair->cycles, pair->samples) >= 0 &&
+    char digits[SHOWN_DIGITS];
+
+    return printf("level %s, %.0f s: %" PRIu64 " cycles in each box, %" PRIu64 " samples equal\n",
+                  level_shown(pair->names, pair->level, digits), seconds, pair->cycles, pair->samples) >= 0 &&
            fflush(stdout) == 0;
 }
 
@@ -93,9 +98,11 @@ static bool edits_print(const struct pair *pair)
 
 static bool summary_print(const struct pair *pair, double seconds)
 {
-    return printf("level %zu: %" PRIu64 " cycles in each of two boxes, %" PRIu64 " port writes, %" PRIu64
+    char digits[SHOWN_DIGITS];
+
+    return printf("level %s: %" PRIu64 " cycles in each of two boxes, %" PRIu64 " port writes, %" PRIu64
                   " samples: equal\n",
-                  pair->level, pair->cycles, pair->writes, pair->samples) >= 0 &&
+                  level_shown(pair->names, pair->level, digits), pair->cycles, pair->writes, pair->samples) >= 0 &&
            printf("  at %" PRIu64 " of the samples registers out of sight differed\n", pair->high_differs) >= 0 &&
            printf("  %" PRIu64 " of the cycles journalled, %" PRIu64 " steps back over %" PRIu64 " cycles\n",
                   pair->journalled, pair->steps_back, pair->gone_back) >= 0 &&
@@ -110,6 +117,7 @@ static bool summary_print(const struct pair *pair, double seconds)
 
 static enum ending level_run(struct pair *pair, double seconds, uint64_t seed)
 {
+    char digits[SHOWN_DIGITS];
     double start, now, shown;
 
     if (!seconds_now(&start))
@@ -117,7 +125,8 @@ static enum ending level_run(struct pair *pair, double seconds, uint64_t seed)
     now = shown = start;
     while (now - start < seconds) {
         if (!pair_round(pair)) {
-            say("stopped: --level %zu --seed %" PRIu64 " makes the same calls again\n", pair->level, seed);
+            say("stopped: --level %s --seed %" PRIu64 " makes the same calls again\n",
+                level_shown(pair->names, pair->level, digits), seed);
             return ENDING_DIFFERENT;
         }
         if (!seconds_now(&now))
@@ -134,6 +143,9 @@ static enum ending level_run(struct pair *pair, double seconds, uint64_t seed)
 /* Why a level is left out. */
 static bool left_out_print(const struct level *level)
 {
+    const struct pair *pair = &level->pair;
+    char level_digits[SHOWN_DIGITS], state_digits[SHOWN_DIGITS];
+    const char *name = level_shown(pair->names, pair->level, level_digits);
     size_t state;
     const char *why = level->trial == TRIAL_STILL
                           ? "nothing in sight changes, whatever is written and run: no difference could be seen"
@@ -141,33 +153,38 @@ static bool left_out_print(const struct level *level)
                           ? "no port is out of sight: nothing to try"
                           : "no register is in sight: nothing to compare";
 
-    if (!pair_hides_edits(&level->pair, &state))
-        return printf("level %zu: the other body of state %zu is in sight: nothing is promised\n", level->pair.level,
-                      state) >= 0 &&
+    if (!pair_hides_edits(pair, &state))
+        return printf("level %s: the other body of state %s is in sight: nothing is promised\n", name,
+                      state_shown(pair->names, state, state_digits)) >= 0 &&
                fflush(stdout) == 0;
-    return printf("level %zu: %s\n", level->pair.level, why) >= 0 && fflush(stdout) == 0;
+    return printf("level %s: %s\n", name, why) >= 0 && fflush(stdout) == 0;
 }
 
-static bool design_accepted(const struct design *design, const char *name)
+/* Judges a design, and reads its names. Without the shape of a design there are none for its places. */
+static enum ending design_take(const struct design *design, const char *path, struct names *names)
 {
     caisson_answer answer = caisson_check(design->image, design->length);
 
+    if (answer.number != CAISSON_DIRECTORY && names_load(names, path, design) != STATUS_DONE)
+        return ENDING_INPUT;
     if (answer.number == CAISSON_ACCEPTED)
-        return true;
-    say("%s: ", name);
-    refusal_say(answer, NULL);
-    return false;
+        return ENDING_EQUAL;
+    say("%s: ", path);
+    refusal_say(answer, NULL, names);
+    return ENDING_DIFFERENT;
 }
 
 /* Both designs are accepted, and the second has the records of the first. */
-static enum ending designs_judge(const struct soak *soak)
+static enum ending designs_judge(const struct soak *soak, struct names names[2])
 {
     const struct arguments *arguments = soak->arguments;
     const char *unlike;
+    enum ending ending = design_take(soak->designs[0], arguments->design, &names[0]);
 
-    if (!design_accepted(soak->designs[0], arguments->design) ||
-        (arguments->neighbour != NULL && !design_accepted(soak->designs[1], arguments->neighbour)))
-        return ENDING_DIFFERENT;
+    if (ending == ENDING_EQUAL && arguments->neighbour != NULL)
+        ending = design_take(soak->designs[1], arguments->neighbour, &names[1]);
+    if (ending != ENDING_EQUAL)
+        return ending;
     unlike = neighbour_unlike_records(soak->designs[0]->image, soak->designs[1]->image);
     if (unlike == NULL)
         return ENDING_EQUAL;
@@ -183,12 +200,12 @@ static enum ending soak_start(struct soak *soak)
     size_t seen = 0;
     size_t labels = table_labels(soak->designs[0]->image);
 
-    if (arguments->one_level && arguments->level >= labels) {
-        say("level %" PRIu64 " is no label of the design, which has labels 0 to %zu\n", arguments->level, labels - 1);
-        return ENDING_INPUT;
+    soak->end = labels;
+    if (arguments->level != NULL) {
+        if (!level_find(soak->names, arguments->level, labels, &soak->first))
+            return ENDING_INPUT;
+        soak->end = soak->first + 1;
     }
-    soak->first = arguments->one_level ? (size_t)arguments->level : 0;
-    soak->end = arguments->one_level ? soak->first + 1 : labels;
     for (size_t at = soak->first; at < soak->end; at++) {
         soak->levels[at].trial = level_start(soak, at, &soak->levels[at].pair);
         if (soak->levels[at].trial == TRIAL_BROKEN)
@@ -200,7 +217,7 @@ static enum ending soak_start(struct soak *soak)
     if (seen < soak->end - soak->first)
         return ENDING_EQUAL;
     say("%s has other bodies than %s in sight of %s: nothing is promised\n", arguments->neighbour, arguments->design,
-        arguments->one_level ? "the level" : "every level");
+        arguments->level != NULL ? "the level" : "every level");
     return ENDING_NOTHING;
 }
 
@@ -251,6 +268,7 @@ int main(int argc, char **argv)
 {
     static struct soak soak;
     static struct design designs[2];
+    static struct names names[2];
     struct arguments arguments;
     enum ending ending;
 
@@ -264,11 +282,14 @@ int main(int argc, char **argv)
     soak.arguments = &arguments;
     soak.designs[0] = &designs[0];
     soak.designs[1] = arguments.neighbour == NULL ? &designs[0] : &designs[1];
-    ending = designs_judge(&soak);
+    soak.names = &names[0];
+    ending = designs_judge(&soak, names);
     if (ending == ENDING_EQUAL)
         ending = soak_start(&soak);
     if (ending == ENDING_EQUAL)
         ending = soak_run(&soak);
     soak_end(&soak);
+    names_free(&names[0]);
+    names_free(&names[1]);
     return finish(ending);
 }
