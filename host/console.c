@@ -166,10 +166,13 @@ static enum status quit(struct console *console, char *const *words, size_t coun
 
 static perform help;
 
+static const char write_help[] = "write a port: 2 or r2, and a value that its width holds";
+static const char named_write_help[] = "write a port: its name, 2 or r2, and a value that its width holds";
+
 static const struct command commands[] = {
     {"step", "[N]", "run N cycles, 1 if it is not given, with the readings of the trace", 0, 1, step},
     {"back", "K", "go back K cycles: values and ports as they were before the last K", 1, 1, back},
-    {"write", "REGISTER VALUE", "write a port: 2 or r2, and a value that its width holds", 2, 2, write_port},
+    {"write", "REGISTER VALUE", write_help, 2, 2, write_port},
     {"show", "", "the values that each party sees now", 0, 0, show},
     {"reset", "", "reset values everywhere; one can go back to before it", 0, 0, reset},
     {"history", "", "the commands so far; !N does one again, !! the last", 0, 0, history},
@@ -181,11 +184,13 @@ enum { COMMANDS = sizeof commands / sizeof commands[0] };
 
 static enum status help(struct console *console, char *const *words, size_t count)
 {
-    (void)console;
+    bool named = name_of_register(console->site->names, 0) != NULL;
+
     (void)words;
     (void)count;
     for (size_t i = 0; i < COMMANDS; i++) {
-        enum status status = record_line("%-8s%-16s%s\n", commands[i].name, commands[i].takes, commands[i].help);
+        const char *text = named && commands[i].help == write_help ? named_write_help : commands[i].help;
+        enum status status = record_line("%-8s%-16s%s\n", commands[i].name, commands[i].takes, text);
 
         if (status != STATUS_DONE)
             return status;

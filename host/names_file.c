@@ -1,4 +1,8 @@
-/* names_file.c: a names file, read and judged line by line. docs/FORMAT.md has its lines. */
+/*
+ * names_file.c: a names file, read and judged line by line. The first line has the version, the checksum of the table
+ * and the counts, the second the name of the text; then there is a line for each label, register and state, with its
+ * number, name and line in the text, and for each parameter, with its state.
+ */
 #include <errno.h>
 #include <stdarg.h>
 #include <stdio.h>

@@ -4,14 +4,27 @@
 
 #include <signal.h>
 #include <stddef.h>
+#include <unistd.h>
+
+#include "status.h"
+
+#define SECONDS_TO_END 5u
 
 static volatile sig_atomic_t stop;
 static volatile sig_atomic_t reopen;
+
+/* What has to end but waits for a reader of standard output or standard error ends nevertheless. */
+static void on_alarm(int signal)
+{
+    (void)signal;
+    _exit(STATUS_INPUT);
+}
 
 static void on_stop(int signal)
 {
     (void)signal;
     stop = 1;
+    (void)alarm(SECONDS_TO_END);
 }
 
 static void on_reopen(int signal)
@@ -30,7 +43,7 @@ static void on(int signal, void (*handler)(int), int flags)
 
 void signals_start(void)
 {
-    /* Not restarted: a standard output that waits for its reader must not keep the program from ending. */
+    on(SIGALRM, on_alarm, 0);
     on(SIGTERM, on_stop, (int)SA_RESETHAND);
     on(SIGINT, on_stop, (int)SA_RESETHAND);
 }

@@ -4,7 +4,8 @@
 
 #include <stdbool.h>
 
-/* From now on SIGTERM and SIGINT ask the cycles to end; a second one ends the program. */
+/* From now on SIGTERM and SIGINT ask the cycles to end; a second one ends the program, and so do five seconds in which
+   it could not, since a reader of its output has stopped. */
 void signals_start(void);
 
 /* With files for the records: SIGHUP asks to open them anew, and a pipe without a reader or a file that may not grow

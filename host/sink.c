@@ -35,13 +35,19 @@ static bool ends_in_line(int file)
     return end > 0 && pread(file, &last, 1, end - 1) == 1 && last != '\n';
 }
 
+/* The same of a pipe, which nobody can look back into. */
+static bool cuts_line(const struct sink *sink, int file)
+{
+    return ends_in_line(file) || (sink->sent > 0 && lseek(file, 0, SEEK_CUR) < 0);
+}
+
 /* The first line at once and whole, with a cycle where the file continues another; 0 or the reason why not. */
 static int first_write(const struct sink *sink, int file, uint64_t cycle)
 {
     struct text line = {0};
     int error = ENOMEM;
 
-    if ((!ends_in_line(file) || text_add(&line, "\n")) && text_add(&line, "%s", sink->first.characters) &&
+    if ((!cuts_line(sink, file) || text_add(&line, "\n")) && text_add(&line, "%s", sink->first.characters) &&
         (cycle == 0 || text_add(&line, ", continued, cycle %" PRIu64, cycle)) && text_add(&line, "\n")) {
         ssize_t written = write(file, line.characters, line.length);
 

@@ -24,7 +24,7 @@ static void all_reopen(struct writer *writer)
 
         if (error != 0 && say_is_ready())
             say("%s: cannot be opened anew: %s; the old file is written on\n", writer->sinks[i].path.characters,
-                strerror(error));
+                sink_error(error));
     }
 }
 

@@ -6,6 +6,7 @@ mkdir "$names"
 
 # A table with its names file.
 named() {
+    local design
     for design in "$@"; do
         cp ../designs/"$design".table "$names"
         testdata/names ../designs/"$design".caisson "$names/$design".table >"$names/$design".table.names
@@ -57,6 +58,9 @@ commands_by_name() {
     console_says 'write Reading 7' 'write takes a register by its name or as its number, 2 or r2, not Reading'
     console_says 'write timer 7' "refused by rule 13 at register 0 (timer): A port write or a record of a port trace \
 names a register that does not exist or that is inner."
+    printf 'help\n' >"$made/commands"
+    "${under[@]}" $host "$names/two_groups.table" --console <"$made/commands" 2>"$made/err" |
+        grep -q '^write .*write a port: its name, 2 or r2, ' || fail "help without names"
     # A name comes first, also one that looks as a number does elsewhere.
     cp $designs/lease.table "$names/exchanged.table"
     testdata/names ../designs/lease.caisson "$names/exchanged.table" |

@@ -16,13 +16,28 @@ folder() {
     mkdir "$made/records"
 }
 
-# Whether a record has every cycle from its first one on, but those that it says it lost; prints how many those are.
+# Prints how many cycles a record says it lost, or what is wrong: it is to have every other cycle from its first on.
 whole() {
-    awk '$1 == "#" && $2 == "lost" { if ($4 != last + 1 || $6 < $4) exit 1; lost += $6 - $4 + 1; last = $6; next }
+    awk '$1 == "#" && $2 == "lost" {
+            if ($4 != last + 1 || $6 < $4) { wrong = substr($0, 1, 60); exit }
+            lost += $6 - $4 + 1
+            last = $6
+            next
+        }
         $1 == "#" { next }
         $1 == "cycle" && (last == "" || $2 == last + 1) && $0 ~ /:( [a-z_]+=[0-9]+)+$/ { last = $2; next }
-        { exit 1 }
-        END { print lost + 0 }' "$1" || fail "$1 is not whole: $(cut -c 1-60 "$1" | head -n 20)"
+        { wrong = substr($0, 1, 60); exit }
+        END { print wrong != "" ? "after " last ": " wrong : lost + 0 }' "$1"
+}
+
+# Of a record that is whole but for so many cycles: none, or some.
+lost() {
+    local found
+    found=$(whole "$2")
+    case $1:$found in
+    none:0 | some:[1-9]*) ;;
+    *) fail "$1 to be lost in $2: $found" ;;
+    esac
 }
 
 first_lines() {
@@ -79,18 +94,18 @@ wrong_folders() {
         --records "$made/file"
 }
 
-# A design whose lines are long, so that its files and pipes are soon full.
+# A design whose lines are long for the north, so that its file or pipe is soon full, and short for the south.
 long_lines() {
     local long
-    printf -v long '%08000d' 0
+    printf -v long '%025000d' 0
     cp ../designs/two_groups.table "$names/long.table"
-    sed -E "s/^(register . )([a-z]+)/\1\2${long//0/_}/" "$names/two_groups.table.names" >"$names/long.table.names"
+    sed -E "s/^register 2 reading/&${long//0/_}/" "$names/two_groups.table.names" >"$names/long.table.names"
 }
 
 # Starts a box that runs on, with a record for the south and one for the north, and more options. It must not have the
 # test's end of a pipe, or it would be its own reader.
 start_box() {
-    "${under[@]}" $host "$names/long.table" two_groups.trace --forever --party south:low --party north:high \
+    "${under[@]}" $host "$names/${box_design:-long}.table" two_groups.trace --forever --party south:low --party north:high \
         --records "$made/records" "$@" 2>"$made/err" {reader}>&- &
     box=$!
 }
@@ -115,33 +130,25 @@ counts_lost() {
 # The file may not grow any more, which a write meets as a full disk: then it is renamed, and the new one has the gap.
 full_disk() {
     folder
-    # A third party reads from a pipe, and shows how far the cycles have come.
-    mkfifo "$made/records/clock.record"
-    exec {reader}<>"$made/records/clock.record"
-    cat <&$reader >"$made/read" &
-    local cat=$!
     # The limit is for the box alone.
     ulimit -S -f 512
-    start_box --party clock:low
+    start_box
     ulimit -S -f unlimited
-    awaits has '^cycle 80 ' "$made/read"
+    awaits has '^cycle 80 ' "$made/records/south.record"
     for party in south north; do mv "$made/records/$party.record" "$made/$party.1"; done
     kill -HUP $box
     awaits has '^# lost cycles' "$made/records/north.record"
-    awaits has '^# lost cycles' "$made/records/south.record"
+    awaits has '^cycle' "$made/records/south.record"
     stop_box
-    exec {reader}>&-
-    kill $cat
-    wait $cat 2>/dev/null || true
-    [ "$(whole "$made/read")" = 0 ] || fail "a pipe has lost lines to a full disk"
-    counts_lost south '[1-9][0-9]* lost: File too large'
-    # The line that the old file has cut is whole in the new one.
+    counts_lost south '0 lost'
+    counts_lost north '[1-9][0-9]* lost: File too large'
+    # The line that the old file has cut is whole in the new one, which may be full in its turn.
     for party in south north; do
         head -n 1 "$made/records/$party.record" | grep -qE "started .*Z, continued, cycle [0-9]+\$" || fail "$party"
-        grep -a ':.*=[0-9]*$' "$made/$party.1" | grep -v '^#' | cat - "$made/records/$party.record" |
-            awk '!seen[$0]++' >"$made/both"
-        [ "$(whole "$made/both")" -gt 0 ] || fail "$party.record has no gap"
+        cat "$made/$party.1" "$made/records/$party.record" | grep -E '^#|=[0-9]+$' >"$made/$party.both"
     done
+    lost none "$made/south.both"
+    lost some "$made/north.both"
 }
 
 # A reader that stops holds neither the cycles nor the other party; when it reads again it finds the gap.
@@ -151,6 +158,7 @@ stopped_reader() {
     exec {reader}<>"$made/records/north.record"
     start_box
     awaits has '^cycle 80 ' "$made/records/south.record"
+    rm -f "$made/read"
     cat <&$reader >"$made/read" &
     local cat=$!
     awaits has '^# lost cycles' "$made/read"
@@ -159,11 +167,11 @@ stopped_reader() {
     kill $cat
     wait $cat 2>/dev/null || true
     exec {reader}>&-
-    [ "$(whole "$made/records/south.record")" = 0 ] || fail "the south has lost lines too"
+    lost none "$made/records/south.record"
     counts_lost south '0 lost'
     counts_lost north '[1-9][0-9]* lost: its reader does not read'
     # A gap may be the last thing in the pipe that was not read.
-    [ "$(whole "$made/read")" -gt 0 ] || fail "no gap"
+    lost some "$made/read"
 }
 
 # The reader goes, and another one comes: it begins with a whole line.
@@ -171,6 +179,7 @@ closed_pipe() {
     folder
     mkfifo "$made/records/north.record"
     exec {reader}<>"$made/records/north.record"
+    rm -f "$made/read"
     cat <&$reader >"$made/read" &
     local cat=$!
     start_box
@@ -179,20 +188,21 @@ closed_pipe() {
     kill $cat
     wait $cat 2>/dev/null || true
     awaits has '^cycle 80 ' "$made/records/south.record"
+    rm "$made/read"
     timeout 60 cat "$made/records/north.record" >"$made/read" &
     cat=$!
     awaits has '^# lost cycles' "$made/read"
     stop_box
     wait $cat || fail "the pipe was not closed"
-    [ "$(whole "$made/records/south.record")" = 0 ] || fail "the south has lost lines too"
+    lost none "$made/records/south.record"
     counts_lost north '[1-9][0-9]* lost: Broken pipe'
     # The pipe had lines that nobody has read, so the first cycle is not 1.
-    [ "$(whole "$made/read")" -gt 0 ] || fail "no gap"
+    lost some "$made/read"
 }
 
 # Rotation: no line is lost, none stands twice, and the new first line names the cycle that follows.
 rotated() {
-    local cycle
+    local cycle box_design=two_groups
     folder
     start_box
     for turn in 1 2; do
@@ -204,7 +214,7 @@ rotated() {
     stop_box INT
     for party in south north; do
         cat "$made/$party".{1,2} "$made/records/$party.record" >"$made/all"
-        [ "$(whole "$made/all")" = 0 ] || fail "$party: lines lost by rotation"
+        lost none "$made/all"
         cycle=$(sed -nE '1s/.*, continued, cycle //p' "$made/records/$party.record")
         sed -n 2p "$made/records/$party.record" | grep -q "^cycle $cycle party $party: " || fail "not cycle $cycle"
         head -n 1 "$made/$party.1" | grep -q continued && fail "the first file continues none"
@@ -219,25 +229,25 @@ rotated() {
     kill -HUP $box
     awaits has 'north.record: cannot be opened anew: No space left on device; the old file is written on' "$made/err"
     stop_box
-    [ "$(whole "$made/north.1")" = 0 ] || fail "lines lost, though the old file is written on"
-    [ "$(whole "$made/records/south.record")" = 0 ] || fail "the south has lost lines"
+    lost none "$made/north.1"
+    lost none "$made/records/south.record"
 }
 
 # As fast as possible: a slow file is waited for, one that takes nothing is not, and the end is no success.
 fast_files() {
     local got=0
     folder
-    records /dev/null "$names/long.table" /dev/null --fast --cycles 200 --party south:low --records "$made/records"
-    [ "$(whole "$made/records/south.record")" = 0 ] || fail "lines lost on a good disk"
-    counts_lost south '0 lost'
+    records /dev/null "$names/long.table" /dev/null --fast --cycles 200 --party north:high --records "$made/records"
+    lost none "$made/records/north.record"
+    counts_lost north '0 lost'
     folder
     (
         ulimit -S -f 512
-        "${under[@]}" $host "$names/long.table" /dev/null --fast --cycles 200 --party south:low --records "$made/records"
+        "${under[@]}" $host "$names/long.table" /dev/null --fast --cycles 200 --party north:high --records "$made/records"
     ) 2>"$made/err" || got=$?
     [ $got = 2 ] || fail "a full disk: status $got: $(cat "$made/err")"
     grep -qx '200 cycles, 0 port writes, 0 late cycles' "$made/err" || fail "cycles lost: $(cat "$made/err")"
-    [ "$(stat -c %s "$made/records/south.record")" = 524288 ] || fail "the file is not full"
+    [ "$(stat -c %s "$made/records/north.record")" = 524288 ] || fail "the file is not full"
     runs=$((runs + 1))
 }
 
@@ -249,8 +259,27 @@ signals() {
         box=$!
         awaits has '^cycle 20 ' "$made/out"
         stop_box $signal
-        [ "$(whole "$made/out")" = 0 ] || fail "a line was lost"
+        lost none "$made/out"
     done
+}
+
+# A reader of standard output that has stopped holds the cycles, but not the end.
+held_output() {
+    local got=0
+    mkfifo "$made/pipe"
+    exec {reader}<>"$made/pipe"
+    "${under[@]}" $host "$names/long.table" two_groups.trace --forever >"$made/pipe" 2>"$made/err" {reader}>&- &
+    box=$!
+    # It has begun with the first byte; a pipe has room for two lines, so that it waits at the third.
+    head -c 1 <&$reader >"$made/read"
+    sleep 2
+    kill -TERM $box
+    wait $box || got=$?
+    box=
+    [ $got = 2 ] || fail "a stopped reader of standard output: status $got"
+    exec {reader}>&-
+    rm "$made/pipe"
+    runs=$((runs + 1))
 }
 
 files() {
@@ -264,4 +293,5 @@ files() {
     rotated
     fast_files
     signals
+    held_output
 }
