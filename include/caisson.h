@@ -108,7 +108,7 @@ extern "C" {
 
 /* The version of the library and the number of the image's format. CHANGELOG.md says when each moves;
    docs/FORMAT.md has the format byte by byte. */
-#define CAISSON_VERSION "3.4.0"
+#define CAISSON_VERSION "3.4.1"
 #define CAISSON_FORMAT 3
 
 /* Limits of a design table. */
