@@ -1,5 +1,5 @@
-# Designs with names files, for host/test: parties, traces, records, refusals, the console and replays by name, and
-# names files that are refused. The names are those of the texts in the folder of designs.
+# Designs with names files, for host/test: the examples, parties, traces, records, refusals, the console and replays by
+# name, and names files that are refused. The names are those of the texts in the folder of designs.
 
 names=$made/names
 mkdir "$names"
@@ -13,34 +13,43 @@ named() {
     done
 }
 
-# A record of two_groups or two_groups_shared in names, from one in numbers.
+# What the host shows of a design in names, from what it shows in numbers.
 in_names() {
-    sed -E 's/ r0=/ timer=/g; s/ r1=/ mode=/g; s/(^| )r2=/\1reading=/g; s/ r3=/ switch=/g; s/ r4=/ first_data=/g
-        s/ r5=/ second_data=/g; s/s2\(r4\)/group(first_data)/; s/s2\(r5\)/group(second_data)/' "$1"
+    sed -E "$(awk '$1 == "label" { printf "s/\\<label%d\\>/%s/g\n", $2, $3 }
+        $1 == "register" || $1 == "state" { printf "s/\\<%s%d\\>/%s/g\n", substr($1, 1, 1), $2, $3 }' \
+        "../designs/$1.table.names")" "$2"
 }
 
+# The examples, on the stored tables with their stored names files: what is stored by number, under names.
 runs_by_name() {
-    local design trace
-    named two_groups two_groups_shared
-    for design in two_groups two_groups_shared; do
-        in_names $design.expected >"$made/expected"
-        ! grep -qE ' [rs][0-9]' "$made/expected" || fail "a number is left in $made/expected"
-        for trace in two_groups.trace two_groups_by_name.trace; do
-            records "$made/expected" "$names"/$design.table $trace --fast --party south:low --party north:high
-            records "$made/expected" "$names"/$design.table $trace --replay --party south:0 --party north:high
+    local design output way
+    for design in lease tank two_groups two_groups_shared; do
+        named $design
+        cmp "$names/$design.table.names" ../designs/$design.table.names || fail "testdata/names: another names file"
+        cp ../designs/$design.table.names "$names"
+    done
+    for output in lease tank two_groups two_groups_shared two_groups_console; do
+        in_names ${output%_console} $numbers/$output.expected | diff - $output.expected >&2 ||
+            fail "$output.expected: other values (>) than by number (<)"
+        ! grep -qE '\<[rs][0-9]|\<label[0-9]' $output.expected || fail "$output.expected: a number for a name"
+    done
+    for way in --fast --replay; do
+        # Without parties each label has a record under its name.
+        records lease.expected "$names/lease.table" lease.trace $way
+        records tank.expected "$names/tank.table" tank.trace $way --party town:town --party works:works
+        for design in two_groups two_groups_shared; do
+            records $design.expected "$names/$design.table" two_groups.trace $way --party south:low --party north:high
+            # Numbers are taken all the same.
+            records $design.expected "$names/$design.table" $numbers/two_groups.trace $way --party south:0 \
+                --party north:high
         done
     done
-    # Without parties each label has a record under its name.
-    in_names two_groups.expected | sed 's/party south/party low/; s/party north/party high/' >"$made/expected"
-    records "$made/expected" "$names/two_groups.table" two_groups.trace --fast
-    # The console; all that it shows but the commands of the history is in names.
-    in_names two_groups_console.expected >"$made/expected"
-    session "$made/expected" two_groups.console "$names/two_groups.table" two_groups_by_name.trace --cycles 0 \
+    session two_groups_console.expected two_groups.console "$names/two_groups.table" two_groups.trace --cycles 0 \
         --party south:low --party north:high
-    sed 's/^write r2/write reading/' two_groups.console >"$made/commands"
-    sed -i 's/  write r2/  write reading/' "$made/expected"
-    session "$made/expected" "$made/commands" "$names/two_groups.table" two_groups.trace --cycles 0 --party south:low \
-        --party north:high
+    # All that is shown of commands by number is in names, but for themselves in the history.
+    sed 's/  write reading/  write r2/' two_groups_console.expected >"$made/expected"
+    session "$made/expected" $numbers/two_groups.console "$names/two_groups.table" $numbers/two_groups.trace \
+        --cycles 0 --party south:low --party north:high
 }
 
 # What is said of the console's commands on the named design.
@@ -78,7 +87,7 @@ bad_line() {
 }
 
 wrong_names() {
-    named valves low_child no_lattice wide_reset own_parent default_parameter leak lease
+    named valves low_child no_lattice wide_reset own_parent default_parameter leak
     for word in readin Reading reading2 r2 s0 low root _; do
         bad_line 'the register is no name of one of the design and no number from 0 to 4294967295' "4 $word 1"
     done
@@ -105,8 +114,8 @@ wrong_names() {
         --party north:wish
     says 2 'party north: level 2 is no label of the design, which has labels 0 to 1' "$names/lease.table" lease.trace \
         --party north:2
-    says 2 'party north: level high is no number, and the design has no names file' $designs/lease.table lease.trace \
-        --party north:high
+    says 2 'party north: level high is no number, and the design has no names file' $designs/lease.table \
+        $numbers/lease.trace --party north:high
     says 2 'a second party of the same name: north:low' "$names/lease.table" lease.trace --party north:high \
         --party north:low
 

@@ -45,13 +45,13 @@ first_lines() {
     sum=$(sha256sum <"$names/two_groups.table" | cut -d ' ' -f 1)
     folder
     for run in 1 2; do
-        records /dev/null "$names/two_groups.table" two_groups_by_name.trace --fast --party south:low --party north:high \
+        records /dev/null "$names/two_groups.table" two_groups.trace --fast --party south:low --party north:high \
             --records "$made/records"
         grep -qx "$made/records/south.record: 16 lines, 0 lost" "$made/err" || fail "$(cat "$made/err")"
     done
     for party in 'south low' 'north high'; do
         read -r name level <<<"$party"
-        in_names two_groups.expected | grep "party $name:" >"$made/expected"
+        grep "party $name:" two_groups.expected >"$made/expected"
         # The first lines in the place of what they are to be.
         sed -E "s/^# caisson record, party $name, level $level, design sha256 $sum, library [0-9.]+, started \
 20[0-9]{2}-[01][0-9]-[0-3][0-9]T[0-2][0-9]:[0-5][0-9]:[0-6][0-9]Z\$/first/" "$made/records/$name.record" |
@@ -59,10 +59,11 @@ first_lines() {
     done
     # By number; another design in the same folder has another sum. A line that was cut is ended.
     printf 'cycle 9 par' >"$made/records/a.record"
-    records /dev/null $designs/lease.table lease.trace --replay --records "$made/records" --party a:1
+    records /dev/null $designs/lease.table $numbers/lease.trace --replay --records "$made/records" --party a:1
     sed -n 2p "$made/records/a.record" | grep -q "^# caisson record, party a, level 1, design sha256 \
 $(sha256sum <../designs/lease.table | cut -d ' ' -f 1), library " || fail "$(cat "$made/records/a.record")"
-    $host $designs/lease.table lease.trace --fast --party a:1 2>"$made/err" | diff - <(tail -n +3 "$made/records/a.record") ||
+    $host $designs/lease.table $numbers/lease.trace --fast --party a:1 2>"$made/err" |
+        diff - <(tail -n +3 "$made/records/a.record") ||
         fail "a.record has other lines than standard output"
     [ "$(stat -c %a "$made/records/a.record")" != 666 ] || fail "a record that everybody may write"
 }
@@ -105,8 +106,8 @@ long_lines() {
 # Starts a box that runs on, with a record for the south and one for the north, and more options. It must not have the
 # test's end of a pipe, or it would be its own reader.
 start_box() {
-    "${under[@]}" $host "$names/${box_design:-long}.table" two_groups.trace --forever --party south:low --party north:high \
-        --records "$made/records" "$@" 2>"$made/err" {reader}>&- &
+    "${under[@]}" $host "$names/${box_design:-long}.table" $numbers/two_groups.trace --forever --party south:low \
+        --party north:high --records "$made/records" "$@" 2>"$made/err" {reader}>&- &
     box=$!
 }
 
@@ -268,7 +269,8 @@ held_output() {
     local got=0
     mkfifo "$made/pipe"
     exec {reader}<>"$made/pipe"
-    "${under[@]}" $host "$names/long.table" two_groups.trace --forever >"$made/pipe" 2>"$made/err" {reader}>&- &
+    "${under[@]}" $host "$names/long.table" $numbers/two_groups.trace --forever >"$made/pipe" \
+        2>"$made/err" {reader}>&- &
     box=$!
     # It has begun with the first byte; a pipe has room for two lines, so that it waits at the third.
     head -c 1 <&$reader >"$made/read"

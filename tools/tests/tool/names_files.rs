@@ -45,7 +45,7 @@ pub fn files(folder: &str) -> Vec<String> {
 #[test]
 fn assemble_writes_both() {
     let folder = folder("named_tables");
-    for design in ["two_groups", "slot", "counter"] {
+    for design in ["two_groups", "two_groups_shared", "tank", "slot", "counter"] {
         let table = format!("{folder}/{design}.table");
         // Where nothing is yet, and over what was there.
         for _ in 0..2 {
@@ -58,7 +58,7 @@ fn assemble_writes_both() {
             fs::write(format!("{table}.names"), stale).unwrap();
         }
     }
-    assert_eq!(files(&folder).len(), 6);
+    assert_eq!(files(&folder).len(), 10);
 }
 
 /// One word, whatever the text is called.
