@@ -8,6 +8,7 @@ use super::engine::{Engine, REFERENCE};
 use super::filed::{note_filed, note_refused, Filed};
 use super::filed_runs::Runs;
 use super::tally::Tally;
+use super::written::compare_written;
 use crate::answer::Answer;
 use crate::generate::random::Random;
 use crate::generate::{any_design, faults, lively, renumbered, with_spares, Size};
@@ -53,24 +54,13 @@ impl Tallies {
         length: usize,
         area: Area,
     ) -> Result<(Answer, Vec<u8>), Difference> {
-        let lent = image.to_vec().into_boxed_slice();
-        let mut given_area = area.clone();
-        let mut expected_area = area;
-        let given = (engine.file)(&lent, given_area.lend(length));
-        let expected = (REFERENCE.file)(image, expected_area.lend(length));
-        let what = format!("file into an area of {length} bytes");
-        if given != expected {
-            return Err(Difference::new(image, &what, given, expected));
-        }
-        if given_area != expected_area || *lent != *image {
-            let what = format!("{what}: other bytes in the area, a guard or the image");
-            return Err(Difference::new(image, &what, given, expected));
-        }
-        self.tally.add(expected, image.len());
-        if !matches!(expected.number, 0 | 24) {
+        let calls = [engine.file, REFERENCE.file];
+        let (answer, bytes) = compare_written("file", calls, image, length, area)?;
+        self.tally.add(answer, image.len());
+        if !matches!(answer.number, 0 | 24) {
             note_refused(&mut self.tally, image, length);
         }
-        Ok((given, given_area.lend(length).to_vec()))
+        Ok((answer, bytes))
     }
 
     /// Into areas of several lengths on either side of what the form has, and then run beside it. Gives the form.

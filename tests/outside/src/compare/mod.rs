@@ -38,6 +38,7 @@ pub mod replays;
 mod soundness;
 pub mod tally;
 mod view;
+mod written;
 
 #[cfg(feature = "library")]
 pub mod check;

@@ -7,6 +7,7 @@ use super::engine::{Engine, REFERENCE};
 use super::pruned::{note_pruned, note_refused, Pruned};
 use super::pruned_runs::Runs;
 use super::tally::Tally;
+use super::written::compare_written;
 use crate::answer::Answer;
 use crate::generate::random::Random;
 use crate::generate::{any_design, faults, lively, with_spares, Size};
@@ -47,24 +48,13 @@ impl Tallies {
         length: usize,
         area: Area,
     ) -> Result<(Answer, Vec<u8>), Difference> {
-        let lent = image.to_vec().into_boxed_slice();
-        let mut given_area = area.clone();
-        let mut expected_area = area;
-        let given = (engine.prune)(&lent, given_area.lend(length));
-        let expected = (REFERENCE.prune)(image, expected_area.lend(length));
-        let what = format!("prune into an area of {length} bytes");
-        if given != expected {
-            return Err(Difference::new(image, &what, given, expected));
+        let calls = [engine.prune, REFERENCE.prune];
+        let (answer, bytes) = compare_written("prune", calls, image, length, area)?;
+        self.tally.add(answer, image.len());
+        if !matches!(answer.number, 0 | 24) {
+            note_refused(&mut self.tally, image, length, answer);
         }
-        if given_area != expected_area || *lent != *image {
-            let what = format!("{what}: other bytes in the area, a guard or the image");
-            return Err(Difference::new(image, &what, given, expected));
-        }
-        self.tally.add(expected, image.len());
-        if !matches!(expected.number, 0 | 24) {
-            note_refused(&mut self.tally, image, length, expected);
-        }
-        Ok((given, given_area.lend(length).to_vec()))
+        Ok((answer, bytes))
     }
 
     /// Into areas of several lengths on either side of what the result has, and then run beside it.
