@@ -432,3 +432,13 @@ fallOrGoto =
     (stateRecord 0 0 0 ∷ stateRecord 0 0 3 ∷ stateRecord 0 1 4 ∷ stateRecord 1 1 5 ∷ [])
     (falls ∷ falls ∷ goesTo 2 ∷ branches 0 1 2 ∷ goesTo 2 ∷ goesTo 3 ∷ [])
     (reads 1 ∷ [])
+
+-- A design with a spare child. The group, state 1, has label 1: if r1 then fall else goto 1. Its default child 2 has label 1, and the spare child 3 has label 0: r0 := 1; goto 3.
+abbrev pub spare : List ℕ
+spare =
+    assemble
+    chain
+    lowAndHigh
+    (stateRecord 0 0 0 ∷ stateRecord 0 1 3 ∷ stateRecord 1 1 4 ∷ stateRecord 1 0 7 ∷ [])
+    (falls ∷ falls ∷ goesTo 1 ∷ branches 0 1 2 ∷ goesTo 2 ∷ assigns 0 1 ∷ goesTo 3 ∷ sequences 5 6 ∷ [])
+    (reads 1 ∷ constant 1 ∷ [])

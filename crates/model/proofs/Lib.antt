@@ -1,4 +1,4 @@
--- The theorems about the meaning alone. `Promises` restates those that a reader looks for; the proved cases of document 01, and those that hold its sentences in place, stand last.
+-- The theorems about the meaning alone. `Promises` restates those that a reader looks for; what the cases are written with stands last, the cases themselves in crate `model_cases`.
 pub mod Laws
 pub mod Exact
 pub mod Refused
@@ -14,5 +14,3 @@ pub mod Promises
 pub mod RaisingPromises
 pub mod Designs
 pub mod Opened
-pub mod Cases
-pub mod Boundaries

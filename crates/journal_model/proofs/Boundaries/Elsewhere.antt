@@ -9,8 +9,7 @@ use Rattle.model.specs.Values.{wordsOf}
 use Rattle.model.specs.Calls.{Lent}
 use Rattle.model.specs.Parties.{Seen, runs, aCycle, valuesSeen}
 use Rattle.model.proofs.Opened.{lent}
-use Rattle.model.proofs.Designs.{word32}
-use Rattle.model.proofs.Boundaries.Falls.{spare}
+use Rattle.model.proofs.Designs.{word32, spare}
 use Rattle.journal_model.specs.Journals.{savedBytes}
 use Rattle.journal_model.specs.Calls.{LentJournal}
 use Rattle.journal_model.specs.Lists.{JournalCall, calls, journals, goesBack, journalEvents, journalsAtEnd, JournalRemaining, remains, aJournalledCycle, aStepBack, viewJournalled, remainingJournalled}

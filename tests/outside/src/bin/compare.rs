@@ -1,6 +1,5 @@
 //! Compares the library with the reference on random images, on random lists of calls, on random replays, on
-//! random raisings, on random prunings, on random filings and on random gate tables, for a bounded time: a tenth
-//! for replays, for prunings and for filings each, and equal parts of the rest.
+//! random raisings, on random prunings, on random filings and on random gate tables.
 
 use caisson_tests::compare::arguments::Arguments;
 use caisson_tests::compare::check;
@@ -13,16 +12,18 @@ use caisson_tests::compare::pruning;
 use caisson_tests::compare::raising;
 use caisson_tests::compare::replays;
 use std::process::ExitCode;
-use std::time::{Duration, Instant};
 
-/// The part of the time that a comparison has; replays, prunings and filings meet all they have to in less.
-const PART: f64 = 0.175;
-const PART_OF_REPLAYS: f64 = 0.1;
-const PART_OF_PRUNINGS: f64 = 0.1;
-const PART_OF_FILINGS: f64 = 0.1;
+/// How many seeds a comparison takes: with these it meets all that it has to.
+const CHECKS: u64 = 100;
+const LISTS: u64 = 100;
+const REPLAYS: u64 = 100;
+const RAISINGS: u64 = 100;
+const PRUNINGS: u64 = 100;
+const FILINGS: u64 = 100;
+const GATES: u64 = 100;
 
 fn main() -> ExitCode {
-    let arguments = Arguments::read(40);
+    let arguments = Arguments::read();
     println!("first seed {}", arguments.seed);
     let equal = compare_checks(&arguments)
         && compare_lists(&arguments)
@@ -40,25 +41,19 @@ fn main() -> ExitCode {
     }
 }
 
-/// Takes seeds in order until the time is over or two answers differ.
+/// Takes seeds in order until two answers differ.
 fn each_seed(
     arguments: &Arguments,
-    part: f64,
+    own: u64,
     mut compare: impl FnMut(u64) -> Result<(), Difference>,
 ) -> bool {
-    let end = Instant::now() + Duration::from_secs(arguments.seconds).mul_f64(part);
-    let mut seed = arguments.seed;
-    loop {
+    for seed in arguments.seeds(own) {
         if let Err(difference) = compare(seed) {
             difference.report(&format!("seed {seed}"));
             return false;
         }
-        if Instant::now() >= end {
-            println!("last seed {seed}");
-            return true;
-        }
-        seed += 1;
     }
+    true
 }
 
 fn compare_checks(arguments: &Arguments) -> bool {
@@ -67,7 +62,7 @@ fn compare_checks(arguments: &Arguments) -> bool {
         difference.report("the fixed images");
         return false;
     }
-    let equal = each_seed(arguments, PART, |seed| {
+    let equal = each_seed(arguments, CHECKS, |seed| {
         check::images_of_seed(seed, &mut tallies)
     });
     tallies.print();
@@ -89,7 +84,7 @@ fn compare_lists(arguments: &Arguments) -> bool {
         difference.report("the longest runs");
         return false;
     }
-    let equal = each_seed(arguments, PART, |seed| {
+    let equal = each_seed(arguments, LISTS, |seed| {
         lists::lists_of_seed(seed, &mut tallies)
     });
     tallies.print();
@@ -105,7 +100,7 @@ fn compare_replays(arguments: &Arguments) -> bool {
         return false;
     }
     let mut tallies = replays::Tallies::default();
-    let equal = each_seed(arguments, PART_OF_REPLAYS, |seed| {
+    let equal = each_seed(arguments, REPLAYS, |seed| {
         replays::replays_of_seed(&LIBRARY, seed, &mut tallies)
     });
     tallies.print();
@@ -118,7 +113,7 @@ fn compare_raisings(arguments: &Arguments) -> bool {
         difference.report("the fixed raisings");
         return false;
     }
-    let equal = each_seed(arguments, PART, |seed| {
+    let equal = each_seed(arguments, RAISINGS, |seed| {
         raising::raisings_of_seed(seed, &mut tallies)
     });
     tallies.print();
@@ -132,7 +127,7 @@ fn compare_prunings(arguments: &Arguments) -> bool {
         difference.report("the fixed prunings");
         return false;
     }
-    let equal = each_seed(arguments, PART_OF_PRUNINGS, |seed| {
+    let equal = each_seed(arguments, PRUNINGS, |seed| {
         pruning::prunings_of_seed(&LIBRARY, seed, &mut tallies)
     });
     tallies.print();
@@ -146,7 +141,7 @@ fn compare_filings(arguments: &Arguments) -> bool {
         difference.report("the fixed filings");
         return false;
     }
-    let equal = each_seed(arguments, PART_OF_FILINGS, |seed| {
+    let equal = each_seed(arguments, FILINGS, |seed| {
         filing::filings_of_seed(&LIBRARY, seed, &mut tallies)
     });
     tallies.print();
@@ -159,7 +154,7 @@ fn compare_gates(arguments: &Arguments) -> bool {
         difference.report("the fixed gate tables");
         return false;
     }
-    let equal = each_seed(arguments, PART, |seed| {
+    let equal = each_seed(arguments, GATES, |seed| {
         gates::tables_of_seed(seed, &mut tallies)
     });
     tallies.print();

@@ -3,10 +3,12 @@
 use caisson_tests::compare::arguments::Arguments;
 use caisson_tests::compare::listings::{listings_of_examples, listings_of_seed};
 use std::process::ExitCode;
-use std::time::{Duration, Instant};
+
+/// How many seeds it takes.
+const LISTINGS: u64 = 100;
 
 fn main() -> ExitCode {
-    let arguments = Arguments::read(10);
+    let arguments = Arguments::read();
     let Some(program) = &arguments.program else {
         eprintln!("--program must name the lister");
         return ExitCode::from(2);
@@ -15,16 +17,14 @@ fn main() -> ExitCode {
         difference.report("the examples");
         return ExitCode::FAILURE;
     }
-    let end = Instant::now() + Duration::from_secs(arguments.seconds);
     println!("first seed {}", arguments.seed);
-    let mut seed = arguments.seed;
-    while Instant::now() < end {
+    let seeds = arguments.seeds(LISTINGS);
+    for seed in seeds.clone() {
         if let Err(difference) = listings_of_seed(program, seed) {
             difference.report(&format!("seed {seed}"));
             return ExitCode::FAILURE;
         }
-        seed += 1;
     }
-    println!("{} listings, no difference", seed - arguments.seed);
+    println!("{} listings, no difference", seeds.count());
     ExitCode::SUCCESS
 }

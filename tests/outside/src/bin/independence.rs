@@ -1,75 +1,75 @@
-//! Tries demand 3 on the library with random pairs of matching lists, in an eighth of the time of lists and replays
-//! on a design and an edited one, in another of replays, and in the last quarter of runs of gate tables, for a
-//! bounded time.
+//! Tries demand 3 on the library with random pairs of matching lists, of lists and replays on a design and an edited
+//! one, of replays, and of runs of gate tables.
 
 use caisson_tests::compare::arguments::Arguments;
+use caisson_tests::compare::difference::Difference;
 use caisson_tests::compare::edits::{edit_pairs_of_seed, EditFindings};
 use caisson_tests::compare::engine::LIBRARY;
 use caisson_tests::compare::gate_independence::{gate_pairs_of_seed, GateFindings};
 use caisson_tests::compare::groups::Groups;
 use caisson_tests::compare::independence::{pairs_of_seed, Findings};
 use caisson_tests::compare::replay_independence::{replay_pairs_of_seed, ReplayFindings};
+use std::ops::Range;
 use std::process::ExitCode;
-use std::time::{Duration, Instant};
+
+/// How many seeds each part takes: with these it meets all that it has to.
+const LISTS: u64 = 100;
+const EDITS: u64 = 100;
+const REPLAYS: u64 = 100;
+const GATES: u64 = 100;
 
 fn main() -> ExitCode {
-    let arguments = Arguments::read(15);
-    if let Err(why) = compare_groups(arguments.seed) {
-        println!("FAILED: {why}");
-        return ExitCode::FAILURE;
+    match compare(&Arguments::read()) {
+        Ok(()) => ExitCode::SUCCESS,
+        Err(why) => {
+            println!("FAILED: {why}");
+            ExitCode::FAILURE
+        }
     }
-    let eighth = Duration::from_secs(arguments.seconds) / 8;
-    let end = Instant::now() + 4 * eighth;
+}
+
+fn compare(arguments: &Arguments) -> Result<(), String> {
+    compare_groups(arguments.seed)?;
     println!("first seed {}", arguments.seed);
-    let mut findings = Findings::default();
-    let mut seed = arguments.seed;
-    while Instant::now() < end {
-        if let Err(difference) = pairs_of_seed(&LIBRARY, seed, &mut findings) {
-            difference.report(&format!("seed {seed}"));
-            return ExitCode::FAILURE;
-        }
-        seed += 1;
-    }
-    println!("last seed {}", seed - 1);
-    findings.print();
+    let mut lists = Findings::default();
+    each_seed(arguments.seeds(LISTS), "", |seed| {
+        pairs_of_seed(&LIBRARY, seed, &mut lists)
+    })?;
+    lists.print();
     let mut edits = EditFindings::default();
-    let end = Instant::now() + eighth;
-    let mut seed = arguments.seed;
-    while Instant::now() < end {
-        if let Err(difference) = edit_pairs_of_seed(&LIBRARY, seed, &mut edits) {
-            difference.report(&format!("seed {seed} of edits"));
-            return ExitCode::FAILURE;
-        }
-        seed += 1;
-    }
+    each_seed(arguments.seeds(EDITS), " of edits", |seed| {
+        edit_pairs_of_seed(&LIBRARY, seed, &mut edits)
+    })?;
     edits.print();
     let mut replays = ReplayFindings::default();
-    let end = Instant::now() + eighth;
-    let mut seed = arguments.seed;
-    while Instant::now() < end {
-        if let Err(difference) = replay_pairs_of_seed(&LIBRARY, seed, &mut replays) {
-            difference.report(&format!("seed {seed} of replays"));
-            return ExitCode::FAILURE;
-        }
-        seed += 1;
-    }
+    each_seed(arguments.seeds(REPLAYS), " of replays", |seed| {
+        replay_pairs_of_seed(&LIBRARY, seed, &mut replays)
+    })?;
     replays.print();
     let mut gates = GateFindings::default();
-    let end = Instant::now() + 2 * eighth;
-    let mut seed = arguments.seed;
-    while Instant::now() < end {
-        if let Err(difference) = gate_pairs_of_seed(seed, &mut gates) {
-            difference.report(&format!("seed {seed} of gates"));
-            return ExitCode::FAILURE;
-        }
-        seed += 1;
-    }
+    each_seed(arguments.seeds(GATES), " of gates", |seed| {
+        gate_pairs_of_seed(seed, &mut gates)
+    })?;
     gates.print();
-    if !findings.able() || !edits.able() || !replays.able() || !gates.able() {
-        println!("FAILED: this test would not have found a difference");
-        return ExitCode::FAILURE;
+    if lists.able() && edits.able() && replays.able() && gates.able() {
+        return Ok(());
     }
-    ExitCode::SUCCESS
+    Err("this test would not have found a difference".to_owned())
+}
+
+/// Takes seeds in order until two views differ.
+fn each_seed(
+    seeds: Range<u64>,
+    part: &str,
+    mut compare: impl FnMut(u64) -> Result<(), Difference>,
+) -> Result<(), String> {
+    for seed in seeds {
+        if let Err(difference) = compare(seed) {
+            difference.report(&format!("seed {seed}{part}"));
+            return Err("views differ".to_owned());
+        }
+    }
+    Ok(())
 }
 
 /// The stored designs with two groups and with one body for both.

@@ -1,9 +1,11 @@
 //! The options that the programs share.
 
 use std::env;
+use std::ops::Range;
 
 pub struct Arguments {
-    pub seconds: u64,
+    /// How many times as many seeds as a comparison has by itself.
+    pub times: u64,
     pub seed: u64,
     /// The program under test, for those that start one.
     pub program: Option<String>,
@@ -11,9 +13,9 @@ pub struct Arguments {
 
 impl Arguments {
     /// Ends the program on an option that it does not know.
-    pub fn read(default_seconds: u64) -> Arguments {
+    pub fn read() -> Arguments {
         let mut arguments = Arguments {
-            seconds: default_seconds,
+            times: 1,
             seed: 1,
             program: None,
         };
@@ -21,15 +23,21 @@ impl Arguments {
         while let Some(option) = given.next() {
             let value = given.next().unwrap_or_default();
             match (option.as_str(), value.parse()) {
-                ("--seconds", Ok(number)) => arguments.seconds = number,
+                ("--times", Ok(number)) => arguments.times = number,
                 ("--seed", Ok(number)) => arguments.seed = number,
                 ("--program", _) if !value.is_empty() => arguments.program = Some(value),
                 _ => {
-                    eprintln!("options: --seconds N, --seed S, --program PATH");
+                    eprintln!("options: --times N, --seed S, --program PATH");
                     std::process::exit(2);
                 }
             }
         }
         arguments
+    }
+
+    /// The seeds of a comparison that has so many by itself. They are counted and not timed, so that what is tried does
+    /// not depend on the machine.
+    pub fn seeds(&self, own: u64) -> Range<u64> {
+        self.seed..self.seed + own * self.times
     }
 }

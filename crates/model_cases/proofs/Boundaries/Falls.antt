@@ -2,10 +2,10 @@
 use Prim.Native.Nat.{ℕ}
 use mathlib.Core.Path.{_≡_, refl}
 use mathlib.Core.List.{List, [], _∷_, _++_, map}
 use Rattle.model.specs.Image.{designOf}
 use Rattle.model.specs.Parties.{Seen, runs, events, valuesSeen, walkSeen, view}
 use Rattle.model.proofs.Opened.{checks, everything, accepted, refused, judged, lent}
-use Rattle.model.proofs.Designs.{chain, lowAndHigh, assemble, stateRecord, skips, assigns, sequences, falls, goesTo, branches, constant, reads}
+use Rattle.model.proofs.Designs.{chain, lowAndHigh, assemble, stateRecord, skips, assigns, sequences, falls, goesTo, branches, constant, reads, spare}
 
 -- The group, state 1, has label 1 and a body whose last command is 3; states 2, 3 and 4 below it have these labels.
 abbrev grouped : List (List ℕ) → ℕ → ℕ → ℕ → List ℕ
@@ -66,16 +66,7 @@ shows-lowest-child
     ≡ refused 9 3
 shows-lowest-child = unfold checks in refl
 
--- Why "from reset onward". The group, state 1, has label 1: if r1 then fall else goto 1. Its default child 2 has label 1, and the spare child 3 has label 0: r0 := 1; goto 3.
-abbrev pub spare : List ℕ
-spare =
-    assemble
-    chain
-    lowAndHigh
-    (stateRecord 0 0 0 ∷ stateRecord 0 1 3 ∷ stateRecord 1 1 4 ∷ stateRecord 1 0 7 ∷ [])
-    (falls ∷ falls ∷ goesTo 1 ∷ branches 0 1 2 ∷ goesTo 2 ∷ assigns 0 1 ∷ goesTo 3 ∷ sequences 5 6 ∷ [])
-    (reads 1 ∷ constant 1 ∷ [])
-
+-- Why "from reset onward": a design with a spare child.
 shows-spare-accepted : judged spare ≡ accepted 0
 shows-spare-accepted = unfold checks in refl
 
