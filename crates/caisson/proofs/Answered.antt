@@ -9,7 +9,8 @@ use Rattle.model.specs.Answers.{Numbers, numberOf, numbersOf}
 use Rattle.model.specs.Calls.{Left, LeftRegisters}
 use Rattle.design.specs.Resets.{lends}
 use Rattle.model.specs.Raising.{LeftOut, leftOutAs}
-use Rattle.calls.specs.Stages.{leftAs, leftRegistersAs}
+use Rattle.running.specs.Stages.{leftAs}
+use Rattle.calls.specs.Stages.{leftRegistersAs}
 use Rattle.caisson.specs.declared.HostAnswer.{HostAnswer}
 use Rattle.caisson.specs.Told.{told, toldLeft, inNumbers, toldLeftRegisters, registersInNumbers, toldLeftOut, outInNumbers}
 

@@ -1,4 +1,4 @@
--- What a call leaves, as its answer and the bytes of the areas; and the calls of `Rattle.model.specs.Calls` from the point where the image is accepted on.
+-- What a port write leaves, as its answer and the bytes of the area; and the calls of `Rattle.model.specs.Calls` from the point where the image is accepted on.
 use Prim.Native.Nat.{ℕ}
 use mathlib.Core.List.{List}
 use lib.ListN.{length, set}
@@ -8,11 +8,8 @@ use Rattle.model.specs.Image.{Design as Table}
 use Rattle.model.specs.Verdict.{_before_}
 use Rattle.model.specs.Values.{wordsOf, bytesOf}
 use Rattle.model.specs.Machine.{resetAreas, afterCycles}
-use Rattle.model.specs.Calls.{Lent, Left, LeftRegisters, leaves, leavesRegisters, lengthAnswer, targetsAnswer, bindingsAnswer, registerAreaAnswer, contentsAnswer, portAnswer, valueAnswer, cyclesAnswer, areasOf, lentOf}
-use Rattle.design.specs.Resets.{lends}
-
-abbrev pub leftAs : Answer → List ℕ → List ℕ → Left
-leftAs answer registers targets = record { answer = answer; lent = lends registers targets }
+use Rattle.model.specs.Calls.{Lent, Left, LeftRegisters, leaves, leavesRegisters, lengthAnswer, registerAreaAnswer, contentsAnswer, portAnswer, valueAnswer, cyclesAnswer, areasOf, lentOf}
+use Rattle.running.specs.Stages.{soundOn}
 
 abbrev pub leftRegistersAs : Answer → List ℕ → LeftRegisters
 leftRegistersAs answer registers = record { answer = answer; registers = registers }
@@ -27,18 +24,9 @@ writePortOn d registers r v =
     registers
     (bytesOf (set (wordsOf (length (d .registers)) registers) r v))
 
--- 14 of areas of the right lengths: "then any fault that a request adds in the registers' contents, at the lowest register, then an unsound target, at the lowest
--- state"; 02, E8: then an unsound binding
-unfoldable pub soundOn : Table → Lent → Answer
-soundOn d lent = contentsAnswer d (lent .registers) before targetsAnswer d lent before bindingsAnswer d lent
-
 unfoldable pub runOn : Table → Lent → ℕ → Left
 runOn d lent n =
     leaves
     (lengthAnswer d lent before soundOn d lent before cyclesAnswer n before Accepted n)
     lent
     (lentOf (afterCycles d n (areasOf d lent)))
-
--- and once both areas are sound
-unfoldable pub runSound : Table → Lent → ℕ → Left
-runSound d lent n = leaves (cyclesAnswer n before Accepted n) lent (lentOf (afterCycles d n (areasOf d lent)))

@@ -1,17 +1,16 @@
 // The calls on slices, with answers as enums. Each makes the image checks first, and makes them once.
 pub mod areas;
-mod contents;
 pub mod numbers;
 mod ports;
 mod resets;
 pub mod runs;
-pub mod soundness;
 
 use model::Answer;
 ghost use mathlib.Core.Path.{_≡_};
 ghost use Rattle.model.specs.Calls.{check as checkOf, registersLength, targetsLength, reset as resetOf, writePort, run as runOf};
 ghost use Rattle.design.specs.Resets.{lends};
-ghost use Rattle.calls.specs.Stages.{leftAs, leftRegistersAs};
+ghost use Rattle.running.specs.Stages.{leftAs};
+ghost use Rattle.calls.specs.Stages.{leftRegistersAs};
 
 // Accepts an image exactly when it keeps the rules, or refuses it with the lowest number that
 // applies, 10 to 12 by their lowest node, and its place.

@@ -1,12 +1,12 @@
 // Port write on an image that keeps the rules.
 use crate::areas::register_area_kept;
-use crate::contents::too_large;
 use design::Design;
 use design::widths::fits;
 use design::words::put_word;
 use model::Answer;
 use model::Found;
 use model::Refusal;
+use running::contents::too_large;
 ghost use Prim.Native.Nat.{_*_};
 ghost use mathlib.Core.Path.{_≡_};
 ghost use lib.ListN.{length};

@@ -7,7 +7,8 @@ ghost use mathlib.Core.Path.{_≡_};
 ghost use Rattle.model.specs.Image.{designOf};
 ghost use Rattle.model.specs.Rules.{Keeps};
 ghost use Rattle.design.specs.Resets.{lends};
-ghost use Rattle.calls.specs.Stages.{leftAs, resetOn};
+ghost use Rattle.running.specs.Stages.{leftAs};
+ghost use Rattle.calls.specs.Stages.{resetOn};
 
 pub fn reset(image: &[u8], registers: &mut [u8], targets: &mut [u8]) -> Answer
     requires { ⌜ Keeps (now image) ⌝ }

@@ -1,56 +1,25 @@
 // Run on an image that keeps the rules: all that can be done once is done before the first cycle.
 use crate::areas::areas_kept;
-use crate::soundness::judge;
 use design::Design;
 use design::reset::default_targets;
 use design::scopes::SCOPES;
 use design::scopes::has_parameters;
 use design::scopes::scopes;
-use machine::cycle::cycles;
 use model::Answer;
 use model::Refusal;
+use running::runs::run_sound;
+use running::soundness::judge;
 ghost use Prim.Native.Nat.{_*_};
 ghost use mathlib.Core.Path.{_≡_};
-ghost use lib.Dec.{leb};
 ghost use lib.ListN.{length, replicate};
-ghost use Rattle.model.specs.Limits.{cyclesMax, wordLength, targetLength, statesMax};
+ghost use Rattle.model.specs.Limits.{wordLength, targetLength, statesMax};
 ghost use Rattle.model.specs.Image.{designOf};
 ghost use Rattle.model.specs.Rules.{Keeps};
 ghost use Rattle.design.specs.Describes.{Describes};
 ghost use Rattle.design.specs.Resets.{Defaults, lends};
 ghost use Rattle.design.specs.Scopes.{scopeLength, Scopes};
-ghost use Rattle.machine.specs.Cycles.{Running};
-ghost use Rattle.calls.specs.Stages.{leftAs, runOn, runSound};
-
-// The most cycles of a run.
-const MOST_CYCLES: u32 = 1000000;
-
-// A run of so many cycles is short enough.
-pub fn count_kept(count: u32) -> bool
-    ensures { λ r. ⌜ r ≡ leb count cyclesMax ⌝ }
-{
-    count <= MOST_CYCLES
-}
-
-// A run on sound areas.
-fn run_sound(
-    image: &[u8],
-    design: Design,
-    defaults: &[u8],
-    in_scope: &[u8],
-    registers: &mut [u8],
-    targets: &mut [u8],
-    count: u32,
-) -> Answer
-    requires { ⌜ Running (now image) design (now defaults) (now «in_scope») (now registers) (now targets) ⌝ }
-    ensures { λ a. ⌜ leftAs a (now (registers .exit)) (now (targets .exit)) ≡ runSound (designOf (now (image .entry))) (lends (now (registers .entry)) (now (targets .entry))) count ⌝ }
-{
-    if !count_kept(count) {
-        return Answer::Refused(Refusal::CycleCount, 0);
-    }
-    cycles(image, design, defaults, in_scope, registers, targets, count);
-    Answer::Accepted(count as usize)
-}
+ghost use Rattle.running.specs.Stages.{leftAs};
+ghost use Rattle.calls.specs.Stages.{runOn};
 
 // A run on areas of the right lengths.
 fn run_on(

@@ -19,8 +19,8 @@ use Rattle.model.specs.Machine.{cycles, afterCycles}
 use Rattle.model.specs.Calls.{Lent, leaves, lengthAnswer, cyclesAnswer, areasOf, lentOf, resetAnswer, runAnswer, run}
 use Rattle.model.specs.Parties.{RightLengths}
 use Rattle.model.proofs.Laws.Verdict.{found-nothing}
-use Rattle.calls.specs.Stages.{soundOn}
-use Rattle.calls.proofs.CallRules.{sound-before}
+use Rattle.running.specs.Stages.{soundOn}
+use Rattle.running.proofs.RunningRules.{sound-before}
 use Rattle.journal_model.specs.Journals.{countIn, journalWith, savedLength, savedIn, hasRoom, savedBefore}
 use Rattle.journal_model.specs.Calls.{LentJournal, LeftJournal, leavesJournal, roomAnswer, stepsAnswer, savedBack, runJournalledAnswer, runJournalled, savedAnswer, restored, stepBackAnswer, stepBack}
 use Rattle.journal_model.specs.Rules.{RoomKeeps}

@@ -22,8 +22,9 @@ use Rattle.design.specs.declared.Design.{Design}
 use Rattle.design.specs.Describes.{Describes}
 use Rattle.design.specs.Resets.{lends}
 use Rattle.machine.specs.Cycles.{Running, areasIn}
-use Rattle.calls.specs.Stages.{soundOn}
-use Rattle.calls.proofs.CallRules.{bytes-left, right-lengths}
+use Rattle.running.specs.Stages.{soundOn}
+use Rattle.running.proofs.RunningRules.{bytes-left}
+use Rattle.calls.proofs.CallRules.{right-lengths}
 use Rattle.journal_model.specs.Journals.{countLength, countIn, journalWith, savedLength, savedIn, hasRoom, savedBefore}
 use Rattle.journal_model.specs.Calls.{LeftJournal, roomAnswer, stepsAnswer}
 use Rattle.journal_model.specs.Rules.{RoomKeeps}

@@ -19,7 +19,7 @@ use Rattle.design.specs.Describes.{Describes}
 use Rattle.design.specs.Resets.{lends}
 use Rattle.design.specs.Words.{putWord}
 use Rattle.design.proofs.Laws.{registers-count, states-count}
-use Rattle.calls.specs.Stages.{soundOn}
+use Rattle.running.specs.Stages.{soundOn}
 use Rattle.calls.proofs.CallRules.{right-lengths}
 use Rattle.journal_model.specs.Journals.{countLength, countIn, recounted, savedLength, savedOf}
 use Rattle.journal_model.specs.Calls.{LentJournal, leavesJournal, stepsAnswer, savedBack}

@@ -11,7 +11,7 @@ use Rattle.model.specs.Calls.{lengthAnswer, cyclesAnswer, areasOf, lentOf}
 use Rattle.journal_model.specs.Journals.{countIn, journalWith, recounted, savedIn, savedBefore}
 use Rattle.journal_model.specs.Calls.{LentJournal, LeftJournal, leavesJournal, roomAnswer, stepsAnswer, savedBack}
 use Rattle.design.specs.Resets.{lends}
-use Rattle.calls.specs.Stages.{soundOn}
+use Rattle.running.specs.Stages.{soundOn}
 
 abbrev pub lendsJournal : List ℕ → List ℕ → List ℕ → LentJournal
 lendsJournal registers targets journal = record { areas = lends registers targets; journal = journal }

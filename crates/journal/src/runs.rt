@@ -1,8 +1,6 @@
 // A journalled run on an image that keeps the rules: all that can be done once is done before the first
 // cycle.
 use calls::areas::areas_kept;
-use calls::runs::count_kept;
-use calls::soundness::judge;
 use design::Design;
 use design::reset::default_targets;
 use design::scopes::SCOPES;
@@ -11,6 +9,8 @@ use journal_saving::room::has_room;
 use journal_saving::saving::cycles;
 use model::Answer;
 use model::Refusal;
+use running::runs::count_kept;
+use running::soundness::judge;
 ghost use Prim.Native.Nat.{_*_, _≤_};
 ghost use mathlib.Core.Path.{_≡_};
 ghost use lib.ListN.{length};

@@ -1,6 +1,5 @@
 // A step back on an image that keeps the rules. Nothing is written before all is judged.
 use calls::areas::areas_kept;
-use calls::soundness::judge;
 use design::Design;
 use design::reset::default_targets;
 use design::words::put_word;
@@ -10,6 +9,7 @@ use journal_saving::room::saved_count;
 use journal_saving::room::saved_place;
 use model::Answer;
 use model::Refusal;
+use running::soundness::judge;
 ghost use Prim.Native.Nat.{_+_, _*_, _≤_};
 ghost use mathlib.Core.Path.{_≡_};
 ghost use lib.ListN.{length, drop};
@@ -18,7 +18,7 @@ ghost use Rattle.model.specs.Image.{designOf};
 ghost use Rattle.model.specs.Rules.{Keeps};
 ghost use Rattle.design.specs.Describes.{Describes};
 ghost use Rattle.design.specs.Words.{putWord};
-ghost use Rattle.calls.specs.Stages.{soundOn};
+ghost use Rattle.running.specs.Stages.{soundOn};
 ghost use Rattle.journal_model.specs.Journals.{countLength, savedLength, savedOf};
 ghost use Rattle.journal_saving.specs.Bytes.{partOf};
 ghost use Rattle.journal.specs.Returning.{Returning};

@@ -19,7 +19,7 @@ use Rattle.design.specs.Resets.{lends}
 use Rattle.design.proofs.Laws.{registers-count, states-count}
 use Rattle.machine.specs.Cycles.{Running, areasIn}
 use Rattle.machine.proofs.CycleRules.{RanSo, ran-begins, ran-fits, ran-more, ran-done}
-use Rattle.calls.proofs.CallRules.{bytes-left}
+use Rattle.running.proofs.RunningRules.{bytes-left}
 use Rattle.journal_model.specs.Journals.{countLength, countIn, savedLength, savedBytes, allSavedBytes, journalWith, savedIn, savedBefore}
 use Rattle.journal_model.specs.Rules.{RoomKeeps}
 use Rattle.journal_model.proofs.Laws.{saved-append, length-run-saved}

@@ -14,7 +14,7 @@ ghost use Prim.Native.Nat.{_<_};
 ghost use mathlib.Core.Path.{_≡_};
 ghost use lib.ListN.{length};
 ghost use Rattle.design.specs.Resets.{lends};
-ghost use Rattle.calls.specs.Stages.{leftAs};
+ghost use Rattle.running.specs.Stages.{leftAs};
 ghost use Rattle.replay_model.specs.Traces.{recordAt};
 ghost use Rattle.replay_model.specs.Calls.{replay as replayOf};
 ghost use Rattle.replay_steps.specs.Judging.{judgedTo};

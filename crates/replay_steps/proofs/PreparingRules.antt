@@ -31,8 +31,9 @@ use Rattle.design.proofs.Laws.{registers-count, registers-most}
 use Rattle.design.proofs.ShiftRules.{shifted-ones}
 use Rattle.design.proofs.WidthRules.{width-is}
 use Rattle.machine.specs.Cycles.{Running}
-use Rattle.calls.specs.Stages.{soundOn}
-use Rattle.calls.proofs.CallRules.{port-rule, sound-before}
+use Rattle.running.specs.Stages.{soundOn}
+use Rattle.running.proofs.RunningRules.{sound-before}
+use Rattle.calls.proofs.CallRules.{port-rule}
 use Rattle.replay_steps.specs.declared.preparing.Prepared.{Prepared}
 use Rattle.replay_steps.specs.Preparing.{largestOf, Largest, refusedWith, Preparing, PreparingOn}
 

@@ -15,7 +15,7 @@ use Rattle.model.proofs.Laws.Equivalences.{less-iff}
 use Rattle.model.proofs.Laws.Verdict.{first-accepts}
 use Rattle.design.specs.Resets.{lends}
 use Rattle.machine.specs.Cycles.{Running, areasIn}
-use Rattle.calls.specs.Stages.{leftAs}
+use Rattle.running.specs.Stages.{leftAs}
 use Rattle.calls.proofs.CallRules.{port-there}
 use Rattle.replay_model.specs.declared.TraceRecord.{TraceRecord}
 use Rattle.replay_model.specs.Traces.{recordAt, replayed, supersededIn}

@@ -20,8 +20,8 @@ use Rattle.design.specs.Resets.{lends}
 use Rattle.design.proofs.Laws.{registers-count}
 use Rattle.design.proofs.WordRules.{words-put, length-put}
 use Rattle.machine.specs.Cycles.{Running, areasIn}
-use Rattle.calls.specs.Stages.{leftAs}
-use Rattle.calls.proofs.CallRules.{bytes-left}
+use Rattle.running.specs.Stages.{leftAs}
+use Rattle.running.proofs.RunningRules.{bytes-left}
 use Rattle.replay_steps.specs.declared.preparing.Prepared.{Prepared}
 use Rattle.replay_steps.specs.declared.judging.Judging.{Judging}
 use Rattle.replay_steps.specs.Judging.{answerOf}

@@ -12,7 +12,7 @@ use Rattle.model.specs.Limits.{registersMax}
 use Rattle.model.specs.Image.{Design as Table, designOf, registerAt}
 use Rattle.model.specs.Verdict.{_before_}
 use Rattle.model.specs.Calls.{Lent, isWritable, lengthAnswer, cyclesAnswer, runAnswer}
-use Rattle.calls.specs.Stages.{soundOn}
+use Rattle.running.specs.Stages.{soundOn}
 use Rattle.machine.specs.Cycles.{Running}
 use Rattle.replay_steps.specs.declared.preparing.Prepared.{Prepared}
 

@@ -1,13 +1,13 @@
 // All that a replay judges before its trace, and the tables that it needs beside the image, made once.
 use calls::areas::areas_kept;
-use calls::runs::count_kept;
-use calls::soundness::judge;
 use design::Design;
 use design::reset::default_targets;
 use design::scopes::SCOPES;
 use design::scopes::scopes;
 use model::Answer;
 use model::Refusal;
+use running::runs::count_kept;
+use running::soundness::judge;
 ghost use Prim.Native.Nat.{_*_, _<_};
 ghost use mathlib.Core.Path.{_≡_};
 ghost use lib.ListN.{length};

@@ -12,7 +12,7 @@ ghost use Rattle.model.specs.Machine.{afterCycles};
 ghost use Rattle.model.specs.Calls.{leaves, areasOf, lentOf};
 ghost use Rattle.design.specs.Resets.{lends};
 ghost use Rattle.machine.specs.Cycles.{Running, areasIn};
-ghost use Rattle.calls.specs.Stages.{leftAs};
+ghost use Rattle.running.specs.Stages.{leftAs};
 ghost use Rattle.replay_steps.specs.Judging.{answerOf};
 ghost use Rattle.replay_steps.specs.Replaying.{stepped, Stepping, Finishing};
 

@@ -1,5 +1,6 @@
 use Rattle.design.proofs.Laws.{registers-most}
-use Rattle.calls.proofs.CallRules.{wrong-area, right-area, area-long, image-known, contents-refuse, contents-fit, write-refuses, write-refuses-contents}
+use Rattle.running.proofs.RunningRules.{image-known, contents-refuse, contents-fit}
+use Rattle.calls.proofs.CallRules.{wrong-area, right-area, area-long, write-refuses, write-refuses-contents}
 use borrow.Author.Needs.{needs}
 use Rattle.calls.proofs.ports.write_port.Statement.{statement}
 use Rattle.calls.proofs.ports.write_port.Tie as tie

@@ -1,5 +1,6 @@
 use Rattle.design.proofs.WidthRules.{width-narrow}
-use Rattle.calls.proofs.CallRules.{long-area, port-refuses, port-accepts, port-register, port-record, port-word, value-refuses, write-refuses-port, write-refuses-value, write-makes, are-bytes}
+use Rattle.running.proofs.RunningRules.{are-bytes}
+use Rattle.calls.proofs.CallRules.{long-area, port-refuses, port-accepts, port-register, port-record, port-word, value-refuses, write-refuses-port, write-refuses-value, write-makes}
 use borrow.Author.Needs.{needs}
 use Rattle.calls.proofs.ports.write_within.Statement.{statement}
 use Rattle.calls.proofs.ports.write_within.Tie as tie

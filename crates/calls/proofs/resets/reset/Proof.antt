@@ -1,6 +1,7 @@
 use Rattle.design.proofs.Laws.{registers-most}
 use Rattle.design.proofs.ResetRules.{states-few}
-use Rattle.calls.proofs.CallRules.{states-kept, registers-long, targets-long, wrong-lengths, right-lengths, reset-refuses, reset-makes}
+use Rattle.running.proofs.RunningRules.{states-kept}
+use Rattle.calls.proofs.CallRules.{registers-long, targets-long, wrong-lengths, right-lengths, reset-refuses, reset-makes}
 use borrow.Author.Needs.{needs}
 use Rattle.calls.proofs.resets.reset.Statement.{statement}
 use Rattle.calls.proofs.resets.reset.Tie as tie

@@ -1,5 +1,6 @@
 use Rattle.checker.proofs.Accepted.{accepted-scopes}
-use Rattle.calls.proofs.CallRules.{states-kept, fresh-room, scopes-fresh}
+use Rattle.running.proofs.RunningRules.{states-kept}
+use Rattle.calls.proofs.CallRules.{fresh-room, scopes-fresh}
 use borrow.Author.Needs.{needs}
 use Rattle.calls.proofs.runs.fill_scopes.Statement.{statement}
 use Rattle.calls.proofs.runs.fill_scopes.Tie as tie

@@ -1,4 +1,5 @@
-use Rattle.calls.proofs.CallRules.{right-lengths, sound-running, run-refuses-unsound, run-passes}
+use Rattle.running.proofs.RunningRules.{sound-running}
+use Rattle.calls.proofs.CallRules.{right-lengths, run-refuses-unsound, run-passes}
 use borrow.Author.Needs.{needs}
 use Rattle.calls.proofs.runs.run_on.Statement.{statement}
 use Rattle.calls.proofs.runs.run_on.Tie as tie

@@ -1,5 +1,5 @@
 use Rattle.design.proofs.ResetRules.{states-few, fresh-defaults}
-use Rattle.calls.proofs.CallRules.{states-kept}
+use Rattle.running.proofs.RunningRules.{states-kept}
 use borrow.Author.Needs.{needs}
 use Rattle.calls.proofs.runs.with_tables.Statement.{statement}
 use Rattle.calls.proofs.runs.with_tables.Tie as tie

@@ -1,7 +1,7 @@
 use Rattle.model.specs.Image.{AreBytes}
 use Rattle.design.proofs.Laws.{registers-most}
 use Rattle.design.proofs.ResetRules.{states-few}
-use Rattle.calls.proofs.CallRules.{are-bytes}
+use Rattle.running.proofs.RunningRules.{are-bytes}
 use Rattle.journal.proofs.StageRules.{room-kept, room-refuses, run-makes}
 use borrow.Author.Needs.{needs}
 use Rattle.journal.proofs.runs.run_counted.Statement.{statement}

@@ -1,4 +1,5 @@
-use Rattle.calls.proofs.CallRules.{right-lengths, sound-running}
+use Rattle.running.proofs.RunningRules.{sound-running}
+use Rattle.calls.proofs.CallRules.{right-lengths}
 use Rattle.journal.proofs.StageRules.{run-refuses-unsound, run-passes}
 use borrow.Author.Needs.{needs}
 use Rattle.journal.proofs.runs.run_on.Statement.{statement}

@@ -1,6 +1,7 @@
 use Rattle.design.proofs.ResetRules.{states-few, fresh-defaults}
 use Rattle.checker.proofs.Accepted.{accepted-scopes}
-use Rattle.calls.proofs.CallRules.{states-kept, scopes-room}
+use Rattle.running.proofs.RunningRules.{states-kept}
+use Rattle.calls.proofs.CallRules.{scopes-room}
 use borrow.Author.Needs.{needs}
 use Rattle.journal.proofs.runs.with_tables.Statement.{statement}
 use Rattle.journal.proofs.runs.with_tables.Tie as tie

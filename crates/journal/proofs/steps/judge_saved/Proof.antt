@@ -1,5 +1,6 @@
 use Rattle.design.proofs.ResetRules.{states-few, fresh-defaults}
-use Rattle.calls.proofs.CallRules.{states-kept, area-fits, targets-fit}
+use Rattle.running.proofs.RunningRules.{states-kept}
+use Rattle.calls.proofs.CallRules.{area-fits, targets-fit}
 use Rattle.journal.proofs.StepRules.{saved-end, saved-middle, middle-fits, end-fits, saved-registers-long, saved-targets-long, judged-saved}
 use borrow.Author.Needs.{needs}
 use Rattle.journal.proofs.steps.judge_saved.Statement.{statement}

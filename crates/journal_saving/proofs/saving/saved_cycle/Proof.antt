@@ -1,5 +1,5 @@
 use Rattle.model.specs.Image.{AreBytes}
-use Rattle.calls.proofs.CallRules.{are-bytes}
+use Rattle.running.proofs.RunningRules.{are-bytes}
 use Rattle.journal_saving.proofs.SavingRules.{state-room, cycle-saved}
 use borrow.Author.Needs.{needs}
 use Rattle.journal_saving.proofs.saving.saved_cycle.Statement.{statement}

@@ -46,7 +46,7 @@ use Rattle.model.specs.declared.Answer.{Answer}
 use Rattle.model.proofs.Answer as An
 use Rattle.model.proofs.Answer.Laws as An′
 use Rattle.design.specs.Resets.{lends}
-use Rattle.calls.specs.Stages.{leftAs}
+use Rattle.running.specs.Stages.{leftAs}
 use Rattle.replay_model.specs.declared.TraceRecord.{TraceRecord}
 use Rattle.replay_model.specs.Calls.{replay as replayOf}
 use Rattle.replay_model.proofs.TraceRecord as T

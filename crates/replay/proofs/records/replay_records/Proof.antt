@@ -51,7 +51,7 @@ use Rattle.model.specs.declared.Answer.{Answer}
 use Rattle.model.proofs.Answer as Ans
 use Rattle.model.proofs.Answer.Laws as Ans′
 use Rattle.design.specs.Resets.{lends}
-use Rattle.calls.specs.Stages.{leftAs}
+use Rattle.running.specs.Stages.{leftAs}
 use Rattle.replay_model.specs.declared.TraceRecord.{TraceRecord}
 use Rattle.replay_model.specs.Traces.{recordAt}
 use Rattle.replay_model.specs.Calls.{replay as replayOf}

@@ -1,6 +1,6 @@
 use Rattle.design.proofs.ShiftRules.{width-some}
 use Rattle.design.proofs.WidthRules.{width-narrow}
-use Rattle.calls.proofs.CallRules.{image-known}
+use Rattle.running.proofs.RunningRules.{image-known}
 use Rattle.replay_steps.proofs.PreparingRules.{width-shifts, largest-fits, largest-none, largest-rule}
 use borrow.Author.Needs.{needs}
 use Rattle.replay_steps.proofs.preparing.largest_value.Statement.{statement}

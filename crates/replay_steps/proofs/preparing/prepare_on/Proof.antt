@@ -1,6 +1,7 @@
 use Rattle.design.proofs.ResetRules.{states-few, fresh-defaults}
 use Rattle.checker.proofs.Accepted.{accepted-scopes}
-use Rattle.calls.proofs.CallRules.{states-kept, scopes-room, right-lengths, sound-running}
+use Rattle.running.proofs.RunningRules.{states-kept, sound-running}
+use Rattle.calls.proofs.CallRules.{scopes-room, right-lengths}
 use Rattle.replay_steps.proofs.PreparingRules.{largest-fresh, unsound-refused, count-refused, all-prepared}
 use borrow.Author.Needs.{needs}
 use Rattle.replay_steps.proofs.preparing.prepare_on.Statement.{statement}

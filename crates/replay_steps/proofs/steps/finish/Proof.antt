@@ -1,5 +1,5 @@
 use Rattle.model.specs.Image.{AreBytes}
-use Rattle.calls.proofs.CallRules.{are-bytes}
+use Rattle.running.proofs.RunningRules.{are-bytes}
 use Rattle.replay_steps.proofs.StepRules.{finish-laws}
 use borrow.Author.Needs.{needs}
 use Rattle.replay_steps.proofs.steps.finish.Statement.{statement}

@@ -42,7 +42,7 @@ use Rattle.model.specs.Machine.{afterCycles}
 use Rattle.model.specs.Calls.{leaves, areasOf, lentOf}
 use Rattle.model.proofs.Answer as Ans
 use Rattle.design.specs.Resets.{lends}
-use Rattle.calls.specs.Stages.{leftAs}
+use Rattle.running.specs.Stages.{leftAs}
 use Rattle.machine.specs.Cycles.{Running, areasIn}
 use Rattle.replay_model.specs.declared.TraceRecord.{TraceRecord}
 use Rattle.replay_model.specs.Traces.{recordAt}

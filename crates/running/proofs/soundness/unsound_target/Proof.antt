@@ -1,9 +1,9 @@
 use mathlib.Core.Path.{sym}
 use lib.Seq.{length-take-le}
-use Rattle.calls.proofs.CallRules.{front-inside, front-unsound}
+use Rattle.running.proofs.RunningRules.{front-inside, front-unsound}
 use borrow.Author.Needs.{needs}
-use Rattle.calls.proofs.soundness.unsound_target.Statement.{statement}
-use Rattle.calls.proofs.soundness.unsound_target.Tie as tie
+use Rattle.running.proofs.soundness.unsound_target.Statement.{statement}
+use Rattle.running.proofs.soundness.unsound_target.Tie as tie
 
 slice-aggregate-unsound : tie.Need-slice-aggregate-unsound
 slice-aggregate-unsound c = sym (length-take-le _ _ (search (front-inside, needs)))

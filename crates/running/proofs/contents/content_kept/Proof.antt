@@ -1,9 +1,9 @@
 use Rattle.design.proofs.Laws.{register-inside}
 use Rattle.design.proofs.WidthRules.{width-narrow}
-use Rattle.calls.proofs.CallRules.{word-inside, content-rule}
+use Rattle.running.proofs.RunningRules.{word-inside, content-rule}
 use borrow.Author.Needs.{needs}
-use Rattle.calls.proofs.contents.content_kept.Statement.{statement}
-use Rattle.calls.proofs.contents.content_kept.Tie as tie
+use Rattle.running.proofs.contents.content_kept.Statement.{statement}
+use Rattle.running.proofs.contents.content_kept.Tie as tie
 
 register-width-requires : tie.Need-register-width-requires
 register-width-requires c κs = search (register-inside, needs)

@@ -4,8 +4,8 @@ use Rattle.model.specs.Calls.{contentKept}
 use Rattle.model.specs.Image.{designOf}
 use Prim.Native.Nat.{_-_}
 use borrow.Author.Needs.{needs}
-use Rattle.calls.proofs.contents.too_large.Statement.{statement}
-use Rattle.calls.proofs.contents.too_large.Tie as tie
+use Rattle.running.proofs.contents.too_large.Statement.{statement}
+use Rattle.running.proofs.contents.too_large.Tie as tie
 
 abbrev Inv-loop : tie.InvT-loop
 Inv-loop image design registers r₀ r = Passed (contentKept (designOf image) registers) r

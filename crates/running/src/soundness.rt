@@ -18,7 +18,7 @@ ghost use Rattle.model.specs.Calls.{targetsIn};
 ghost use Rattle.design.specs.Describes.{Describes};
 ghost use Rattle.design.specs.Kept.{StatesKept};
 ghost use Rattle.design.specs.Resets.{Defaults, lends};
-ghost use Rattle.calls.specs.Stages.{soundOn};
+ghost use Rattle.running.specs.Stages.{soundOn};
 
 // The lowest state whose target is not sound. The targets stand in front in their area.
 fn unsound_target(image: &[u8], design: Design, defaults: &[u8], area: &[u8]) -> Found

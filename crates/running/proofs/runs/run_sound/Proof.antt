@@ -1,8 +1,8 @@
 use Rattle.model.specs.Image.{AreBytes}
-use Rattle.calls.proofs.CallRules.{count-refuses, run-makes, are-bytes, bytes-left}
+use Rattle.running.proofs.RunningRules.{count-refuses, run-makes, are-bytes, bytes-left}
 use borrow.Author.Needs.{needs}
-use Rattle.calls.proofs.runs.run_sound.Statement.{statement}
-use Rattle.calls.proofs.runs.run_sound.Tie as tie
+use Rattle.running.proofs.runs.run_sound.Statement.{statement}
+use Rattle.running.proofs.runs.run_sound.Tie as tie
 
 count-kept-requires : tie.Need-count-kept-requires
 count-kept-requires c κs = search needs

@@ -1,8 +1,8 @@
 use Rattle.checker.proofs.Accepted.{accepted-parameters}
-use Rattle.calls.proofs.CallRules.{states-kept, image-known, contents-refuse, contents-fit, targets-sound, sound-refuses-contents, sound-refuses-target, sound-refuses-binding, sound-accepts}
+use Rattle.running.proofs.RunningRules.{states-kept, image-known, contents-refuse, contents-fit, targets-sound, sound-refuses-contents, sound-refuses-target, sound-refuses-binding, sound-accepts}
 use borrow.Author.Needs.{needs}
-use Rattle.calls.proofs.soundness.judge.Statement.{statement}
-use Rattle.calls.proofs.soundness.judge.Tie as tie
+use Rattle.running.proofs.soundness.judge.Statement.{statement}
+use Rattle.running.proofs.soundness.judge.Tie as tie
 
 too-large-requires : tie.Need-too-large-requires
 too-large-requires c κs = (search (image-known, needs), search needs)

@@ -1,0 +1,2 @@
+-- Laws of what is judged of areas and of what a run leaves.
+pub mod RunningRules
