@@ -14,13 +14,13 @@ use caisson_tests::compare::replays;
 use std::process::ExitCode;
 
 /// How many seeds a comparison takes: with these it meets all that it has to.
-const CHECKS: u64 = 100;
-const LISTS: u64 = 100;
-const REPLAYS: u64 = 100;
-const RAISINGS: u64 = 100;
-const PRUNINGS: u64 = 100;
-const FILINGS: u64 = 100;
-const GATES: u64 = 100;
+const CHECKS: u64 = 1_500;
+const LISTS: u64 = 3_000;
+const REPLAYS: u64 = 2_500;
+const RAISINGS: u64 = 1_000;
+const PRUNINGS: u64 = 200;
+const FILINGS: u64 = 80;
+const GATES: u64 = 20_000;
 
 fn main() -> ExitCode {
     let arguments = Arguments::read();

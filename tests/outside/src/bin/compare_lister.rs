@@ -5,7 +5,7 @@ use caisson_tests::compare::listings::{listings_of_examples, listings_of_seed};
 use std::process::ExitCode;
 
 /// How many seeds it takes.
-const LISTINGS: u64 = 100;
+const LISTINGS: u64 = 1_000;
 
 fn main() -> ExitCode {
     let arguments = Arguments::read();

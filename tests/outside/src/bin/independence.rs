@@ -13,10 +13,10 @@ use std::ops::Range;
 use std::process::ExitCode;
 
 /// How many seeds each part takes: with these it meets all that it has to.
-const LISTS: u64 = 100;
-const EDITS: u64 = 100;
-const REPLAYS: u64 = 100;
-const GATES: u64 = 100;
+const LISTS: u64 = 2_500;
+const EDITS: u64 = 1_200;
+const REPLAYS: u64 = 2_000;
+const GATES: u64 = 15_000;
 
 fn main() -> ExitCode {
     match compare(&Arguments::read()) {
