@@ -71,13 +71,13 @@ target/soak/leaky_back: tests/soak/testdata/leaky_back.c target/soak/soak
 target/soak/leaky_replay: tests/soak/testdata/leaky_replay.c target/soak/soak
 	$(soak_build) -Wl,--wrap=caisson_replay $< $(soak_sources) $(library) -o $@
 
-# The library for a host; only what has changed is proved again.
+# The library for a host; only what has changed is proved again, and an interrupted run goes on where it was.
 library:
-	rt staticlib caisson >/dev/null
+	scripts/library
 
-# The cycle lister, target/bin/lister; only what has changed is proved again.
+# The cycle lister, target/bin/lister; likewise.
 lister:
-	rt check lister >/dev/null
+	scripts/prove lister
 
 include install.mk
 
