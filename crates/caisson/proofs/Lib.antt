@@ -17,3 +17,4 @@ pub mod PrunePromises
 pub mod FileAnswered
 pub mod FileContracts
 pub mod FilePromises
+pub mod Versions

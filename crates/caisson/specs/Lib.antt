@@ -3,3 +3,4 @@ pub mod Told
 pub mod ToldGates
 pub mod ToldJournal
 pub mod ToldFiling
+pub mod Versions

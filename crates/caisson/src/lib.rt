@@ -19,6 +19,7 @@ ghost use Rattle.caisson.specs.Told.{told, toldLeft, inNumbers, toldLeft
 ghost use Rattle.caisson.specs.ToldFiling.{toldWhich, partOf};
 ghost use Rattle.caisson.specs.ToldGates.{toldLeftFlipFlops, flipFlopsInNumbers};
 ghost use Rattle.caisson.specs.ToldJournal.{toldLeftJournal, journalInNumbers};
+ghost use Rattle.caisson.specs.Versions.{libraryVersion, imageFormat};
 
 // An answer as the host is given it: caisson_answer in the header.
 #[repr(C)]
@@ -44,6 +45,22 @@ fn in_numbers(answer: Answer) -> HostAnswer
             count: 0,
         },
     }
+}
+
+// The version of the library: 3005000 is 3.5.0.
+#[no_mangle]
+pub extern "C" fn caisson_version() -> u32
+    ensures { λ r. ⌜ r ≡ libraryVersion ⌝ }
+{
+    3005000
+}
+
+// The format of the images that it takes.
+#[no_mangle]
+pub extern "C" fn caisson_format() -> u32
+    ensures { λ r. ⌜ r ≡ imageFormat ⌝ }
+{
+    3
 }
 
 // The verdict on an image.
