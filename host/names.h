@@ -13,7 +13,7 @@
 #include "design.h"
 #include "status.h"
 
-#define NAMES_LARGEST_FILE 65536u /* bytes */
+#define NAMES_LARGEST_FILE 1048576u /* bytes, as docs/FORMAT.md has it */
 
 struct names {
     char *text; /* of the file, which the names below lie in; NULL: there are no names */
@@ -26,7 +26,7 @@ struct names {
 /*
  * Reads the file beside a table, if there is one. The design must have been accepted, or refused by another rule
  * than 1: its directory is then sound. STATUS_INPUT, with a message that names file and line, where the file cannot
- * be read, is none of names, or is not of this table. In either case names_free is to be called.
+ * be read, is none of names, is not of this table, or was changed. In either case names_free is to be called.
  */
 CAISSON_LOOK_AT_ANSWER
 enum status names_load(struct names *names, const char *table, const struct design *design);

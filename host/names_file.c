@@ -1,7 +1,8 @@
 /*
  * names_file.c: a names file, read and judged line by line. The first line has the version, the checksum of the table
  * and the counts, the second the name of the text; then there is a line for each label, register and state, with its
- * number, name and line in the text, and for each parameter, with its state.
+ * number, name and line in the text, and for each parameter, with its state. The last line has the checksum of all
+ * lines above it.
  */
 #include <errno.h>
 #include <stdarg.h>
@@ -21,6 +22,7 @@ struct reader {
     char *at;
     char *end;
     size_t line;
+    char sum[SHA256_DIGITS + 1u]; /* of all that stands above the last line, before a line was looked at */
 };
 
 #if defined(__GNUC__) || defined(__clang__)
@@ -100,8 +102,11 @@ static bool first_line(struct reader *reader, const struct design *design)
 
     if (at == NULL || !word_take(&at, "caisson") || !word_take(&at, "names") || !number_take(&at, &version))
         return wrong(reader, "is no names file: it does not begin with `caisson names`");
-    if (version != 1)
-        return wrong(reader, "is a names file of version %llu; only 1 is known", (unsigned long long)version);
+    if (version == 1)
+        return wrong(reader, "is a names file of version 1, which has no sum of itself; assemble it again or remove "
+                             "the names file");
+    if (version != 2)
+        return wrong(reader, "is a names file of version %llu; only 2 is known", (unsigned long long)version);
     if (!word_take(&at, "sha256") || strspn(at, "0123456789abcdef") != SHA256_DIGITS)
         return wrong(reader, "is no names file: the first line has no checksum");
     sha256_digits(design->image, design->length, sum);
@@ -186,6 +191,20 @@ static bool parameter_lines(struct reader *reader, struct names *names, const ui
     return true;
 }
 
+/* Two names that were exchanged are still names of the table: nothing but this line tells. */
+static bool sum_line(struct reader *reader)
+{
+    char *at = line_next(reader);
+
+    if (at == NULL)
+        return wrong(reader, "the file ends where `sum SHA256` is expected");
+    if (!word_take(&at, "sum") || strspn(at, "0123456789abcdef") != SHA256_DIGITS || at[SHA256_DIGITS] != '\0')
+        return wrong(reader, "`sum SHA256` is expected here, not `%.100s`", at);
+    return strcmp(at, reader->sum) == 0 ||
+           wrong(reader, "the sum is not that of the lines above: the names file was changed; assemble it again or "
+                         "remove the names file");
+}
+
 static bool lines_read(struct reader *reader, struct names *names, const struct design *design)
 {
     const uint8_t *image = design->image;
@@ -193,10 +212,23 @@ static bool lines_read(struct reader *reader, struct names *names, const struct 
     if (!first_line(reader, design) || !source_line(reader) ||
         !kind_lines(reader, "label", names->labels, table_labels(image)) ||
         !kind_lines(reader, "register", names->registers, table_registers(image)) ||
-        !kind_lines(reader, "state", names->states, table_states(image)) || !parameter_lines(reader, names, image))
+        !kind_lines(reader, "state", names->states, table_states(image)) || !parameter_lines(reader, names, image) ||
+        !sum_line(reader))
         return false;
     reader->line++;
     return reader->at == reader->end || wrong(reader, "a line too many");
+}
+
+/* The checksum of what stands above the last line. */
+static void lines_sum(struct reader *reader)
+{
+    const char *last = reader->end;
+
+    if (last > reader->at)
+        last--;
+    while (last > reader->at && last[-1] != '\n')
+        last--;
+    sha256_digits((const uint8_t *)reader->at, (size_t)(last - reader->at), reader->sum);
 }
 
 /* The whole file in memory; false, with a message, where that fails. */
@@ -221,6 +253,7 @@ static bool file_read(struct reader *reader, struct names *names, FILE *file)
     }
     reader->at = names->text;
     reader->end = names->text + length;
+    lines_sum(reader);
     return true;
 }
 

@@ -42,6 +42,7 @@ runs_by_name() {
             # Numbers are taken all the same.
             records $design.expected "$names/$design.table" $numbers/two_groups.trace $way --party south:0 \
                 --party north:high
+            records $design.expected "$names/$design.table" two_groups.trace $way --party south:low --party north:1
         done
     done
     session two_groups_console.expected two_groups.console "$names/two_groups.table" two_groups.trace --cycles 0 \
@@ -73,7 +74,8 @@ names a register that does not exist or that is inner."
     # A name comes first, also one that looks as a number does elsewhere.
     cp $designs/lease.table "$names/exchanged.table"
     testdata/names ../designs/lease.caisson "$names/exchanged.table" |
-        sed 's/register 0 timer/register 0 r1/; s/register 1 wish/register 1 r0/' >"$names/exchanged.table.names"
+        sed 's/register 0 timer/register 0 r1/; s/register 1 wish/register 1 r0/' |
+        testdata/summed >"$names/exchanged.table.names"
     printf 'write r0 5\nshow\n' >"$made/commands"
     "${under[@]}" $host "$names/exchanged.table" --console --party a:high <"$made/commands" >"$made/out" 2>&1 ||
         fail "exchanged names: $(cat "$made/out")"
@@ -128,7 +130,7 @@ wrong_names() {
     says 1 'leak.table: refused by rule 10 at command 1: ' "$names/leak.table" lease.trace
 }
 
-# An edit of the names file of two_groups_shared, whose first 16 lines are those of the design: what is said of it.
+# An edit of the names file of two_groups_shared, whose line 17 has the sum of those before it: what is said of it.
 bad_names() {
     local line=$1 words=$2 file=$names/edited.table
     shift 2
@@ -137,13 +139,32 @@ bad_names() {
     says 2 "$file.names:$line: $words" "$file" lease.trace --fast
 }
 
+# The largest file that there may be, by the length of a name, is read.
+large_names() {
+    local more file=$names/large.table
+    more=$((1048576 - $(stat -c %s "$names/two_groups.table.names")))
+    cp ../designs/two_groups.table "$file"
+    # The name is too long for an argument.
+    {
+        sed '/^register 2 /,$d' "$names/two_groups.table.names"
+        printf 'register 2 reading'
+        head -c $more /dev/zero | tr '\0' _
+        sed -n 's/^register 2 reading//; T; :rest; p; n; b rest' "$names/two_groups.table.names"
+    } | testdata/summed >"$file.names"
+    [ "$(stat -c %s "$file.names")" = 1048576 ] || fail "not the largest names file"
+    grep 'party south' two_groups.expected >"$made/expected"
+    records "$made/expected" "$file" $numbers/two_groups.trace --fast --party south:low
+}
+
 wrong_names_files() {
     local other='is not of this table: it was made for another, or the table was changed; assemble it again or remove '
+    local changed='the sum is not that of the lines above: the names file was changed; assemble it again or remove the '
     bad_names 1 'is no names file: it does not begin with `caisson names`' 's/caisson/Caisson/'
     bad_names 1 'is no names file: it does not begin with `caisson names`' d
-    bad_names 1 'is no names file: it does not begin with `caisson names`' 's/names 1 /names  1 /'
-    bad_names 1 'is no names file: it does not begin with `caisson names`' '1s/ 1 / one /'
-    bad_names 1 'is a names file of version 2; only 1 is known' '1s/ 1 / 2 /'
+    bad_names 1 'is no names file: it does not begin with `caisson names`' 's/names 2 /names  2 /'
+    bad_names 1 'is no names file: it does not begin with `caisson names`' '1s/ 2 / two /'
+    bad_names 1 'is a names file of version 1, which has no sum of itself; assemble it again' '1s/ 2 / 1 /'
+    bad_names 1 'is a names file of version 3; only 2 is known' '1s/ 2 / 3 /'
     bad_names 1 'is no names file: the first line has no checksum' '1s/sha256/sha512/'
     bad_names 1 'is no names file: the first line has no checksum' '1s/sha256 ./sha256 /'
     bad_names 1 'is no names file: the first line has no checksum' '1s/sha256 \(.*\) labels/sha256 \U\1\E labels/'
@@ -170,18 +191,31 @@ wrong_names_files() {
     bad_names 5 'a name and the line of its declaration are expected behind `register 0`' '5s/13/13 /'
     bad_names 5 'a name and the line of its declaration are expected behind `register 0`' '5s/$/\r/'
     bad_names 13 'the state name choose stands here a second time' '13s/group/choose/'
-    bad_names 16 'the file ends where `parameter 2 0` is expected' 16d
+    bad_names 16 '`parameter 2 0` is expected here, in the order of the numbers, not `sum ' 16d
+    bad_names 16 'the file ends where `parameter 2 0` is expected' '16,$d'
     bad_names 16 '`parameter 2 0` is expected here' '16s/ 0 / 1 /'
-    bad_names 17 'a line too many' '16s/$/\nparameter 2 1 more 25/'
-    bad_names 17 'a line too many' '16s/$/\n/'
+    bad_names 17 '`sum SHA256` is expected here, not `parameter 2 1 more 25`' '16s/$/\nparameter 2 1 more 25/'
+    bad_names 17 '`sum SHA256` is expected here, not ``' '16s/$/\n/'
+    bad_names 17 'the file ends where `sum SHA256` is expected' 17d
+    bad_names 17 '`sum SHA256` is expected here' '17s/.$//'
+    bad_names 17 '`sum SHA256` is expected here' '17s/$/ /'
+    # A line below the sum is above none, so that the sum is judged as that of other lines.
+    bad_names 17 "$changed" '17s/$/\nparameter 2 1 more 25/'
+    bad_names 17 "$changed" '17s/$/\n/'
+    # What no other line tells: two names exchanged, another line of the text.
+    bad_names 17 "$changed" '3s/low/high/; 4s/high/low/'
+    bad_names 17 "$changed" '7s/reading/switch/; 8s/switch/reading/'
+    bad_names 17 "$changed" '5s/13/14/'
+    bad_names 17 "$changed" '2s/shared/edited/'
     # A last line without its line feed was cut; a NUL would hide the rest of a line.
     cp "$names/two_groups_shared.table" "$names/edited.table"
     head -c -1 "$names/two_groups_shared.table.names" >"$names/edited.table.names"
-    says 2 'edited.table.names:16: the file ends where `parameter 2 0` is expected' "$names/edited.table" lease.trace
+    says 2 'edited.table.names:17: the file ends where `sum SHA256` is expected' "$names/edited.table" lease.trace
     sed '5s/timer/ti\x00mer/' "$names/two_groups_shared.table.names" >"$names/edited.table.names"
     says 2 'edited.table.names:5: the file ends where `register 0` is expected' "$names/edited.table" lease.trace
-    truncate -s 65537 "$names/edited.table.names"
-    says 2 'edited.table.names: is larger than 65536 bytes, which no names file is' "$names/edited.table" lease.trace
+    truncate -s 1048577 "$names/edited.table.names"
+    says 2 'edited.table.names: is larger than 1048576 bytes, which no names file is' "$names/edited.table" lease.trace
+    large_names
     rm "$names/edited.table.names"
     mkdir "$names/edited.table.names"
     says 2 'edited.table.names: cannot be read: Is a directory' "$names/edited.table" lease.trace

@@ -100,7 +100,8 @@ long_lines() {
     local long
     printf -v long '%025000d' 0
     cp ../designs/two_groups.table "$names/long.table"
-    sed -E "s/^register 2 reading/&${long//0/_}/" "$names/two_groups.table.names" >"$names/long.table.names"
+    sed -E "s/^register 2 reading/&${long//0/_}/" "$names/two_groups.table.names" |
+        testdata/summed >"$names/long.table.names"
 }
 
 # Starts a box that runs on, with a record for the south and one for the north, and more options. It must not have the

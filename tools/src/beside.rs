@@ -1,7 +1,7 @@
 //! The names file beside a table: read with it, written with it, and removed where it would not fit.
 
 use crate::files::{is_other, load_design, replace, same_file, Prepared};
-use caisson_tools::names_file::{NamesFile, Shape, ENDING, FIRST};
+use caisson_tools::names_file::{NamesFile, Shape, ENDING, FIRST, LARGEST};
 use std::fs::File;
 use std::io::{ErrorKind, Read};
 use std::path::PathBuf;
@@ -19,13 +19,21 @@ pub fn load_names(table: &str, image: &[u8]) -> Result<Option<NamesFile>, String
 /// Of a table of an old format, by its records as they are in today's.
 pub fn load_names_as(table: &str, old: &[u8], today: &[u8]) -> Result<Option<NamesFile>, String> {
     let path = names_path(table);
-    let file = match fs::read(&path) {
+    let file = match read_names(&path) {
         Ok(file) => file,
         Err(error) if is_none(error.kind()) => return Ok(None),
         Err(error) => return Err(format!("{path}: {error}")),
     };
     let names = NamesFile::read(&file, old, Shape::of(today).as_ref());
     names.map_err(|wrong| format!("{path}:{wrong}"))
+}
+
+/// One byte more than the largest has, at most: enough to refuse a larger one.
+fn read_names(path: &str) -> io::Result<Vec<u8>> {
+    let mut file = Vec::new();
+    let most = LARGEST as u64 + 1;
+    File::open(path)?.take(most).read_to_end(&mut file)?;
+    Ok(file)
 }
 
 /// A name that is too long is that of no file.
@@ -69,6 +77,13 @@ pub fn write_both(to: &str, image: &[u8], names: Option<&str>) -> Result<String,
     }
     let beside = names_path(to);
     let there = is_there(&beside)?;
+    if let Some(names) = names.filter(|names| names.len() > LARGEST) {
+        let length = names.len();
+        return Err(format!(
+            "{beside}: would have {length} bytes, and a names file has at most {LARGEST}: \
+             shorter names are needed"
+        ));
+    }
     let table = Prepared::new(to, image).map_err(fault)?;
     let change = match Change::begin(&beside, names, there) {
         Ok(change) => change,

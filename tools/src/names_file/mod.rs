@@ -7,6 +7,7 @@ mod write;
 
 pub use read::Wrong;
 pub use shape::Shape;
+pub use write::summed;
 
 use crate::gates;
 use crate::text::faults::Faults;
@@ -19,6 +20,12 @@ pub const ENDING: &str = ".names";
 
 /// What every names file begins with.
 pub const FIRST: &str = "caisson names ";
+
+/// The version of its form.
+const VERSION: &str = "2";
+
+/// Bytes of the largest one that is written or read; the host has the same limit.
+pub const LARGEST: usize = 1 << 20;
 
 #[derive(Clone, Copy, Debug, PartialEq, Eq)]
 pub enum Family {

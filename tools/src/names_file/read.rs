@@ -1,14 +1,20 @@
 //! A names file from its text, for one table: what is wrong in it, and in which line.
 
-use super::{is_source, Entry, Family, NamesFile, Shape, FIRST};
+use super::{is_source, Entry, Family, NamesFile, Shape, FIRST, LARGEST, VERSION};
 use crate::sha256;
 use std::collections::HashMap;
 use std::fmt;
 
-const VERSION: &str = "1";
-
 const OTHER_TABLE: &str =
     "is not of this table: it was made for another, or the table was changed; \
+    assemble it again or remove the names file";
+
+const CHANGED: &str =
+    "the sum is not that of the lines above: the names file was changed; assemble it again \
+    or remove the names file";
+
+/// The first version of the form had no sum of the file itself.
+const NO_SUM: &str = "is a names file of version 1, which has no sum of itself; \
     assemble it again or remove the names file";
 
 /// What is wrong in a names file, with the line, from 1.
@@ -41,6 +47,7 @@ impl NamesFile {
         let source = reader.source()?;
         let kinds = reader.kinds(shape)?;
         let parameters = reader.parameters(shape, &kinds)?;
+        reader.sum(file)?;
         reader.end()?;
         Ok(Some(NamesFile {
             family: shape.family,
@@ -60,6 +67,10 @@ struct Reader<'a> {
 impl<'a> Reader<'a> {
     fn new(file: &'a [u8]) -> Result<Reader<'a>, Wrong> {
         let line = |end: usize| 1 + file[..end].iter().filter(|&&byte| byte == b'\n').count();
+        if file.len() > LARGEST {
+            let why = format!("is larger than {LARGEST} bytes, which no names file is");
+            return Err(Wrong { line: 1, why });
+        }
         match std::str::from_utf8(file) {
             Ok(rest) => Ok(Reader { rest, line: 0 }),
             Err(error) => Err(Wrong {
@@ -113,6 +124,7 @@ impl<'a> Reader<'a> {
                 true => Ok(counts),
                 false => self.wrong(OTHER_TABLE),
             },
+            ["1", ..] => self.wrong(NO_SUM),
             [version, ..] if version != VERSION && number(version).is_some() => {
                 self.wrong(format!(
                     "is a names file of version {version}, and the tool reads version {VERSION}"
@@ -199,6 +211,18 @@ impl<'a> Reader<'a> {
             }
         }
         Ok(parameters)
+    }
+
+    /// Of all that stands above its line.
+    fn sum(&mut self, file: &[u8]) -> Result<(), Wrong> {
+        let above = file.len() - self.rest.len();
+        let form = "sum SHA256";
+        let line = self.next(form)?;
+        match line.strip_prefix("sum ") {
+            Some(sum) if sum == sha256::digits(&file[..above]) => Ok(()),
+            Some(sum) if is_sum(sum) => self.wrong(CHANGED),
+            _ => self.unexpected(form, line),
+        }
     }
 
     fn taken<T>(&self, name: &str, other: &str) -> Result<T, Wrong> {

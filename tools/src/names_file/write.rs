@@ -1,6 +1,6 @@
 //! A names file as text.
 
-use super::{NamesFile, FIRST};
+use super::{NamesFile, FIRST, VERSION};
 use crate::sha256;
 
 impl NamesFile {
@@ -11,7 +11,7 @@ impl NamesFile {
             .map(|(kind, count)| format!("{kind}s {count}"))
             .collect();
         let (sum, counted) = (sha256::digits(image), counted.join(" "));
-        let mut text = format!("{FIRST}1 sha256 {sum} {counted}\n");
+        let mut text = format!("{FIRST}{VERSION} sha256 {sum} {counted}\n");
         text += &format!("source {}\n", self.source);
         let firsts = self.family.first_numbers(counts);
         let kinds = self.family.kinds().into_iter().zip(firsts);
@@ -26,6 +26,12 @@ impl NamesFile {
                 text += &format!("parameter {state} {index} {} {}\n", entry.name, entry.line);
             }
         }
-        text
+        summed(text)
     }
+}
+
+/// The lines of a names file with the last one behind them, which has the sum of all bytes before it.
+pub fn summed(lines: String) -> String {
+    let sum = sha256::digits(lines.as_bytes());
+    format!("{lines}sum {sum}\n")
 }

@@ -2,7 +2,7 @@
 
 use crate::common::{bytes, text};
 use caisson_tools::assemble;
-use caisson_tools::names_file::{NamesFile, Shape};
+use caisson_tools::names_file::{summed, NamesFile, Shape, LARGEST};
 
 pub const OTHER: &str =
     "1: is not of this table: it was made for another, or the table was changed; \
@@ -21,7 +21,7 @@ const SOURCE: &str = "label low -> high\nlabel high\nregister timer : low = 0\n\
                       state rest in group : low { goto sub(a) }\n\
                       state sub(b : low..high) in group : low { goto rest }\n";
 
-/// The lines of its names file behind the first.
+/// The lines of its names file between the first and the last.
 const LINES: &str = "source two.caisson\nlabel 0 low 1\nlabel 1 high 2\nregister 0 timer 3\n\
                      state 0 root 4\nstate 1 idle 5\nstate 2 group 6\nstate 3 rest 7\n\
                      state 4 sub 8\nparameter 2 0 a 6\nparameter 4 0 b 8\n";
@@ -37,14 +37,14 @@ pub fn sum(image: &[u8]) -> String {
 
 pub fn first() -> String {
     let sum = sum(&image());
-    format!("caisson names 1 sha256 {sum} labels 2 registers 1 states 5\n")
+    format!("caisson names 2 sha256 {sum} labels 2 registers 1 states 5\n")
 }
 
 #[test]
 fn the_whole_is_right() {
     let file = NamesFile::of_text("two.caisson", SOURCE).unwrap();
-    assert_eq!(file.text(&image()), first() + LINES);
-    let whole = first() + LINES;
+    let whole = summed(first() + LINES);
+    assert_eq!(file.text(&image()), whole);
     let read = NamesFile::read(whole.as_bytes(), &image(), Shape::of(&image()).as_ref());
     assert_eq!(read, Ok(Some(file)));
 }
@@ -183,12 +183,12 @@ fn the_lines_behind_it() {
         (
             " b 8\n",
             " b 8\n\n",
-            "13: is a line too many: the table has no more to name",
+            "13: expected `sum SHA256`, found ``",
         ),
         (
             " b 8\n",
             " b 8\nparameter 4 1 c 8\n",
-            "13: is a line too many: the table has no more to name",
+            "13: expected `sum SHA256`, found `parameter 4 1 c 8`",
         ),
         (
             LINES,
@@ -216,12 +216,54 @@ fn names_of_other_kinds_are_free() {
         ("3 rest", "3 low"),
         ("0 b 8", "0 group 8"),
     ] {
-        let file = first() + &LINES.replace(old, new);
+        let file = summed(first() + &LINES.replace(old, new));
         assert!(
             NamesFile::read(file.as_bytes(), &image, shape.as_ref()).is_ok(),
             "{new}"
         );
     }
+}
+
+/// Two names exchanged are names of the table still, and the sum alone tells.
+#[test]
+fn the_sum_of_the_file() {
+    let image = image();
+    let whole = summed(first() + LINES);
+    let (lines, sum) = whole.split_once("sum ").unwrap();
+    let changed = "13: the sum is not that of the lines above: the names file was changed; \
+                   assemble it again or remove the names file";
+    let exchanged = (lines.replace("0 low", "0 high")).replace("1 high 2", "1 low 2");
+    assert_ne!(exchanged, lines);
+    for (file, words) in [
+        (format!("{exchanged}sum {sum}"), changed),
+        (format!("{}sum {sum}", lines.replace("two.", "one.")), changed),
+        (format!("{}sum {sum}", lines.replace("timer 3", "timer 4")), changed),
+        (format!("{lines}sum {}\n", "0".repeat(64)), changed),
+        (lines.to_string(), "13: the file ends here, and `sum SHA256` is missing"),
+        (format!("{lines}sum {}", sum.trim_end()), "13: the last line has no line end"),
+        (format!("{lines}sum 0\n"), "13: expected `sum SHA256`, found `sum 0`"),
+        (format!("{whole}\n"), "14: is a line too many: the table has no more to name"),
+    ] {
+        assert_eq!(said(file.as_bytes(), &image), words);
+    }
+    let read = NamesFile::read(summed(exchanged).as_bytes(), &image, Shape::of(&image).as_ref());
+    assert_eq!(read.unwrap().unwrap().kinds[0][0].name, "high");
+}
+
+/// One limit for the tool and the host. A line is as long as it takes.
+#[test]
+fn the_largest_file() {
+    let image = image();
+    let room = LARGEST - summed(first() + LINES).len();
+    let shape = Shape::of(&image);
+    for more in [room, room + 1] {
+        let name = format!("0 {}timer 3", "t".repeat(more));
+        let file = summed(first() + &LINES.replace("0 timer 3", &name));
+        let read = NamesFile::read(file.as_bytes(), &image, shape.as_ref());
+        assert_eq!(read.is_ok(), file.len() <= LARGEST);
+    }
+    let words = "1: is larger than 1048576 bytes, which no names file is";
+    assert_eq!(said(&vec![b'c'; LARGEST + 1], &image), words);
 }
 
 /// All wires of a gate table have names of one kind, and numbers through all of them.
@@ -241,7 +283,8 @@ fn gate_tables() {
         assert_eq!(said(file.as_bytes(), &image), words);
     }
     // A word of designs is a name here.
-    let file = right.replace("4 either", "4 goto");
+    let (lines, _) = right.split_once("sum ").unwrap();
+    let file = summed(lines.replace("4 either", "4 goto"));
     assert!(NamesFile::read(file.as_bytes(), &image, Shape::of(&image).as_ref()).is_ok());
     assert_eq!(said(right.as_bytes(), &bytes("designs/lease.table")), OTHER);
 }
