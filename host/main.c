@@ -14,6 +14,7 @@
 #include "replay.h"
 #include "say.h"
 #include "signals.h"
+#include "sources.h"
 
 /* What is read before the first cycle. */
 struct inputs {
@@ -21,6 +22,7 @@ struct inputs {
     struct names names;
     struct trace trace;
     struct feed feed;
+    struct sources sources;
 };
 
 static enum status refused(const char *path, caisson_answer answer, const struct names *names)
@@ -86,12 +88,20 @@ static enum status site_record(struct site *site, const struct inputs *inputs)
     if (status == STATUS_DONE)
         status = site->options->replay ? replay_run(site) : site_operate(site);
     lost = records_close(&records, signals_stop());
-    if (status == STATUS_DONE && !signals_stop() && (lost > 0 || inputs->feed.broken))
+    if (status == STATUS_DONE && !signals_stop() && (lost > 0 || inputs->feed.broken || sources_broken(&inputs->sources)))
         return STATUS_INPUT;
     return status;
 }
 
-/* Judges everything before the first cycle: the parties' levels, all port writes of a trace. */
+static struct readings *readings_of(const struct options *options, struct inputs *inputs)
+{
+    if (options->source_count > 0)
+        return &inputs->sources.source;
+    return options->feed ? &inputs->feed.source : &inputs->trace.source;
+}
+
+/* Judges everything before the first cycle: the parties' levels, the ports of each source, all port writes of a
+   trace. */
 static enum status operate(const struct options *options, struct inputs *inputs)
 {
     const struct design *design = &inputs->design;
@@ -101,7 +111,7 @@ static enum status operate(const struct options *options, struct inputs *inputs)
     struct box box;
     struct site site = {.box = &box,
                         .trace = &inputs->trace,
-                        .readings = options->feed ? &inputs->feed.source : &inputs->trace.source,
+                        .readings = readings_of(options, inputs),
                         .names = &inputs->names,
                         .options = &chosen,
                         .notices = &notices};
@@ -110,7 +120,10 @@ static enum status operate(const struct options *options, struct inputs *inputs)
 
     if (status != STATUS_DONE)
         return status;
-    feed_start(&inputs->feed, &inputs->names, &notices);
+    feed_start(&inputs->feed, &inputs->names, &notices, options->forever || options->limited);
+    status = sources_open(&inputs->sources, options, design->image, &inputs->names, &notices);
+    if (status != STATUS_DONE)
+        return status;
     answer = box_start(&box, design->image, design->length);
     if (answer.number != CAISSON_ACCEPTED)
         return refused(options->design, answer, &inputs->names);
@@ -154,6 +167,7 @@ static enum status outstation(const struct options *options)
         status = trace_read(&inputs.trace, &inputs.names);
     if (status == STATUS_DONE)
         status = operate(options, &inputs);
+    sources_close(&inputs.sources);
     trace_free(&inputs.trace);
     names_free(&inputs.names);
     return status;

@@ -13,6 +13,7 @@ const char options_usage[] =
     "usage: outstation DESIGN TRACE [--fast] [--cycles N | --forever] [--every K] [--party NAME:LEVEL]...\n"
     "                  [--records DIR] [--journal N]\n"
     "       outstation DESIGN --readings - [the same options]\n"
+    "       outstation DESIGN {--readings NAME=PATH --ports NAME=PORT,PORT..}... [the same options]\n"
     "       outstation DESIGN [TRACE] --console [--fast] [--cycles N] [--every K] [--party NAME:LEVEL]...\n"
     "                  [--journal N]\n"
     "       outstation DESIGN TRACE --replay [--cycles N] [--every K] [--party NAME:LEVEL]... [--records DIR]\n"
@@ -25,6 +26,8 @@ const char options_usage[] =
     "  --records DIR       a file DIR/NAME.record for each party, not standard output; no cycle waits for it,\n"
     "                      and SIGHUP opens the files anew\n"
     "  --readings -        readings from standard input as they come, not from a trace\n"
+    "  --readings NAME=PATH  readings of one sender, from a FIFO, a file or a device of its own; may be repeated\n"
+    "  --ports NAME=PORT,PORT..  the ports that this sender may write, by name or number; no other may\n"
     "  --journal N         keep a journal of the last N cycles at least, to go back to\n"
     "  --console           take commands from standard input afterwards, with a journal of 1000 cycles if\n"
     "                      none is asked for; `help` lists them\n"
@@ -54,6 +57,50 @@ static enum status party_add(struct options *options, const char *text)
     return STATUS_DONE;
 }
 
+/* The source of a name, which may have been named before by the other of its two options. */
+static struct source *source_of(struct options *options, const struct source *given)
+{
+    struct source *source = source_find(options->sources, options->source_count, given);
+
+    if (source->name == NULL) {
+        *source = *given;
+        options->source_count++;
+    }
+    return source;
+}
+
+static enum status readings_add(struct options *options, const char *text)
+{
+    struct source given, *source;
+    const char *path = source_read(&given, text);
+
+    if (strcmp(text, "-") == 0) {
+        options->feed = true;
+        return STATUS_DONE;
+    }
+    if (path == NULL)
+        return wrong("--readings takes -, standard input, or NAME=PATH, not ", text);
+    source = source_of(options, &given);
+    if (source->path != NULL)
+        return wrong("a second source of the same name: ", text);
+    source->path = path;
+    return STATUS_DONE;
+}
+
+static enum status ports_add(struct options *options, const char *text)
+{
+    struct source given, *source;
+    const char *ports = source_read(&given, text);
+
+    if (ports == NULL)
+        return wrong("--ports takes NAME=PORT,PORT.., not ", text);
+    source = source_of(options, &given);
+    if (source->ports != NULL)
+        return wrong("a second list of ports for the same name: ", text);
+    source->ports = ports;
+    return STATUS_DONE;
+}
+
 /* An option with a value. */
 static enum status valued_read(struct options *options, const char *name, const char *value)
 {
@@ -72,9 +119,9 @@ static enum status valued_read(struct options *options, const char *name, const 
         if (value[0] == '\0')
             return wrong("--records takes a folder", "");
     } else if (strcmp(name, "--readings") == 0) {
-        options->feed = true;
-        if (strcmp(value, "-") != 0)
-            return wrong("--readings takes -, standard input, not ", value);
+        return readings_add(options, value);
+    } else if (strcmp(name, "--ports") == 0) {
+        return ports_add(options, value);
     } else {
         return party_add(options, value);
     }
@@ -95,7 +142,8 @@ static enum status path_read(struct options *options, const char *path)
 static bool takes_value(const char *name)
 {
     return strcmp(name, "--cycles") == 0 || strcmp(name, "--every") == 0 || strcmp(name, "--party") == 0 ||
-           strcmp(name, "--journal") == 0 || strcmp(name, "--records") == 0 || strcmp(name, "--readings") == 0;
+           strcmp(name, "--journal") == 0 || strcmp(name, "--records") == 0 || strcmp(name, "--readings") == 0 ||
+           strcmp(name, "--ports") == 0;
 }
 
 /* An option without a value; false where it is none. */
@@ -134,9 +182,33 @@ static enum status argument_read(struct options *options, int argc, char **argv,
     return valued_read(options, argument, argv[at + 1]);
 }
 
+/* A source may write the ports that are listed for it and no others, so that one without a list is a slip. */
+static const char *sources_contradiction(const struct options *options)
+{
+    for (size_t i = 0; i < options->source_count; i++) {
+        if (options->sources[i].path == NULL)
+            return "--ports NAME=.. needs --readings NAME=PATH";
+        if (options->sources[i].ports == NULL)
+            return "--readings NAME=PATH needs --ports NAME=PORT,PORT..";
+    }
+    if (options->source_count == 0)
+        return NULL;
+    if (options->feed || options->trace != NULL)
+        return "readings come from a trace, from standard input or from sources of their own: one of the three";
+    if (options->console || options->replay)
+        return "--readings NAME=PATH goes with neither --console nor --replay";
+    if (!options->forever && !options->limited)
+        return "with --readings NAME=PATH either --cycles or --forever says how many cycles there are";
+    return NULL;
+}
+
 /* What does not go together, or is missing; NULL where all is well. */
 static const char *contradiction(const struct options *options)
 {
+    const char *of_sources = sources_contradiction(options);
+
+    if (of_sources != NULL)
+        return of_sources;
     if (options->replay && (options->console || options->journal > 0))
         return "--replay keeps no journal and goes with no console";
     if (options->replay && (options->feed || options->forever))
@@ -149,9 +221,9 @@ static const char *contradiction(const struct options *options)
         return "either --cycles or --forever";
     if (options->feed && options->trace != NULL)
         return "readings come from a trace or from standard input, not from both";
-    if ((options->console || options->feed) && options->design == NULL)
+    if ((options->console || options->feed || options->source_count > 0) && options->design == NULL)
         return "a design is needed";
-    if (options->trace == NULL && !options->console && !options->feed)
+    if (options->trace == NULL && !options->console && !options->feed && options->source_count == 0)
         return "a design and a trace are needed";
     return NULL;
 }
@@ -161,9 +233,10 @@ enum status options_read(struct options *options, int argc, char **argv)
     const char *against;
 
     *options = (struct options){.every = 1};
-    /* No more parties than arguments, and at least one, since room for none may be NULL. */
+    /* No more parties and sources than arguments, and at least one, since room for none may be NULL. */
     options->parties = calloc((size_t)argc + 1, sizeof *options->parties);
-    if (options->parties == NULL)
+    options->sources = calloc((size_t)argc + 1, sizeof *options->sources);
+    if (options->parties == NULL || options->sources == NULL)
         return wrong("no memory for the options", "");
     for (int at = 1; at < argc;) {
         enum status status = argument_read(options, argc, argv, at, &at);
@@ -184,5 +257,6 @@ enum status options_read(struct options *options, int argc, char **argv)
 void options_free(struct options *options)
 {
     free(options->parties);
+    free(options->sources);
     *options = (struct options){0};
 }

@@ -5,12 +5,15 @@
 #include <stdbool.h>
 
 #include "parties.h"
+#include "source.h"
 #include "status.h"
 
 struct options {
     const char *design; /* path of the design */
     const char *trace;  /* path of the trace; NULL: there is none */
     bool feed;          /* readings come on standard input */
+    struct source *sources; /* or each sender has a source of its own */
+    size_t source_count;
     const char *records; /* a folder for the parties' files; NULL: standard output */
     bool help;          /* only say how the program is used */
     bool fast;          /* do not wait between cycles */

@@ -17,6 +17,9 @@ struct party {
     uint32_t level; /* a label; of one given by name not before parties_judge */
 };
 
+/* How many characters of a text are those of a name, from its start: letters, digits, and the signs - _ . */
+size_t party_name_length(const char *text);
+
 /*
  * Reads NAME:LEVEL. A name is letters, digits, and the signs - _ . so that it cannot be taken for
  * another part of a record, and a level is a label's name or number, which parties_judge judges. The party keeps a

@@ -1,6 +1,6 @@
 /*
  * readings.h: where readings come from. This is what a host with drivers of its own implements; trace.c does it for
- * a file, feed.c for lines that come on standard input.
+ * a file, feed.c for lines that come on standard input or from one sender, sources.c for several senders.
  *
  * An implementation has struct readings as its first member and fills it in. Its functions are called between two
  * cycles, so none of them may wait.
@@ -20,7 +20,7 @@ struct reading {
 };
 
 struct readings {
-    const char *name; /* of the source, for messages */
+    const char *name; /* for messages: of the source or, of several, of that which the last reading came from */
     bool judged;      /* all of them were judged before the first cycle: one that is refused ends the cycles */
     uint64_t made;    /* how many were taken, without those gone back over */
 

@@ -83,7 +83,8 @@ forever() {
     [ "$(grep -c 'lines of readings left out, the last standard input:' "$made/err")" = 1 ] ||
         fail "--forever: $(cat "$made/err")"
     grep -qx '3000 lines of readings were left out' "$made/err" || fail "--forever: $(cat "$made/err")"
-    [ "$(wc -l <"$made/err")" = 3 ] || fail "--forever says more: $(cat "$made/err")"
+    grep -q '^standard input: ended before cycle ' "$made/err" || fail "--forever: no end is told: $(cat "$made/err")"
+    [ "$(wc -l <"$made/err")" = 4 ] || fail "--forever says more: $(cat "$made/err")"
 }
 
 input() {
