@@ -9,6 +9,7 @@
 #include "cycles.h"
 #include "design.h"
 #include "feed.h"
+#include "library.h"
 #include "record.h"
 #include "refusals.h"
 #include "replay.h"
@@ -150,7 +151,11 @@ static enum status design_take(const char *path, struct inputs *inputs)
 
 static enum status help(void)
 {
-    return fputs(options_usage, stdout) == EOF ? STATUS_INPUT : record_flush();
+    char version[LIBRARY_LONGEST_VERSION];
+    enum status status = record_line("%sThe library is of version %s, format %u.\n", options_usage,
+                                     library_version(version), (unsigned)caisson_format());
+
+    return status == STATUS_DONE ? record_flush() : status;
 }
 
 /* The design comes first: its names may stand in the trace. */
@@ -175,9 +180,11 @@ static enum status outstation(const struct options *options)
 
 int main(int argc, char **argv)
 {
-    struct options options;
-    enum status status = options_read(&options, argc, argv);
+    struct options options = {0};
+    enum status status = library_judge();
 
+    if (status == STATUS_DONE)
+        status = options_read(&options, argc, argv);
     if (status == STATUS_DONE)
         status = outstation(&options);
     options_free(&options);

@@ -7,6 +7,7 @@
 #include <stdlib.h>
 #include <time.h>
 
+#include "library.h"
 #include "record.h"
 #include "say.h"
 #include "sha256.h"
@@ -19,6 +20,7 @@ static bool first_add(struct text *first, const struct party *party, const struc
 {
     const char *level = name_of_label(names, party->level);
     time_t now = time(NULL);
+    char version[LIBRARY_LONGEST_VERSION];
     struct tm parts;
     char started[40];
 
@@ -26,7 +28,7 @@ static bool first_add(struct text *first, const struct party *party, const struc
         return false;
     return text_add(first, "# caisson record, party %.*s, level ", (int)party->name_length, party->name) &&
            (level != NULL ? text_add(first, "%s", level) : text_add(first, "%" PRIu32, party->level)) &&
-           text_add(first, ", design sha256 %s, library %s, started %s", sum, CAISSON_VERSION, started);
+           text_add(first, ", design sha256 %s, library %s, started %s", sum, library_version(version), started);
 }
 
 static enum status no_memory(void)

@@ -12,8 +12,9 @@
  * A slice is a pointer and a length in bytes, that of a port trace in records. The pointer may be NULL where
  * the length is 0. The slices of one call must not overlap. Nothing is read or written outside them.
  *
- * Every call but caisson_earlier, which hands back a part of what it is lent, and caisson_which_earlier below
- * it answers a caisson_answer. `number` is 0 on acceptance, else the refusal's number, one of the
+ * Every call answers a caisson_answer, but for caisson_version, caisson_format and caisson_matches, which are about
+ * the library itself, and for caisson_earlier, which hands back a part of what it is lent, and caisson_which_earlier
+ * before it. `number` is 0 on acceptance, else the refusal's number, one of the
  * caisson_refusal values below: of those that apply, the one judged first. Every call begins with the image
  * checks, in this order: 1 to 8, then 16, then 19, then 9, then 10 to 12 in one pass in reading order: state
  * by state from number 0 on, and in each the commands as they are written, an if's first branch before its
@@ -106,9 +107,11 @@
 extern "C" {
 #endif
 
-/* The version of the library and the number of the image's format. CHANGELOG.md says when each moves;
-   docs/FORMAT.md has the format byte by byte. */
+/* The version of this header and the number of the image's format. CHANGELOG.md says when each moves;
+   docs/FORMAT.md has the format byte by byte. The number of a version is its first number times 1,000,000, its
+   second times 1,000 and its third, added up. caisson_version and caisson_format answer the library's own. */
 #define CAISSON_VERSION "3.4.1"
+#define CAISSON_VERSION_NUMBER 3004001u
 #define CAISSON_FORMAT 3
 
 /* Limits of a design table. */
@@ -341,11 +344,67 @@ typedef struct {
     size_t len;      /* all of its bytes, or 0 */
 } caisson_which;
 
+/* The library reads and writes these structs by the places of their fields, as they are on x86-64. A compiler of C11
+   or C++11 or later refuses to build where they are others; an earlier one does not look. */
+#if defined(__cplusplus)
+#if __cplusplus >= 201103L
+#define CAISSON_ASSERT(holds, words) static_assert(holds, words)
+#endif
+#elif defined(__STDC_VERSION__) && __STDC_VERSION__ >= 201112L
+#define CAISSON_ASSERT(holds, words) _Static_assert(holds, words)
+#endif
+#ifdef CAISSON_ASSERT
+#define CAISSON_FIELD(type, field, place, length)                                                  \
+    CAISSON_ASSERT(offsetof(type, field) == (place) && sizeof(((type *)0)->field) == (length),     \
+                   "the library has " #field " of " #type " elsewhere")
+#define CAISSON_LENGTH(type, length) CAISSON_ASSERT(sizeof(type) == (length), "the library's " #type " is another")
+CAISSON_FIELD(caisson_answer, number, 0, 4);
+CAISSON_FIELD(caisson_answer, place, 8, 8);
+CAISSON_FIELD(caisson_answer, count, 16, 8);
+CAISSON_LENGTH(caisson_answer, 24);
+CAISSON_FIELD(caisson_record, cycle, 0, 4);
+CAISSON_FIELD(caisson_record, reg, 4, 4);
+CAISSON_FIELD(caisson_record, value, 8, 4);
+CAISSON_LENGTH(caisson_record, 12);
+CAISSON_FIELD(caisson_part, bytes, 0, 8);
+CAISSON_FIELD(caisson_part, len, 8, 8);
+CAISSON_LENGTH(caisson_part, 16);
+CAISSON_FIELD(caisson_which, second, 0, 4);
+CAISSON_FIELD(caisson_which, len, 8, 8);
+CAISSON_LENGTH(caisson_which, 16);
+#undef CAISSON_LENGTH
+#undef CAISSON_FIELD
+#undef CAISSON_ASSERT
+#endif
+
 #if defined(__GNUC__) || defined(__clang__)
 #define CAISSON_LOOK_AT_ANSWER __attribute__((warn_unused_result))
 #else
 #define CAISSON_LOOK_AT_ANSWER
 #endif
+
+/*
+ * The version of the library that is linked, as a number: 3004001 is version 3.4.1. It is a constant of the library.
+ * One without this call, of version 3.4.1 or before, does not link.
+ */
+CAISSON_LOOK_AT_ANSWER
+uint32_t caisson_version(void);
+
+/* The number of the format of images that the library reads, a constant too. */
+CAISSON_LOOK_AT_ANSWER
+uint32_t caisson_format(void);
+
+/*
+ * Whether library and header are of one version and one format: 1, or 0 where they are not. A host asks before its
+ * first other call, and makes none where the answer is 0: the areas, the records and the numbers of refusals may be
+ * others than the header says, and what is shown to one party may be another's. Versions that differ in the third
+ * number alone do not match either: to build again is little work.
+ */
+CAISSON_LOOK_AT_ANSWER
+static inline int caisson_matches(void)
+{
+    return caisson_version() == CAISSON_VERSION_NUMBER && caisson_format() == (uint32_t)CAISSON_FORMAT;
+}
 
 /*
  * Accepts an image exactly when it keeps the rules 1 to 12, 16 and 19, or refuses it. Whatever the bytes

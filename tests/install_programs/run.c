@@ -29,6 +29,10 @@ int main(int argc, char **argv)
     }
     n = fread(image, 1, sizeof image, file);
     fclose(file);
+    if (!caisson_matches()) {
+        fprintf(stderr, "another version of the library than of the header\n");
+        return 2;
+    }
     printf("caisson %s, format %d\n", CAISSON_VERSION, CAISSON_FORMAT);
     r = caisson_registers_length(image, n).count; /* 0 of an image that is refused, and a reset says why */
     t = caisson_targets_length(image, n).count;

@@ -1,10 +1,11 @@
 //! The names file beside a table: read with it, written with it, and removed where it would not fit.
 
 use crate::files::{is_other, load_design, replace, same_file, Prepared};
+use crate::{placed, signals};
 use caisson_tools::names_file::{NamesFile, Shape, ENDING, FIRST, LARGEST};
 use std::fs::File;
 use std::io::{ErrorKind, Read};
-use std::path::PathBuf;
+use std::path::{Path, PathBuf};
 use std::{fs, io, process};
 
 fn names_path(table: &str) -> String {
@@ -84,8 +85,9 @@ pub fn write_both(to: &str, image: &[u8], names: Option<&str>) -> Result<String,
              shorter names are needed"
         ));
     }
+    let _held = signals::hold();
     let table = Prepared::new(to, image).map_err(fault)?;
-    let change = match Change::begin(&beside, names, there) {
+    let change = match Change::begin(&beside, names, there, Path::new(to)) {
         Ok(change) => change,
         Err(error) => {
             table.discard();
@@ -134,15 +136,21 @@ struct Change {
 }
 
 impl Change {
-    /// The new file is whole before the old one goes. A failure changes nothing.
-    fn begin(path: &str, new: Option<&str>, there: bool) -> io::Result<Change> {
+    /// The new file is whole before the old one goes. A failure changes nothing. It has mode and group of the old
+    /// one or, where there is none, of the table that was there.
+    fn begin(path: &str, new: Option<&str>, there: bool, table: &Path) -> io::Result<Change> {
         let own = |name: &str| PathBuf::from(format!("{path}.{}.{name}", process::id()));
         let (part, before) = (own("part"), own("before"));
         let change = Change {
             place: PathBuf::from(path),
             before: there.then_some(before),
         };
-        let begun = new.map_or(Ok(()), |new| fs::write(&part, new));
+        let model = match there {
+            true => Path::new(path),
+            false => table,
+        };
+        let write = |new: &str| placed::write(&part, new.as_bytes(), Some(model));
+        let begun = new.map_or(Ok(()), write);
         let begun = begun.and_then(|()| change.put(new.is_some().then_some(&part)));
         match begun {
             Ok(()) => Ok(change),
@@ -189,19 +197,20 @@ mod tests {
         fs::create_dir(&folder).unwrap();
         let names = folder.join("t.names");
         let path = names.to_str().unwrap();
+        let none = Path::new("");
         for before in [None, Some("old")] {
             for new in [None, Some("new")] {
                 let _ = fs::remove_file(&names);
                 if let Some(before) = before {
                     fs::write(&names, before).unwrap();
                 }
-                let change = Change::begin(path, new, before.is_some()).unwrap();
+                let change = Change::begin(path, new, before.is_some(), none).unwrap();
                 assert_eq!(fs::read_to_string(&names).ok().as_deref(), new);
                 change.undo();
                 assert_eq!(fs::read_to_string(&names).ok().as_deref(), before);
                 let count = usize::from(before.is_some());
                 assert_eq!(fs::read_dir(&folder).unwrap().count(), count);
-                let change = Change::begin(path, new, before.is_some()).unwrap();
+                let change = Change::begin(path, new, before.is_some(), none).unwrap();
                 change.finish();
                 assert_eq!(fs::read_to_string(&names).ok().as_deref(), new);
                 let count = usize::from(new.is_some());
@@ -211,7 +220,7 @@ mod tests {
         // A folder takes no file in its place.
         let _ = fs::remove_file(&names);
         fs::create_dir(&names).unwrap();
-        assert!(Change::begin(path, Some("new"), false).is_err());
+        assert!(Change::begin(path, Some("new"), false, none).is_err());
         assert_eq!(fs::read_dir(&folder).unwrap().count(), 1);
         fs::remove_dir_all(&folder).unwrap();
     }

@@ -1,6 +1,7 @@
 //! What the commands read and write: files, and standard output.
 
 use crate::beside::load_named;
+use crate::{placed, signals};
 use caisson_tools::names_file::{ENDING, FIRST};
 use caisson_tools::{assemble_placed, decode, explain, gates, library, Names};
 use std::io::Write;
@@ -56,7 +57,10 @@ pub fn judged(path: &str) -> Result<Result<Accepted, String>, String> {
 pub fn replace(path: &str, bytes: &[u8]) -> io::Result<()> {
     match is_other(path) {
         true => fs::write(path, bytes),
-        false => Prepared::new(path, bytes)?.put(),
+        false => {
+            let _held = signals::hold();
+            Prepared::new(path, bytes)?.put()
+        }
     }
 }
 
@@ -85,7 +89,7 @@ impl Prepared {
         let mut beside = place.clone().into_os_string();
         beside.push(format!(".{}.part", process::id()));
         let beside = PathBuf::from(beside);
-        let written = fs::write(&beside, bytes);
+        let written = placed::write(&beside, bytes, Some(&place));
         let prepared = Prepared { beside, place };
         match written {
             Ok(()) => Ok(prepared),
@@ -176,6 +180,11 @@ fn is_no_table(path: &str, bytes: &[u8]) -> Option<String> {
     let name = Path::new(path).with_extension("caisson");
     let name = name.display();
     text.then(|| format!("is a text and no table: name it {name}, or use `caisson check`"))
+}
+
+/// On standard error. What cannot be said there is lost, and the status remains.
+pub fn tell(words: &str) {
+    let _ = writeln!(io::stderr(), "{words}");
 }
 
 /// A reader that has gone away is a failure like any other, not a panic.

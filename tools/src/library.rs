@@ -18,16 +18,30 @@ struct Which {
 
 extern "C" {
     fn caisson_check(image: *const u8, image_len: usize) -> Answer;
+    fn caisson_format() -> u32;
     fn caisson_file(image: *const u8, image_len: usize, out: *mut u8, out_len: usize) -> Answer;
     fn caisson_gates_check(table: *const u8, table_len: usize) -> Answer;
     fn caisson_prune(image: *const u8, image_len: usize, out: *mut u8, out_len: usize) -> Answer;
     fn caisson_raise(image: *const u8, image_len: usize, out: *mut u8, out_len: usize) -> Answer;
+    fn caisson_version() -> u32;
     fn caisson_which_earlier(
         first: *const u8,
         first_len: usize,
         second: *const u8,
         second_len: usize,
     ) -> Which;
+}
+
+/// The number of the version: 3004001 is 3.4.1.
+pub fn version() -> u32 {
+    // Sound: it is lent nothing, and answers a constant.
+    unsafe { caisson_version() }
+}
+
+/// Of the images that it reads.
+pub fn format() -> u32 {
+    // Sound as above.
+    unsafe { caisson_format() }
 }
 
 pub fn check(image: &[u8]) -> Answer {

@@ -3,7 +3,9 @@
 mod beside;
 mod files;
 mod level;
+mod placed;
 mod shelf;
+mod signals;
 mod usage;
 mod views;
 
@@ -15,14 +17,16 @@ use caisson_tools::names_file::NamesFile;
 use caisson_tools::old;
 use caisson_tools::prune::{prune_named, prune_text};
 use caisson_tools::raise::{raise_named, raise_text};
-use caisson_tools::version::version;
+use caisson_tools::version;
 use caisson_tools::{assemble_named, assemble_placed, explain, gates, library};
 use caisson_tools::{print, print_named, read, Faults, Names, Table};
 use files::{judged, load_design, load_table, load_text, no_records, replace, same_file, show};
-use files::{status, NO_DESIGN, TEXT};
+use files::{status, tell, NO_DESIGN, TEXT};
 use level::Level;
+use std::env;
+use std::ffi::OsString;
 use std::process::ExitCode;
-use std::{env, thread};
+use std::thread::{self, JoinHandle};
 
 const USAGE: &str = "usage: caisson assemble SOURCE TABLE
        caisson check SOURCE
@@ -59,18 +63,27 @@ const NOT_SAID: u8 = 3;
 /// where it has warnings. Only `same` ends with 1 where two designs differ, and with 2 where one is refused.
 fn main() -> ExitCode {
     let work = thread::Builder::new().stack_size(STACK).spawn(command);
-    match work.expect("a thread starts").join() {
-        Ok(Ok(code)) => code,
-        Ok(Err(message)) => {
-            eprintln!("{message}");
-            ExitCode::from(2)
-        }
-        Err(_) => ExitCode::from(2),
-    }
+    let done = match work.map(JoinHandle::join) {
+        Ok(Ok(done)) => done,
+        Ok(Err(_)) => return ExitCode::from(2),
+        Err(error) => Err(format!("no thread: {error}")),
+    };
+    done.unwrap_or_else(|message| {
+        tell(&message);
+        ExitCode::from(2)
+    })
+}
+
+/// Names of files too: they stand in messages and in lists, which are text.
+fn argument(given: OsString) -> Result<String, String> {
+    let wrong = |given: OsString| format!("{given:?}: an argument has to be UTF-8");
+    given.into_string().map_err(wrong)
 }
 
 fn command() -> Result<ExitCode, String> {
-    let arguments: Vec<String> = env::args().skip(1).collect();
+    version::judged()?;
+    let arguments: Result<Vec<String>, String> = env::args_os().skip(1).map(argument).collect();
+    let arguments = arguments?;
     let arguments: Vec<&str> = arguments.iter().map(String::as_str).collect();
     match arguments[..] {
         ["--help" | "-h"] | [_, "--help" | "-h"] => {
@@ -92,7 +105,7 @@ fn command() -> Result<ExitCode, String> {
         ["draw", file] => views::draw(file, None),
         ["draw", file, out] => views::draw(file, Some(out)),
         ["lint", file] => views::lint(file),
-        ["--version"] => show(&version()).map(|()| ExitCode::SUCCESS),
+        ["--version"] => show(&version::version()).map(|()| ExitCode::SUCCESS),
         _ => Err(usage::refusal(USAGE, &arguments)),
     }
 }

@@ -1,12 +1,32 @@
-//! Which version this is, by `include/caisson.h`.
+//! Which version this is, by `include/caisson.h`, and which one the library is of, as it says itself.
+
+use crate::library;
 
 const HEADER: &str = include_str!("../../include/caisson.h");
 
-/// The library exports no version: it is the one of the header that this was built with.
 pub fn version() -> String {
-    let version = defined("CAISSON_VERSION");
-    let format = defined("CAISSON_FORMAT");
-    format!("caisson {version}, image format {format}, built with the library {version}\n")
+    let (own, format) = (defined("CAISSON_VERSION"), defined("CAISSON_FORMAT"));
+    let library = dotted(library::version());
+    format!("caisson {own}, image format {format}, built with the library {library}\n")
+}
+
+/// What is wrong where the tool was built for another library than it is linked with. Its words and tables would be
+/// those of other rules.
+pub fn judged() -> Result<(), String> {
+    let (own, format) = (defined("CAISSON_VERSION"), defined("CAISSON_FORMAT"));
+    let (library, library_format) = (dotted(library::version()), library::format());
+    match library == own && library_format.to_string() == format {
+        true => Ok(()),
+        false => Err(format!(
+            "caisson: built for version {own}, format {format}, and linked with the library of version {library}, \
+             format {library_format}: build it again with that library's sources"
+        )),
+    }
+}
+
+fn dotted(number: u32) -> String {
+    let (first, second, third) = (number / 1_000_000, number / 1_000 % 1_000, number % 1_000);
+    format!("{first}.{second}.{third}")
 }
 
 fn defined(name: &str) -> &'static str {

@@ -1,7 +1,7 @@
 //! The commands that show a design or look it over: `draw` and `lint`.
 
 use crate::beside::{keeps, load_names};
-use crate::files::{load_table, load_text, replace, show, TEXT};
+use crate::files::{load_table, load_text, replace, show, tell, TEXT};
 use caisson_tools::draw::{draw_named, draw_text};
 use caisson_tools::lint::{lint_named, lint_text, Linted};
 use caisson_tools::{gates, Names};
@@ -41,10 +41,10 @@ pub fn draw(from: &str, to: Option<&str>) -> Result<ExitCode, String> {
         None => show(&drawing.graph)?,
     }
     if drawing.answer.number != 0 {
-        eprintln!(
+        tell(&format!(
             "{from}: is drawn, but refused by {} at place {}; `caisson explain {from}` says why",
             drawing.answer.number, drawing.answer.place
-        );
+        ));
     }
     Ok(ExitCode::SUCCESS)
 }

@@ -180,11 +180,7 @@ fn the_lines_behind_it() {
             "12: the file ends here, and `parameter 4 0 NAME LINE` is missing",
         ),
         (" b 8\n", " b 8", "12: the last line has no line end"),
-        (
-            " b 8\n",
-            " b 8\n\n",
-            "13: expected `sum SHA256`, found ``",
-        ),
+        (" b 8\n", " b 8\n\n", "13: expected `sum SHA256`, found ``"),
         (
             " b 8\n",
             " b 8\nparameter 4 1 c 8\n",
@@ -236,17 +232,39 @@ fn the_sum_of_the_file() {
     assert_ne!(exchanged, lines);
     for (file, words) in [
         (format!("{exchanged}sum {sum}"), changed),
-        (format!("{}sum {sum}", lines.replace("two.", "one.")), changed),
-        (format!("{}sum {sum}", lines.replace("timer 3", "timer 4")), changed),
+        (
+            format!("{}sum {sum}", lines.replace("two.", "one.")),
+            changed,
+        ),
+        (
+            format!("{}sum {sum}", lines.replace("timer 3", "timer 4")),
+            changed,
+        ),
         (format!("{lines}sum {}\n", "0".repeat(64)), changed),
-        (lines.to_string(), "13: the file ends here, and `sum SHA256` is missing"),
-        (format!("{lines}sum {}", sum.trim_end()), "13: the last line has no line end"),
-        (format!("{lines}sum 0\n"), "13: expected `sum SHA256`, found `sum 0`"),
-        (format!("{whole}\n"), "14: is a line too many: the table has no more to name"),
+        (
+            lines.to_string(),
+            "13: the file ends here, and `sum SHA256` is missing",
+        ),
+        (
+            format!("{lines}sum {}", sum.trim_end()),
+            "13: the last line has no line end",
+        ),
+        (
+            format!("{lines}sum 0\n"),
+            "13: expected `sum SHA256`, found `sum 0`",
+        ),
+        (
+            format!("{whole}\n"),
+            "14: is a line too many: the table has no more to name",
+        ),
     ] {
         assert_eq!(said(file.as_bytes(), &image), words);
     }
-    let read = NamesFile::read(summed(exchanged).as_bytes(), &image, Shape::of(&image).as_ref());
+    let read = NamesFile::read(
+        summed(exchanged).as_bytes(),
+        &image,
+        Shape::of(&image).as_ref(),
+    );
     assert_eq!(read.unwrap().unwrap().kinds[0][0].name, "high");
 }
 
