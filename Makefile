@@ -25,7 +25,7 @@ definitions:
 
 # Times of the library beside the independent implementation, in one run.
 bench: library
-	cd tests/outside && CARGO_TARGET_DIR=$(CURDIR)/target/outside cargo run --quiet --release --offline --bin bench
+	cd tests/outside && CARGO_TARGET_DIR="$(CURDIR)/target/outside" cargo run --quiet --release --offline --bin bench
 
 # The stack that each call takes, on a small design, on the one that takes the most, and on the largest gate
 # table.
@@ -44,7 +44,7 @@ host: library
 
 # The tool for designs, target/tools/release/caisson; tools/README.md says how it is used.
 tool: library
-	CARGO_TARGET_DIR=$(CURDIR)/target/tools \
+	CARGO_TARGET_DIR="$(CURDIR)/target/tools" \
 		cargo build --quiet --release --offline --manifest-path tools/Cargo.toml
 
 # Two boxes side by side with unlike readings for one party, which also replay traces and go back by equal

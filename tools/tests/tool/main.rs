@@ -41,6 +41,7 @@ mod prune_files;
 mod raise;
 mod raise_chains;
 mod raise_files;
+mod replaced;
 mod round_trip;
 mod same_bodies;
 mod source_lines;
