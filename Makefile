@@ -80,6 +80,7 @@ lister:
 	scripts/prove lister
 
 include install.mk
+include deb.mk
 
 # Removes everything built.
 clean:

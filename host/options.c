@@ -33,6 +33,7 @@ const char options_usage[] =
     "                      none is asked for; `help` lists them\n"
     "  --replay            hand the trace to the library, which makes the port writes and the cycles in one\n"
     "                      call from sample to sample, as fast as possible\n"
+    "  --help              print this, and the version of the library\n"
     "A line of TRACE is CYCLE REGISTER VALUE, one of standard input REGISTER VALUE: a register by its number or,\n"
     "with DESIGN.names, by its name. A VALUE below zero, as -40, is written to the port as its two's complement.\n";
 
