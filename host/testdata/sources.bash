@@ -161,6 +161,8 @@ broken_sources() {
 }
 
 own_sources() {
+    # Nobody reads the FIFOs of an earlier turn.
+    rm -f "$made"/{north,south}
     wrong_sources
     apart
     broken_sources
