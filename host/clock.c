@@ -25,21 +25,25 @@ static struct timespec later(struct timespec time, long nanoseconds)
     return time;
 }
 
-static int is_after(struct timespec left, struct timespec right)
+/* Nanoseconds from one time to another. */
+static int64_t between(struct timespec from, struct timespec to)
 {
-    return left.tv_sec > right.tv_sec || (left.tv_sec == right.tv_sec && left.tv_nsec > right.tv_nsec);
+    return (int64_t)(to.tv_sec - from.tv_sec) * SECOND + (to.tv_nsec - from.tv_nsec);
 }
 
 enum status cycle_clock_start(struct cycle_clock *clock)
 {
-    clock->late = 0;
+    *clock = (struct cycle_clock){0};
     /* The monotonic clock: setting the time of day must not stop or hurry the cycles. */
-    return clock_gettime(CLOCK_MONOTONIC, &clock->due) == 0 ? STATUS_DONE : broken(errno);
+    if (clock_gettime(CLOCK_MONOTONIC, &clock->due) != 0 || clock_gettime(CLOCK_REALTIME, &clock->first) != 0)
+        return broken(errno);
+    return STATUS_DONE;
 }
 
 enum status cycle_clock_wait(struct cycle_clock *clock)
 {
     struct timespec now;
+    int64_t late;
     int error;
 
     /* An absolute time: a signal that interrupts the wait does not lengthen it. */
@@ -50,8 +54,9 @@ enum status cycle_clock_wait(struct cycle_clock *clock)
         return broken(error);
     if (clock_gettime(CLOCK_MONOTONIC, &now) != 0)
         return broken(errno);
-    if (is_after(now, later(clock->due, CLOCK_GRACE)))
-        clock->late++;
+    late = between(clock->due, now);
+    if (late > CLOCK_GRACE)
+        lateness_add(&clock->late, late);
     clock->due = later(clock->due, CLOCK_PERIOD);
     return STATUS_DONE;
 }

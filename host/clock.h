@@ -11,6 +11,7 @@
 #include <time.h>
 
 #include "caisson.h"
+#include "lateness.h"
 #include "status.h"
 
 #define CLOCK_PERIOD 10000000L /* nanoseconds from one cycle to the next: 100 cycles a second */
@@ -18,7 +19,8 @@
 
 struct cycle_clock {
     struct timespec due; /* when the next cycle starts */
-    uint64_t late;       /* how many started late */
+    struct timespec first; /* when the first one did, on the wall clock */
+    struct lateness late;  /* of those that started late */
 };
 
 /* The first cycle is due at once. STATUS_INPUT, with a message, where the system has no such clock. */

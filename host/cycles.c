@@ -43,8 +43,16 @@ enum status cycles_rehearse(const struct site *site, const struct trace *trace)
     return STATUS_DONE;
 }
 
+/* Whether the cycles keep time, and with their end the program is to end: it must not live on without control. */
+static bool is_control(const struct site *site)
+{
+    return !site->options->fast && !site->options->console;
+}
+
 static enum status refused(const struct site *site, caisson_answer answer)
 {
+    if (is_control(site))
+        signals_end_within(STATUS_REFUSED);
     say("before cycle %" PRIu64 ": ", site->done + 1);
     refusal_say(answer, site->box, site->names);
     return STATUS_REFUSED;
@@ -95,7 +103,7 @@ static uint64_t lower(uint64_t left, uint64_t right)
  */
 static uint32_t stride(const struct site *site, uint64_t last, bool paced)
 {
-    uint64_t cycles = lower(CAISSON_CYCLES, last - site->done);
+    uint64_t cycles = lower(CYCLES_AT_ONCE, last - site->done);
 
     if (paced)
         return 1;
@@ -126,12 +134,22 @@ static enum status step(struct site *site, uint64_t last, bool paced)
     return status == STATUS_DONE && paced ? records_flush(site->records) : status;
 }
 
+static void late_say(const struct lateness *late)
+{
+    struct text words = {0};
+
+    if (late->count > 0 && lateness_words(late, &words))
+        say("late by %s\n", words.characters);
+    text_free(&words);
+}
+
 static void summary_say(const struct site *site, const struct cycle_clock *clock)
 {
     uint64_t left = site->readings->left(site->readings);
 
     say("%" PRIu64 " cycles, %" PRIu64 " port writes, %" PRIu64 " late cycles\n", site->done, site->readings->made,
-        clock->late);
+        clock->late.count);
+    late_say(&clock->late);
     /* A console makes them as it steps. */
     if (left > 0 && !site->options->console)
         say("%" PRIu64 " port writes of the trace come later and were not made\n", left);
@@ -153,7 +171,10 @@ static void pass(struct site *site, const struct cycle_clock *clock)
 {
     if (signals_reopen())
         records_reopen(site->records, site->done + 1);
-    notices_tell(site->notices, site->done, clock->late, site->records);
+    records_pass(site->records, site->done + 1);
+    notices_tell(site->notices, site->done, &clock->late, site->records);
+    if (site->alive != NULL)
+        alive_beat(site->alive);
 }
 
 enum status cycles_run(struct site *site)
@@ -162,6 +183,7 @@ enum status cycles_run(struct site *site)
     enum status status = cycle_clock_start(&clock);
     bool paced = !site->options->fast;
 
+    site->records->first = clock.first;
     while (status == STATUS_DONE && site->done < cycles_last(site) && !signals_stop()) {
         if (paced)
             status = cycle_clock_wait(&clock);
@@ -170,10 +192,13 @@ enum status cycles_run(struct site *site)
         /* Readings that come as they come may have ended. */
         if (status == STATUS_DONE && site->done < cycles_last(site))
             status = step(site, cycles_last(site), paced);
-        pass(site, &clock);
+        if (status == STATUS_DONE)
+            pass(site, &clock);
     }
     if (status == STATUS_DONE)
         status = records_flush(site->records);
+    if (is_control(site))
+        signals_end_within(status == STATUS_DONE ? STATUS_INPUT : status);
     summary_say(site, &clock);
     return status;
 }

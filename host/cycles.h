@@ -2,6 +2,7 @@
 #ifndef CYCLES_H
 #define CYCLES_H
 
+#include "alive.h"
 #include "box.h"
 #include "names.h"
 #include "notices.h"
@@ -9,6 +10,9 @@
 #include "records.h"
 #include "status.h"
 #include "trace.h"
+
+/* Run by one call at most, so that signals are looked at. How cycles are grouped changes nothing. */
+#define CYCLES_AT_ONCE 10000u
 
 /* A site and how far it has come. */
 struct site {
@@ -20,6 +24,7 @@ struct site {
     const struct options *options; /* with at least one party, if the design has labels */
     struct records *records;
     struct notices *notices;
+    struct alive *alive; /* NULL: nobody is told that the cycles run */
     uint64_t done; /* cycles, without those gone back over */
 };
 

@@ -3,8 +3,6 @@
  * the design's cycles and writes each party's flow record; then, where it is asked to, it takes commands.
  * README.md describes it.
  */
-#include <stdio.h>
-
 #include "console.h"
 #include "cycles.h"
 #include "design.h"
@@ -16,6 +14,7 @@
 #include "say.h"
 #include "signals.h"
 #include "sources.h"
+#include "streams.h"
 
 /* What is read before the first cycle. */
 struct inputs {
@@ -49,10 +48,8 @@ static struct options with_parties(const struct options *options, struct party e
 /* The cycles, and then the console, which a signal ends as any program. */
 static enum status site_run(struct site *site)
 {
-    enum status status;
+    enum status status = cycles_run(site);
 
-    signals_start();
-    status = cycles_run(site);
     if (status != STATUS_DONE || !site->options->console || signals_stop())
         return status;
     signals_end();
@@ -82,13 +79,21 @@ static enum status site_operate(struct site *site)
 static enum status site_record(struct site *site, const struct inputs *inputs)
 {
     static struct records records; /* a writer that a disk holds still has it */
-    enum status status = records_open(&records, site->options, site->names, &inputs->design);
+    static struct alive alive;     /* and so has what tells that the cycles run */
+    enum status status;
     uint64_t lost;
 
+    signals_start();
+    status = records_open(&records, site->options, site->names, &inputs->design);
     site->records = &records;
+    site->alive = &alive;
+    if (status == STATUS_DONE)
+        status = alive_start(&alive, site->options->alive);
     if (status == STATUS_DONE)
         status = site->options->replay ? replay_run(site) : site_operate(site);
-    lost = records_close(&records, signals_stop());
+    alive_end(&alive);
+    /* After a refusal there is no control: nobody is waited for. */
+    lost = records_close(&records, signals_stop() || status == STATUS_REFUSED);
     if (status == STATUS_DONE && !signals_stop() && (lost > 0 || inputs->feed.broken || sources_broken(&inputs->sources)))
         return STATUS_INPUT;
     return status;
@@ -108,7 +113,7 @@ static enum status operate(const struct options *options, struct inputs *inputs)
     const struct design *design = &inputs->design;
     struct party each_label[CAISSON_LABELS];
     struct options chosen = with_parties(options, each_label, inputs);
-    struct notices notices = {.rare = options->forever};
+    struct notices notices = {.rare = options->forever, .paced = !options->fast};
     struct box box;
     struct site site = {.box = &box,
                         .trace = &inputs->trace,
@@ -119,6 +124,8 @@ static enum status operate(const struct options *options, struct inputs *inputs)
     enum status status = parties_judge(chosen.parties, chosen.party_count, design->image, &inputs->names);
     caisson_answer answer;
 
+    if (status == STATUS_DONE)
+        status = places_settle(options->places, options->place_count, chosen.parties, chosen.party_count);
     if (status != STATUS_DONE)
         return status;
     feed_start(&inputs->feed, &inputs->names, &notices, options->forever || options->limited);
@@ -181,8 +188,11 @@ static enum status outstation(const struct options *options)
 int main(int argc, char **argv)
 {
     struct options options = {0};
-    enum status status = library_judge();
+    enum status status;
 
+    streams_keep();
+    signals_start_writes();
+    status = library_judge();
     if (status == STATUS_DONE)
         status = options_read(&options, argc, argv);
     if (status == STATUS_DONE)

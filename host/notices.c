@@ -7,11 +7,13 @@
 
 #include "say.h"
 
+#define LONGEST 4000 /* characters of a line: a pipe that is ready takes so many at once */
+
 void notices_bad_line(struct notices *notices, const char *source, uint64_t line, const char *words)
 {
     (void)snprintf(notices->words, sizeof notices->words, "%s:%" PRIu64 ": %s", source, line, words);
     notices->bad++;
-    if (!notices->rare)
+    if (!notices->rare && (!notices->paced || say_is_ready()))
         say("%s\n", notices->words);
 }
 
@@ -31,28 +33,38 @@ static bool may_say(struct notices *notices)
     return true;
 }
 
-void notices_tell(struct notices *notices, uint64_t cycle, uint64_t late, const struct records *records)
+/* The line, without its line feed. */
+static bool line_make(struct text *line, const struct notices *notices, uint64_t cycle, const struct lateness *late,
+                      const struct records *records)
+{
+    int error;
+    const char *failing = records_failing(records, &error);
+    bool whole = text_add(line, "cycle %" PRIu64 ": %" PRIu64 " late cycles", cycle, late->count);
+
+    if (whole && late->count > 0)
+        whole = text_add(line, " (") && lateness_words(late, line) && text_add(line, ")");
+    if (whole)
+        whole = text_add(line, ", %" PRIu64 " lines of records lost", records_lost(records));
+    if (whole && failing != NULL)
+        whole = text_add(line, "; %s: %s", failing, sink_error(error));
+    if (whole && notices->bad > notices->bad_told)
+        whole = text_add(line, "; %" PRIu64 " lines of readings left out, the last %s", notices->bad, notices->words);
+    return whole;
+}
+
+void notices_tell(struct notices *notices, uint64_t cycle, const struct lateness *late, const struct records *records)
 {
     uint64_t lost = records_lost(records);
     struct text line = {0};
-    const char *failing;
-    int error;
-    bool whole;
 
-    if (!notices->rare || (late == notices->late && lost == notices->lost && notices->bad == notices->bad_told) ||
+    if (!notices->rare ||
+        (late->count == notices->late && lost == notices->lost && notices->bad == notices->bad_told) ||
         !may_say(notices))
         return;
-    failing = records_failing(records, &error);
-    whole = text_add(&line, "cycle %" PRIu64 ": %" PRIu64 " late cycles, %" PRIu64 " lines of records lost", cycle,
-                     late, lost);
-    if (whole && failing != NULL)
-        whole = text_add(&line, "; %s: %s", failing, sink_error(error));
-    if (whole && notices->bad > notices->bad_told)
-        whole = text_add(&line, "; %" PRIu64 " lines of readings left out, the last %s", notices->bad, notices->words);
-    if (whole)
-        say("%s\n", line.characters);
+    if (line_make(&line, notices, cycle, late, records))
+        say("%.*s\n", LONGEST, line.characters);
     text_free(&line);
-    notices->late = late;
+    notices->late = late->count;
     notices->lost = lost;
     notices->bad_told = notices->bad;
 }

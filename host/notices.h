@@ -11,12 +11,14 @@
 #include <stdint.h>
 #include <time.h>
 
+#include "lateness.h"
 #include "records.h"
 
 #define NOTICES_SECONDS 60 /* from one line to the next, at least */
 
 struct notices {
     bool rare;
+    bool paced; /* no cycle waits for standard error */
     bool any; /* one was said */
     struct timespec said;
     uint64_t late; /* what was told of each */
@@ -30,6 +32,6 @@ struct notices {
 void notices_bad_line(struct notices *notices, const char *source, uint64_t line, const char *words);
 
 /* Between two cycles: tells what is new, if it is time. */
-void notices_tell(struct notices *notices, uint64_t cycle, uint64_t late, const struct records *records);
+void notices_tell(struct notices *notices, uint64_t cycle, const struct lateness *late, const struct records *records);
 
 #endif

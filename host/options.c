@@ -10,21 +10,28 @@
 #define CONSOLE_JOURNAL 1000u    /* where a console has to do without --journal */
 
 const char options_usage[] =
-    "usage: outstation DESIGN TRACE [--fast] [--cycles N | --forever] [--every K] [--party NAME:LEVEL]...\n"
-    "                  [--records DIR] [--journal N]\n"
+    "usage: outstation DESIGN TRACE (--cycles N | --cycles trace | --forever) [--fast] [--every K]\n"
+    "                  [--party NAME:LEVEL]... [--records DIR [--group NAME=GROUP | --folder NAME=DIR]...]\n"
+    "                  [--time] [--alive FILE] [--journal N]\n"
     "       outstation DESIGN --readings - [the same options]\n"
     "       outstation DESIGN {--readings NAME=PATH --ports NAME=PORT,PORT..}... [the same options]\n"
     "       outstation DESIGN [TRACE] --console [--fast] [--cycles N] [--every K] [--party NAME:LEVEL]...\n"
     "                  [--journal N]\n"
-    "       outstation DESIGN TRACE --replay [--cycles N] [--every K] [--party NAME:LEVEL]... [--records DIR]\n"
+    "       outstation DESIGN TRACE --replay (--cycles N | --cycles trace) [--every K] [--party NAME:LEVEL]...\n"
+    "                  [--records DIR]\n"
     "  --fast              run as fast as possible, not 100 cycles a second\n"
-    "  --cycles N          stop after N cycles, not after the last cycle that the trace names\n"
+    "  --cycles N          stop after N cycles\n"
+    "  --cycles trace      stop after the last cycle that has a reading, whoever's it is\n"
     "  --forever           run on until SIGTERM or SIGINT, whatever the readings; at most a message a minute\n"
     "  --every K           a sample after each K cycles, not after each cycle\n"
     "  --party NAME:LEVEL  a flow record at this label, by its name or number, not one for each label; may be\n"
     "                      repeated\n"
     "  --records DIR       a file DIR/NAME.record for each party, not standard output; no cycle waits for it,\n"
     "                      and SIGHUP opens the files anew\n"
+    "  --group NAME=GROUP  the record of this party is a file that only this group may read\n"
+    "  --folder NAME=DIR   and stands in this folder\n"
+    "  --time              records have the time at which a cycle was due\n"
+    "  --alive FILE        touch this file each second while the cycles run\n"
     "  --readings -        readings from standard input as they come, not from a trace\n"
     "  --readings NAME=PATH  readings of one sender, from a FIFO, a file or a device of its own; may be repeated\n"
     "  --ports NAME=PORT,PORT..  the ports that this sender may write, by name or number; no other may\n"
@@ -102,13 +109,29 @@ static enum status ports_add(struct options *options, const char *text)
     return STATUS_DONE;
 }
 
+static enum status place_add(struct options *options, const char *name, const char *value)
+{
+    bool group = strcmp(name, "--group") == 0;
+
+    if (!place_read(&options->places[options->place_count], value, group))
+        return group ? wrong("--group takes NAME=GROUP, a party and a group of the system, not ", value)
+                     : wrong("--folder takes NAME=DIR, a party and a folder, not ", value);
+    options->place_count++;
+    return STATUS_DONE;
+}
+
 /* An option with a value. */
 static enum status valued_read(struct options *options, const char *name, const char *value)
 {
     if (strcmp(name, "--cycles") == 0) {
-        options->limited = true;
-        if (!number_read_all(value, UINT64_MAX, &options->cycles))
-            return wrong("--cycles takes a number of cycles, not ", value);
+        options->whole = strcmp(value, "trace") == 0;
+        options->limited = !options->whole;
+        if (options->limited && !number_read_all(value, UINT64_MAX, &options->cycles))
+            return wrong("--cycles takes a number of cycles or `trace`, not ", value);
+    } else if (strcmp(name, "--group") == 0 || strcmp(name, "--folder") == 0) {
+        return place_add(options, name, value);
+    } else if (strcmp(name, "--alive") == 0) {
+        options->alive = value;
     } else if (strcmp(name, "--every") == 0) {
         if (!number_read_all(value, UINT64_MAX, &options->every) || options->every == 0)
             return wrong("--every takes a number of cycles from 1 on, not ", value);
@@ -144,7 +167,8 @@ static bool takes_value(const char *name)
 {
     return strcmp(name, "--cycles") == 0 || strcmp(name, "--every") == 0 || strcmp(name, "--party") == 0 ||
            strcmp(name, "--journal") == 0 || strcmp(name, "--records") == 0 || strcmp(name, "--readings") == 0 ||
-           strcmp(name, "--ports") == 0;
+           strcmp(name, "--ports") == 0 || strcmp(name, "--group") == 0 || strcmp(name, "--folder") == 0 ||
+           strcmp(name, "--alive") == 0;
 }
 
 /* An option without a value; false where it is none. */
@@ -158,6 +182,8 @@ static bool flag_read(struct options *options, const char *name)
         options->replay = true;
     else if (strcmp(name, "--forever") == 0)
         options->forever = true;
+    else if (strcmp(name, "--time") == 0)
+        options->timed = true;
     else if (strcmp(name, "--help") == 0)
         options->help = true;
     else
@@ -199,7 +225,7 @@ static const char *sources_contradiction(const struct options *options)
     if (options->console || options->replay)
         return "--readings NAME=PATH goes with neither --console nor --replay";
     if (!options->forever && !options->limited)
-        return "with --readings NAME=PATH either --cycles or --forever says how many cycles there are";
+        return "with --readings NAME=PATH either --cycles N or --forever says how many cycles there are";
     return NULL;
 }
 
@@ -218,7 +244,7 @@ static const char *contradiction(const struct options *options)
         return "--console takes standard input, and so does --readings";
     if (options->console && (options->forever || options->records != NULL))
         return "--console shows the records of cycles that end: neither --forever nor --records goes with it";
-    if (options->forever && options->limited)
+    if (options->forever && (options->limited || options->whole))
         return "either --cycles or --forever";
     if (options->feed && options->trace != NULL)
         return "readings come from a trace or from standard input, not from both";
@@ -226,6 +252,13 @@ static const char *contradiction(const struct options *options)
         return "a design is needed";
     if (options->trace == NULL && !options->console && !options->feed && options->source_count == 0)
         return "a design and a trace are needed";
+    if (options->place_count > 0 && options->records == NULL)
+        return "--group and --folder are for files: --records is needed";
+    if ((options->timed || options->alive != NULL) && (options->fast || options->replay || options->console))
+        return "--time and --alive are for cycles that keep time: neither --fast nor --replay nor --console goes with "
+               "them";
+    if (!options->whole && !options->limited && !options->forever && !options->console)
+        return "how many cycles? --cycles N, --cycles trace or --forever says it";
     return NULL;
 }
 
@@ -237,7 +270,8 @@ enum status options_read(struct options *options, int argc, char **argv)
     /* No more parties and sources than arguments, and at least one, since room for none may be NULL. */
     options->parties = calloc((size_t)argc + 1, sizeof *options->parties);
     options->sources = calloc((size_t)argc + 1, sizeof *options->sources);
-    if (options->parties == NULL || options->sources == NULL)
+    options->places = calloc((size_t)argc + 1, sizeof *options->places);
+    if (options->parties == NULL || options->sources == NULL || options->places == NULL)
         return wrong("no memory for the options", "");
     for (int at = 1; at < argc;) {
         enum status status = argument_read(options, argc, argv, at, &at);
@@ -252,6 +286,9 @@ enum status options_read(struct options *options, int argc, char **argv)
         return wrong(against, "");
     if (options->console && options->journal == 0)
         options->journal = CONSOLE_JOURNAL;
+    /* A console begins at once where no cycles before it are asked for. */
+    if (options->console && !options->whole)
+        options->limited = true;
     return STATUS_DONE;
 }
 
@@ -259,5 +296,6 @@ void options_free(struct options *options)
 {
     free(options->parties);
     free(options->sources);
+    free(options->places);
     *options = (struct options){0};
 }

@@ -5,6 +5,7 @@
 #include <stdbool.h>
 
 #include "parties.h"
+#include "places.h"
 #include "source.h"
 #include "status.h"
 
@@ -17,6 +18,7 @@ struct options {
     const char *records; /* a folder for the parties' files; NULL: standard output */
     bool help;          /* only say how the program is used */
     bool fast;          /* do not wait between cycles */
+    bool whole;         /* to the last cycle that has a reading */
     bool limited;       /* `cycles` was given */
     uint64_t cycles;    /* how many to run */
     bool forever;       /* until a signal */
@@ -24,6 +26,10 @@ struct options {
     bool replay;        /* through caisson_replay, not by port writes and runs */
     bool console;       /* take commands afterwards */
     uint64_t journal;   /* keep a journal of so many cycles; 0: none */
+    bool timed;         /* records have the time at which a cycle was due */
+    const char *alive;  /* a file to touch while the cycles run; NULL: none */
+    struct place *places; /* folders and groups of parties' own */
+    size_t place_count;
     struct party *parties;
     size_t party_count; /* 0: one party for each label */
 };

@@ -3,6 +3,7 @@
 #define PARTIES_H
 
 #include <stdbool.h>
+#include <sys/types.h>
 
 #include "caisson.h"
 #include "names.h"
@@ -15,6 +16,9 @@ struct party {
     size_t name_length; /* from 1 to PARTY_LONGEST_NAME */
     const char *level_name; /* the label as it was given by name; NULL: by number */
     uint32_t level; /* a label; of one given by name not before parties_judge */
+    const char *folder; /* for its record; NULL: the common one */
+    bool grouped;       /* its record has a group of its own */
+    gid_t group;
 };
 
 /* How many characters of a text are those of a name, from its start: letters, digits, and the signs - _ . */

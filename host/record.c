@@ -1,11 +1,9 @@
 #include "record.h"
 
-#include <errno.h>
 #include <inttypes.h>
 #include <stdarg.h>
-#include <stdio.h>
-#include <string.h>
 
+#include "output.h"
 #include "say.h"
 #include "table.h"
 
@@ -46,11 +44,12 @@ static bool states_add(struct text *text, const struct box *box, const struct na
 }
 
 bool record_add(struct text *text, const struct box *box, const struct names *names, uint64_t cycle,
-                const struct party *party)
+                const char *when, const struct party *party)
 {
     size_t registers = box_registers(box);
 
-    if (!text_add(text, "cycle %" PRIu64 " party %.*s:", cycle, (int)party->name_length, party->name))
+    if (!text_add(text, "cycle %" PRIu64 "%s%s party %.*s:", cycle, when[0] == '\0' ? "" : " at ", when,
+                  (int)party->name_length, party->name))
         return false;
     for (size_t reg = 0; reg < registers; reg++) {
         if (table_sees(box->image, party->level, reg) &&
@@ -63,24 +62,23 @@ bool record_add(struct text *text, const struct box *box, const struct names *na
     return text_add(text, "\n");
 }
 
-static enum status not_written(void)
-{
-    say("standard output: cannot be written: %s\n", strerror(errno));
-    return STATUS_INPUT;
-}
-
 enum status record_line(const char *format, ...)
 {
+    struct text line = {0};
+    enum status status = STATUS_INPUT;
     va_list arguments;
-    int written;
 
     va_start(arguments, format);
-    written = vprintf(format, arguments);
+    if (text_add_list(&line, format, arguments))
+        status = output_add(line.characters, line.length);
+    else
+        say("no memory for a line\n");
     va_end(arguments);
-    return written < 0 ? not_written() : STATUS_DONE;
+    text_free(&line);
+    return status;
 }
 
 enum status record_flush(void)
 {
-    return fflush(stdout) == 0 ? STATUS_DONE : not_written();
+    return output_flush();
 }

@@ -11,11 +11,11 @@
 /*
  * Adds the line of a party after a cycle, with the registers at or below its level and no other, and of a design
  * with parameters the states that it may have seen run, with the registers bound to them. By name where there are
- * names. False where there is no memory.
+ * names, and with the time of the cycle unless that is empty. False where there is no memory.
  */
 CAISSON_LOOK_AT_ANSWER
 bool record_add(struct text *text, const struct box *box, const struct names *names, uint64_t cycle,
-                const struct party *party);
+                const char *when, const struct party *party);
 
 /* Writes beside the records, for a console. STATUS_INPUT, with a message, where it cannot be written. */
 #if defined(__GNUC__) || defined(__clang__)

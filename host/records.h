@@ -2,6 +2,8 @@
 #ifndef RECORDS_H
 #define RECORDS_H
 
+#include <time.h>
+
 #include "box.h"
 #include "design.h"
 #include "names.h"
@@ -15,9 +17,11 @@ struct records {
     size_t count;
     const struct names *names;
     struct text line;
-    struct sink *sinks;   /* one for each party; NULL: standard output */
-    struct writer writer; /* of the sinks */
-    bool paced;           /* a line that does not fit is dropped at once; else it is waited for, a second */
+    struct sink *sinks;     /* one for each party; NULL: standard output */
+    struct writer *writers; /* of the sinks, one for each */
+    bool paced;             /* a line that does not fit is dropped at once; else it is waited for, a second */
+    bool timed;             /* lines have the time at which their cycle was due */
+    struct timespec first;  /* when cycle 1 was due, on the wall clock */
 };
 
 /*
@@ -41,11 +45,14 @@ enum status records_flush(struct records *records);
 /* Opens the files anew, if there are any, before this cycle. */
 void records_reopen(struct records *records, uint64_t cycle);
 
-/* How many lines were lost so far, and of the last file that does not take its lines now, path and error. */
+/* Between two cycles, the next of which is given: what is due of the files, and says which could not be opened anew. */
+void records_pass(struct records *records, uint64_t cycle);
+
+/* How many lines were lost so far, and of the first file that does not take its lines now, path and error. */
 uint64_t records_lost(const struct records *records);
 const char *records_failing(const struct records *records, int *error);
 
-/* Writes what is left, for a second at most or, if it is not hurried, for as long as the files take something each
+/* Writes what is left, for a second at most or, if it is not hurried, for as long as a file takes something each
    second; and says for each file how many lines it has and how many were lost. Answers how many in all. */
 uint64_t records_close(struct records *records, bool hurried);
 

@@ -5,6 +5,7 @@
 
 #include "refusals.h"
 #include "say.h"
+#include "signals.h"
 #include "table.h"
 
 struct replay {
@@ -98,7 +99,7 @@ static uint32_t lower(uint64_t left, uint64_t right)
 /* How many cycles one replay makes at most. */
 static uint32_t longest(const struct replay *replay)
 {
-    return lower(CAISSON_CYCLES, replay->last - replay->site->done);
+    return lower(CYCLES_AT_ONCE, replay->last - replay->site->done);
 }
 
 /* How many to the next sample. Of a design with parameters the last cycle before it is replayed by itself, since
@@ -125,7 +126,7 @@ static enum status rehearse(const struct replay *replay)
     copy.site = &site;
     do
         status = part(&copy, longest(&copy));
-    while (status == STATUS_DONE && site.done < copy.last);
+    while (status == STATUS_DONE && site.done < copy.last && !signals_stop());
     return status;
 }
 
@@ -134,9 +135,12 @@ static enum status step(struct replay *replay)
     const struct site *site = replay->site;
     enum status status = part(replay, to_sample(replay));
 
-    if (status != STATUS_DONE || site->done % site->options->every != 0)
-        return status;
-    return records_sample(site->records, site->box, site->done);
+    if (status == STATUS_DONE && site->done % site->options->every == 0)
+        status = records_sample(site->records, site->box, site->done);
+    if (signals_reopen())
+        records_reopen(site->records, site->done + 1);
+    records_pass(site->records, site->done + 1);
+    return status;
 }
 
 static enum status run(struct replay *replay)
@@ -146,7 +150,7 @@ static enum status run(struct replay *replay)
 
     if (status != STATUS_DONE)
         return status;
-    while (status == STATUS_DONE && site->done < replay->last)
+    while (status == STATUS_DONE && site->done < replay->last && !signals_stop())
         status = step(replay);
     if (status == STATUS_DONE)
         status = records_flush(site->records);

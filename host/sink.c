@@ -3,42 +3,21 @@
 #include "sink.h"
 
 #include <errno.h>
-#include <fcntl.h>
 #include <inttypes.h>
 #include <stdio.h>
 #include <stdlib.h>
 #include <string.h>
-#include <sys/stat.h>
 #include <unistd.h>
 
+#include "record_file.h"
 #include "say.h"
 
 #define GAP_ROOM 80u /* bytes of the line of a gap at most */
 
-/* A regular file is also read, for its last byte. A pipe must not be, or it would be its own reader. */
-static int file_open(const char *path)
-{
-    struct stat found;
-    int how = O_APPEND | O_CLOEXEC;
-
-    if (stat(path, &found) == 0 && !S_ISREG(found.st_mode))
-        return open(path, how | O_WRONLY | O_NONBLOCK);
-    return open(path, how | O_RDWR | O_CREAT, S_IRUSR | S_IWUSR | S_IRGRP);
-}
-
-/* Whether a file ends in the midst of a line, as a power failure may leave it. */
-static bool ends_in_line(int file)
-{
-    off_t end = lseek(file, 0, SEEK_END);
-    char last;
-
-    return end > 0 && pread(file, &last, 1, end - 1) == 1 && last != '\n';
-}
-
-/* The same of a pipe, which nobody can look back into. */
+/* A pipe, which nobody can look back into, is cut where a line was. */
 static bool cuts_line(const struct sink *sink, int file)
 {
-    return ends_in_line(file) || (sink->sent > 0 && lseek(file, 0, SEEK_CUR) < 0);
+    return record_file_ends_in_line(file) || (sink->sent > 0 && lseek(file, 0, SEEK_CUR) < 0);
 }
 
 /* The first line at once and whole, with a cycle where the file continues another; 0 or the reason why not. */
@@ -60,15 +39,16 @@ static int first_write(const struct sink *sink, int file, uint64_t cycle)
 enum status sink_open(struct sink *sink)
 {
     const char *path = sink->path.characters;
+    int reason;
 
     sink->memory = malloc(SINK_MEMORY);
-    sink->file = file_open(path);
+    sink->file = record_file_open(path, sink->group, &reason);
     if (sink->memory == NULL) {
         say("%s: no memory for its lines\n", path);
         return STATUS_INPUT;
     }
     if (sink->file < 0) {
-        say("%s: cannot be opened: %s\n", path, errno == ENXIO ? "nobody reads this pipe" : strerror(errno));
+        say("%s: cannot be opened: %s\n", path, record_file_reason(reason));
         return STATUS_INPUT;
     }
     return STATUS_DONE;
@@ -128,22 +108,40 @@ static void gap_put(struct sink *sink, size_t *head)
     sink->gap_first = 0;
 }
 
-bool sink_put(struct sink *sink, const struct text *line, uint64_t cycle)
+static void reason_keep(struct sink *sink, int reason)
 {
-    size_t head = atomic_load(&sink->head);
+    for (size_t i = 0; i < sink->reason_count; i++) {
+        if (sink->reasons[i] == reason)
+            return;
+    }
+    if (sink->reason_count < SINK_REASONS)
+        sink->reasons[sink->reason_count++] = reason;
+}
 
+static void drop(struct sink *sink, uint64_t cycle)
+{
+    if (sink->gap_first == 0)
+        sink->gap_first = cycle;
+    sink->gap_last = cycle;
+    sink->lost++;
+    reason_keep(sink, atomic_load(&sink->last));
+}
+
+bool sink_put(struct sink *sink, const struct text *line, uint64_t cycle, bool *woken)
+{
+    size_t before = atomic_load(&sink->head);
+    size_t head = before;
+
+    *woken = false;
     if (!sink_has_room(sink, line->length)) {
-        if (sink->gap_first == 0)
-            sink->gap_first = cycle;
-        if (sink->lost == 0)
-            sink->why = atomic_load(&sink->last);
-        sink->gap_last = cycle;
-        sink->lost++;
+        drop(sink, cycle);
         return false;
     }
     gap_put(sink, &head);
     bytes_put(sink, &head, line->characters, line->length);
     atomic_store(&sink->head, head);
+    /* Looked at behind the head: a writer that has missed this line has taken all before it. */
+    *woken = atomic_load(&sink->tail) == before;
     sink->lines++;
     return true;
 }
@@ -199,28 +197,39 @@ static bool write_up_to(struct sink *sink, size_t end)
             return any;
         }
         atomic_store(&sink->last, 0);
+        atomic_fetch_add(&sink->taken, (size_t)written);
         sent_add(sink, (size_t)written);
         any = true;
     }
 }
 
-bool sink_write(struct sink *sink)
+/* The first cycle that is still in the memory, which a line or a gap begins with; else that of the mark. */
+static uint64_t next_cycle(const struct sink *sink)
 {
-    return write_up_to(sink, atomic_load(&sink->head));
+    size_t at = atomic_load(&sink->tail);
+    uint64_t cycle = 0;
+
+    if (at == sink->mark)
+        return sink->cycle;
+    while (sink->memory[at % SINK_MEMORY] < '0' || sink->memory[at % SINK_MEMORY] > '9')
+        at++;
+    for (char digit; digit = sink->memory[at % SINK_MEMORY], digit >= '0' && digit <= '9'; at++)
+        cycle = 10 * cycle + (uint64_t)(digit - '0');
+    return cycle;
 }
 
-int sink_reopen(struct sink *sink, uint64_t cycle)
+static int reopen(struct sink *sink)
 {
-    size_t mark = atomic_load(&sink->mark);
     int file, error;
 
-    if (mark > atomic_load(&sink->tail) + sink->sent)
-        (void)write_up_to(sink, mark);
-    file = file_open(sink->path.characters);
-    error = file < 0 ? errno : first_write(sink, file, cycle);
+    if (sink->mark > atomic_load(&sink->tail) + sink->sent)
+        (void)write_up_to(sink, sink->mark);
+    file = record_file_open(sink->path.characters, sink->group, &error);
+    if (file < 0)
+        return error;
+    error = first_write(sink, file, next_cycle(sink));
     if (error != 0) {
-        if (file >= 0)
-            (void)close(file);
+        (void)close(file);
         return error;
     }
     (void)close(sink->file);
@@ -229,16 +238,56 @@ int sink_reopen(struct sink *sink, uint64_t cycle)
     return 0;
 }
 
-const char *sink_error(int error)
+bool sink_ask(struct sink *sink, uint64_t cycle)
 {
-    if (error == 0)
-        return "it takes its lines too slowly";
-    return error == EAGAIN || error == EWOULDBLOCK ? "its reader does not read" : strerror(error);
+    if (atomic_load(&sink->asked) != atomic_load(&sink->opened))
+        return false;
+    sink->mark = atomic_load(&sink->head);
+    sink->cycle = cycle;
+    atomic_fetch_add(&sink->asked, 1);
+    return true;
+}
+
+bool sink_write(struct sink *sink)
+{
+    /* The head before the question: lines behind a mark are put in behind it. */
+    size_t end = atomic_load(&sink->head);
+    unsigned asked = atomic_load(&sink->asked);
+
+    if (asked != atomic_load(&sink->opened)) {
+        int error = reopen(sink);
+
+        if (error != 0)
+            atomic_store(&sink->refusal, error);
+        atomic_store(&sink->opened, asked);
+    }
+    return end - atomic_load(&sink->tail) > sink->sent && write_up_to(sink, end);
 }
 
 bool sink_is_empty(const struct sink *sink)
 {
     return atomic_load(&sink->head) == atomic_load(&sink->tail);
+}
+
+bool sink_is_idle(const struct sink *sink)
+{
+    return sink_is_empty(sink) && atomic_load(&sink->asked) == atomic_load(&sink->opened);
+}
+
+const char *sink_error(int error)
+{
+    if (error == 0)
+        return "it takes its lines too slowly";
+    return error == EAGAIN || error == EWOULDBLOCK ? "its reader does not read" : record_file_reason(error);
+}
+
+bool sink_reasons(const struct sink *sink, struct text *words)
+{
+    bool whole = sink->reason_count > 0 || text_add(words, "%s", sink_error(atomic_load(&sink->last)));
+
+    for (size_t i = 0; whole && i < sink->reason_count; i++)
+        whole = text_add(words, "%s%s", i == 0 ? "" : ", ", sink_error(sink->reasons[i]));
+    return whole;
 }
 
 uint64_t sink_unwritten(const struct sink *sink)

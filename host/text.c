@@ -1,6 +1,5 @@
 #include "text.h"
 
-#include <stdarg.h>
 #include <stdio.h>
 #include <stdlib.h>
 
@@ -19,14 +18,24 @@ static bool text_grow(struct text *text, size_t more)
 bool text_add(struct text *text, const char *format, ...)
 {
     va_list arguments;
+    bool whole;
 
+    va_start(arguments, format);
+    whole = text_add_list(text, format, arguments);
+    va_end(arguments);
+    return whole;
+}
+
+bool text_add_list(struct text *text, const char *format, va_list arguments)
+{
     for (;;) {
         size_t room = text->room - text->length;
+        va_list again;
         int more;
 
-        va_start(arguments, format);
-        more = vsnprintf(room > 0 ? text->characters + text->length : NULL, room, format, arguments);
-        va_end(arguments);
+        va_copy(again, arguments);
+        more = vsnprintf(room > 0 ? text->characters + text->length : NULL, room, format, again);
+        va_end(again);
         if (more < 0)
             return false;
         /* The NUL behind it takes room too. */

@@ -2,6 +2,7 @@
 #ifndef TEXT_H
 #define TEXT_H
 
+#include <stdarg.h>
 #include <stdbool.h>
 #include <stddef.h>
 
@@ -17,6 +18,8 @@ struct text {
 __attribute__((format(printf, 2, 3)))
 #endif
 bool text_add(struct text *text, const char *format, ...);
+
+bool text_add_list(struct text *text, const char *format, va_list arguments);
 
 void text_free(struct text *text);
 

@@ -2,86 +2,90 @@
 
 #include "writer.h"
 
-#include <signal.h>
 #include <string.h>
-#include <time.h>
 
 #include "say.h"
+#include "signals.h"
 
-#define STOP_PAUSES 40 /* how long to wait for the thread to end */
+#define OVER (THREAD_SECOND + 40) /* pauses without a byte after which a disk holds the thread */
 
-void writer_pause(void)
+/* What is left, and a gap at the end. */
+static void drain(struct writer *writer)
 {
-    (void)nanosleep(&(struct timespec){.tv_nsec = WRITER_PAUSE}, NULL);
-}
+    struct sink *sink = writer->sink;
 
-static void all_reopen(struct writer *writer)
-{
-    uint64_t cycle = atomic_load(&writer->cycle);
+    for (long pauses = 0; pauses < THREAD_SECOND; pauses++) {
+        bool any = sink_write(sink);
 
-    for (size_t i = 0; i < writer->count; i++) {
-        int error = sink_reopen(&writer->sinks[i], cycle);
-
-        if (error != 0 && say_is_ready())
-            say("%s: cannot be opened anew: %s; the old file is written on\n", writer->sinks[i].path.characters,
-                sink_error(error));
+        sink_end_gap(sink);
+        if (sink_is_idle(sink))
+            return;
+        if (any && !atomic_load(&writer->hurried))
+            pauses = 0;
+        thread_pause();
     }
 }
 
 static void *write_all(void *argument)
 {
     struct writer *writer = argument;
-    unsigned seen = 0;
+    struct sink *sink = writer->sink;
 
-    while (!atomic_load(&writer->stop)) {
-        unsigned asked = atomic_load(&writer->asked);
-        bool any = false;
+    while (!atomic_load(&writer->ending)) {
+        bool any = sink_write(sink);
 
-        if (asked != seen)
-            all_reopen(writer);
-        seen = asked;
-        for (size_t i = 0; i < writer->count; i++)
-            any |= sink_write(&writer->sinks[i]);
-        if (!any)
-            writer_pause();
+        if (sink_is_idle(sink))
+            (void)sem_wait(&writer->wake);
+        else if (!any)
+            thread_pause();
     }
+    drain(writer);
     atomic_store(&writer->ended, true);
     return NULL;
 }
 
-enum status writer_start(struct writer *writer, struct sink *sinks, size_t count)
+enum status writer_start(struct writer *writer, struct sink *sink)
 {
-    sigset_t all, before;
     int error;
 
-    *writer = (struct writer){.sinks = sinks, .count = count};
-    /* Signals are for the cycles. */
-    (void)sigfillset(&all);
-    (void)pthread_sigmask(SIG_SETMASK, &all, &before);
-    error = pthread_create(&writer->thread, NULL, write_all, writer);
-    (void)pthread_sigmask(SIG_SETMASK, &before, NULL);
-    if (error == 0)
+    *writer = (struct writer){.sink = sink};
+    (void)sem_init(&writer->wake, 0, 0);
+    error = thread_start(&writer->thread, write_all, writer);
+    writer->started = error == 0;
+    if (writer->started)
         return STATUS_DONE;
-    say("no thread for the records: %s\n", strerror(error));
+    say("%s: no thread to write it: %s\n", sink->path.characters, strerror(error));
     return STATUS_INPUT;
 }
 
-void writer_reopen(struct writer *writer, uint64_t cycle)
+void writer_wake(struct writer *writer)
 {
-    for (size_t i = 0; i < writer->count; i++)
-        atomic_store(&writer->sinks[i].mark, atomic_load(&writer->sinks[i].head));
-    atomic_store(&writer->cycle, cycle);
-    atomic_fetch_add(&writer->asked, 1);
+    /* Where it was woken too often to count, it is awake. */
+    (void)sem_post(&writer->wake);
 }
 
-bool writer_stop(struct writer *writer)
+void writer_end(struct writer *writer, bool hurried)
 {
-    atomic_store(&writer->stop, true);
-    for (int i = 0; i < STOP_PAUSES && !atomic_load(&writer->ended); i++)
-        writer_pause();
-    if (!atomic_load(&writer->ended)) {
-        (void)pthread_detach(writer->thread);
-        return false;
+    atomic_store(&writer->hurried, hurried);
+    atomic_store(&writer->ending, true);
+    writer_wake(writer);
+}
+
+bool writer_is_over(struct writer *writer)
+{
+    size_t taken;
+
+    if (!writer->started)
+        return true;
+    if (atomic_load(&writer->ended)) {
+        (void)pthread_join(writer->thread, NULL);
+        writer->started = false;
+        return true;
     }
-    return pthread_join(writer->thread, NULL) == 0;
+    taken = atomic_load(&writer->sink->taken);
+    writer->pauses = taken == writer->taken ? writer->pauses + 1 : 0;
+    writer->taken = taken;
+    if (writer->pauses == 0)
+        signals_progress();
+    return writer->pauses > OVER;
 }

@@ -1,40 +1,44 @@
 /*
- * writer.h: the thread that writes the records, so that no cycle waits for a disk.
+ * writer.h: the thread that writes one party's record, so that no cycle and no other party waits for its file.
  *
- * Pipes are not waited for either: one that is full is tried again a little later. A disk may hold this thread, but
- * then it holds all files, since they lie in one folder.
+ * A disk may hold the thread. A pipe is not waited for: one that is full is tried again a little later.
  */
 #ifndef WRITER_H
 #define WRITER_H
 
 #include <pthread.h>
+#include <semaphore.h>
 #include <stdatomic.h>
 
 #include "sink.h"
-
-#define WRITER_PAUSE 5000000L /* nanoseconds until a file that took nothing is tried again */
+#include "threads.h"
 
 struct writer {
-    struct sink *sinks;
-    size_t count;
+    struct sink *sink;
     pthread_t thread;
-    atomic_bool stop;
+    bool started;
+    sem_t wake; /* that there is something to do */
+    atomic_bool ending;
+    atomic_bool hurried;
     atomic_bool ended;
-    atomic_uint asked;      /* how often the files were to be opened anew */
-    _Atomic uint64_t cycle; /* for their first lines */
+    /* Of who waits for its end. */
+    size_t taken; /* bytes, as they were seen last */
+    long pauses;  /* since it was seen to take any */
 };
 
-/* STATUS_INPUT, with a message, where there is no thread. The sinks must be open. */
+/* STATUS_INPUT, with a message, where there is no thread. The sink must be open. */
 CAISSON_LOOK_AT_ANSWER
-enum status writer_start(struct writer *writer, struct sink *sinks, size_t count);
+enum status writer_start(struct writer *writer, struct sink *sink);
 
-/* Opens all files anew, each behind what was put into its sink so far. */
-void writer_reopen(struct writer *writer, uint64_t cycle);
+/* That the sink has something to write or to open; does not wait. */
+void writer_wake(struct writer *writer);
 
-/* Ends it. False where a disk holds it: the sinks must then be left as they are. */
-CAISSON_LOOK_AT_ANSWER
-bool writer_stop(struct writer *writer);
+/* Ends it once it has written what is left: for a second at most or, if it is not hurried, for as long as its file
+   takes something each second. No line may be put in any more. */
+void writer_end(struct writer *writer, bool hurried);
 
-void writer_pause(void);
+/* Whether it has ended, or a disk holds it so that it is not waited for; called with a pause between. The sink must
+   be left as it is unless it has ended. */
+bool writer_is_over(struct writer *writer);
 
 #endif

@@ -56,7 +56,7 @@ runs_by_name() {
 # What is said of the console's commands on the named design.
 console_says() {
     printf '%b' "$1" >"$made/commands"
-    "${under[@]}" $host "$names/two_groups.table" --console <"$made/commands" >"$made/out" 2>&1 ||
+    outstation "$names/two_groups.table" --console <"$made/commands" >"$made/out" 2>&1 ||
         fail "a console by name: $(cat "$made/out")"
     tail -n +3 "$made/out" | diff <(printf '%s\n' "$2") - >&2 || fail "a console by name on: $1"
     runs=$((runs + 1))
@@ -69,7 +69,7 @@ commands_by_name() {
     console_says 'write timer 7' "refused by rule 13 at register 0 (timer): A port write or a record of a port trace \
 names a register that does not exist or that is inner."
     printf 'help\n' >"$made/commands"
-    "${under[@]}" $host "$names/two_groups.table" --console <"$made/commands" 2>"$made/err" |
+    outstation "$names/two_groups.table" --console <"$made/commands" 2>"$made/err" |
         grep -q '^write .*write a port: its name, 2 or r2, ' || fail "help without names"
     # A name comes first, also one that looks as a number does elsewhere.
     cp $designs/lease.table "$names/exchanged.table"
@@ -77,7 +77,7 @@ names a register that does not exist or that is inner."
         sed 's/register 0 timer/register 0 r1/; s/register 1 wish/register 1 r0/' |
         testdata/summed >"$names/exchanged.table.names"
     printf 'write r0 5\nshow\n' >"$made/commands"
-    "${under[@]}" $host "$names/exchanged.table" --console --party a:high <"$made/commands" >"$made/out" 2>&1 ||
+    outstation "$names/exchanged.table" --console --party a:high <"$made/commands" >"$made/out" 2>&1 ||
         fail "exchanged names: $(cat "$made/out")"
     grep -qx 'cycle 0 party a: r1=3 r0=5' "$made/out" || fail "exchanged names: $(cat "$made/out")"
 }

@@ -3,7 +3,7 @@
 
 # Tries a command until it succeeds. The time is there to end a test that fails, not to be measured.
 awaits() {
-    for ((try = 0; try < 400; try++)); do
+    for ((try = 0; try < 1200; try++)); do
         if "$@"; then return; fi
         sleep 0.05
     done
@@ -14,6 +14,19 @@ awaits() {
 folder() {
     rm -rf "$made/records"
     mkdir "$made/records"
+}
+
+# The last cycle in the south's file.
+reached() {
+    tail -n 1 "$made/records/south.record" | sed -nE 's/^cycle ([0-9]+) .*/\1/p'
+}
+
+# Waits for so many more cycles in the south's file.
+cycles_more() {
+    local last=
+    awaits has '^cycle' "$made/records/south.record"
+    while [ -z "$last" ]; do last=$(reached); done
+    awaits has "^cycle $((last + $1)) " "$made/records/south.record"
 }
 
 # Prints how many cycles a record says it lost, or what is wrong: it is to have every other cycle from its first on.
@@ -48,21 +61,23 @@ first_lines() {
         records /dev/null "$names/two_groups.table" two_groups.trace --fast --party south:low --party north:high \
             --records "$made/records"
         grep -qx "$made/records/south.record: 16 lines, 0 lost" "$made/err" || fail "$(cat "$made/err")"
+        # The sum of the whole design is for who operates the box.
+        grep -qx "$names/two_groups.table: design sha256 $sum" "$made/err" || fail "no sum: $(cat "$made/err")"
+        ! grep -rq "$sum" "$made/records" || fail "a party's file has the sum of the whole design"
     done
     for party in 'south low' 'north high'; do
         read -r name level <<<"$party"
         grep "party $name:" two_groups.expected >"$made/expected"
         # The first lines in the place of what they are to be.
-        sed -E "s/^# caisson record, party $name, level $level, design sha256 $sum, library [0-9.]+, started \
+        sed -E "s/^# caisson record, party $name, level $level, library [0-9.]+, started \
 20[0-9]{2}-[01][0-9]-[0-3][0-9]T[0-2][0-9]:[0-5][0-9]:[0-6][0-9]Z\$/first/" "$made/records/$name.record" |
             diff <(echo first; cat "$made/expected"; echo first; cat "$made/expected") - >&2 || fail "$name.record"
     done
-    # By number; another design in the same folder has another sum. A line that was cut is ended.
+    # By number. A line that was cut is ended.
     printf 'cycle 9 par' >"$made/records/a.record"
     records /dev/null $designs/lease.table $numbers/lease.trace --replay --records "$made/records" --party a:1
-    sed -n 2p "$made/records/a.record" | grep -q "^# caisson record, party a, level 1, design sha256 \
-$(sha256sum <../designs/lease.table | cut -d ' ' -f 1), library " || fail "$(cat "$made/records/a.record")"
-    $host $designs/lease.table $numbers/lease.trace --fast --party a:1 2>"$made/err" |
+    sed -n 2p "$made/records/a.record" | grep -q "^# caisson record, party a, level 1, library " || fail "$(cat "$made/records/a.record")"
+    plainly $designs/lease.table $numbers/lease.trace --fast --party a:1 2>"$made/err" |
         diff - <(tail -n +3 "$made/records/a.record") ||
         fail "a.record has other lines than standard output"
     [ "$(stat -c %a "$made/records/a.record")" != 666 ] || fail "a record that everybody may write"
@@ -79,7 +94,8 @@ not_started() {
 
 wrong_folders() {
     rm -rf "$made/records"
-    not_started 'south.record: cannot be opened: No such file or directory'
+    says 2 "$made/records: cannot be kept for this host: No such file or directory" "$names/two_groups.table" \
+        two_groups.trace --fast --records "$made/records"
     folder
     mkdir "$made/records/north.record"
     not_started 'north.record: cannot be opened: Is a directory'
@@ -91,8 +107,13 @@ wrong_folders() {
     not_started 'south.record: cannot be written: No space left on device'
     folder
     : >"$made/file"
-    says 2 "$made/file/low.record: cannot be opened: Not a directory" "$names/two_groups.table" two_groups.trace --fast \
-        --records "$made/file"
+    says 2 "$made/file: cannot be kept for this host: Not a directory" "$names/two_groups.table" two_groups.trace \
+        --fast --records "$made/file"
+    # A slip of typing is not followed, nor is a link out of the folder.
+    folder
+    ln -s "$made/nothing" "$made/records/south.record"
+    not_started 'south.record: cannot be opened: it is a link to nothing'
+    [ ! -e "$made/nothing" ] || fail "a link was followed"
 }
 
 # A design whose lines are long for the north, so that its file or pipe is soon full, and short for the south.
@@ -107,8 +128,8 @@ long_lines() {
 # Starts a box that runs on, with a record for the south and one for the north, and more options. It must not have the
 # test's end of a pipe, or it would be its own reader.
 start_box() {
-    "${under[@]}" $host "$names/${box_design:-long}.table" $numbers/two_groups.trace --forever --party south:low \
-        --party north:high --records "$made/records" "$@" 2>"$made/err" {reader}>&- &
+    "${under[@]}" ${box_host:-$host} "$names/${box_design:-long}.table" $numbers/two_groups.trace --forever \
+        --party south:low --party north:high --records "$made/records" "$@" 2>"$made/err" {reader}>&- &
     box=$!
 }
 
@@ -129,6 +150,19 @@ counts_lost() {
     grep -qxE "$made/records/$1.record: [0-9]+ lines, $2" "$made/err" || fail "not $2: $(cat "$made/err")"
 }
 
+# A reason among those that lines were lost by: on a busy machine a file may also have been too slow before.
+lost_by() {
+    counts_lost "$1" "[1-9][0-9]* lost: (.*, )?$2(, .*)?"
+}
+
+# The first line of a file that continues another names the first cycle in it, or the first that is lost.
+continues() {
+    awk 'NR == 1 && !/ started .*Z, continued, cycle [0-9]+$/ { exit }
+        NR == 1 { cycle = $NF }
+        NR == 2 { found = ($1 == "#" ? $4 : $2) == cycle; exit }
+        END { exit !found }' "$1" || fail "not continued: $(head -n 2 "$1" | cut -c 1-200)"
+}
+
 # The file may not grow any more, which a write meets as a full disk: then it is renamed, and the new one has the gap.
 full_disk() {
     folder
@@ -136,17 +170,17 @@ full_disk() {
     ulimit -S -f 512
     start_box
     ulimit -S -f unlimited
-    awaits has '^cycle 80 ' "$made/records/south.record"
+    cycles_more 100
     for party in south north; do mv "$made/records/$party.record" "$made/$party.1"; done
     kill -HUP $box
     awaits has '^# lost cycles' "$made/records/north.record"
     awaits has '^cycle' "$made/records/south.record"
     stop_box
     counts_lost south '0 lost'
-    counts_lost north '[1-9][0-9]* lost: File too large'
+    lost_by north 'File too large'
     # The line that the old file has cut is whole in the new one, which may be full in its turn.
     for party in south north; do
-        head -n 1 "$made/records/$party.record" | grep -qE "started .*Z, continued, cycle [0-9]+\$" || fail "$party"
+        continues "$made/records/$party.record"
         cat "$made/$party.1" "$made/records/$party.record" | grep -E '^#|=[0-9]+$' >"$made/$party.both"
     done
     lost none "$made/south.both"
@@ -159,19 +193,18 @@ stopped_reader() {
     mkfifo "$made/records/north.record"
     exec {reader}<>"$made/records/north.record"
     start_box
-    awaits has '^cycle 80 ' "$made/records/south.record"
+    cycles_more 100
     rm -f "$made/read"
-    cat <&$reader >"$made/read" &
+    timeout 120 cat "$made/records/north.record" >"$made/read" {reader}>&- &
     local cat=$!
+    awaits has '^# caisson' "$made/read"
+    exec {reader}>&-
     awaits has '^# lost cycles' "$made/read"
     stop_box INT
-    sleep 0.1
-    kill $cat
-    wait $cat 2>/dev/null || true
-    exec {reader}>&-
+    wait $cat || fail "the pipe was not closed"
     lost none "$made/records/south.record"
     counts_lost south '0 lost'
-    counts_lost north '[1-9][0-9]* lost: its reader does not read'
+    lost_by north 'its reader does not read'
     # A gap may be the last thing in the pipe that was not read.
     lost some "$made/read"
 }
@@ -189,15 +222,15 @@ closed_pipe() {
     exec {reader}>&-
     kill $cat
     wait $cat 2>/dev/null || true
-    awaits has '^cycle 80 ' "$made/records/south.record"
+    cycles_more 100
     rm "$made/read"
-    timeout 60 cat "$made/records/north.record" >"$made/read" &
+    timeout 120 cat "$made/records/north.record" >"$made/read" &
     cat=$!
     awaits has '^# lost cycles' "$made/read"
     stop_box
     wait $cat || fail "the pipe was not closed"
     lost none "$made/records/south.record"
-    counts_lost north '[1-9][0-9]* lost: Broken pipe'
+    lost_by north 'Broken pipe'
     # The pipe had lines that nobody has read, so the first cycle is not 1.
     lost some "$made/read"
 }
@@ -245,7 +278,7 @@ fast_files() {
     folder
     (
         ulimit -S -f 512
-        "${under[@]}" $host "$names/long.table" /dev/null --fast --cycles 200 --party north:high --records "$made/records"
+        outstation "$names/long.table" /dev/null --fast --cycles 200 --party north:high --records "$made/records"
     ) 2>"$made/err" || got=$?
     [ $got = 2 ] || fail "a full disk: status $got: $(cat "$made/err")"
     grep -qx '200 cycles, 0 port writes, 0 late cycles' "$made/err" || fail "cycles lost: $(cat "$made/err")"
@@ -257,7 +290,8 @@ fast_files() {
 signals() {
     local signal
     for signal in TERM INT; do
-        "${under[@]}" $host "$names/two_groups.table" two_groups.trace --forever --party a:low >"$made/out" 2>"$made/err" &
+        "${under[@]}" $host "$names/two_groups.table" two_groups.trace --forever --party a:low >"$made/out" \
+            2>"$made/err" &
         box=$!
         awaits has '^cycle 20 ' "$made/out"
         stop_box $signal

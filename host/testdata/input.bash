@@ -6,7 +6,7 @@ feeds() {
     shift 2
     printf '%b' "$lines" >"$made/lines"
     printf '%b' "$expected" >"$made/expected"
-    "${under[@]}" $host "$names/two_groups.table" --readings - --fast --party a:high "$@" <"$made/lines" >"$made/out" \
+    outstation "$names/two_groups.table" --readings - --fast --party a:high "$@" <"$made/lines" >"$made/out" \
         2>"$made/err" || fail "readings $lines: status $?: $(cat "$made/err")"
     cmp "$made/out" "$made/expected" || fail "readings $lines: $(cat "$made/out")"
     runs=$((runs + 1))
@@ -37,14 +37,14 @@ wrong_readings() {
     bad_reading 'refused by rule 13: the register is no port' 'timer 1'
     bad_reading 'refused by rule 13: the register is no port' '4 1'
     printf 'wanted 1023\nwanted 1024\n' >"$made/lines"
-    "${under[@]}" $host "$names/valves.table" --readings - --fast --party a:north <"$made/lines" >"$made/out" \
+    outstation "$names/valves.table" --readings - --fast --party a:north <"$made/lines" >"$made/out" \
         2>"$made/err" || fail "a reading too large: status $?"
     grep -qx 'standard input:2: refused by rule 17: the port takes 0 to 1023, not 1024' "$made/err" ||
         fail "a reading too large: $(cat "$made/err")"
     grep -q ' wanted=1023 ' "$made/out" || fail "a reading too large: $(cat "$made/out")"
     # An input that cannot be read ends, and so do the cycles, without success.
     local got=0
-    "${under[@]}" $host "$names/two_groups.table" --readings - --fast <. >"$made/out" 2>"$made/err" || got=$?
+    outstation "$names/two_groups.table" --readings - --fast <. >"$made/out" 2>"$made/err" || got=$?
     [ $got = 2 ] || fail "an input that cannot be read: status $got"
     grep -qx 'standard input:1: cannot be read: Is a directory' "$made/err" || fail "$(cat "$made/err")"
 }
@@ -52,7 +52,8 @@ wrong_readings() {
 # A value that comes through a pipe is in the records before the next one is sent; then the input ends.
 as_they_come() {
     mkfifo "$made/pipe"
-    "${under[@]}" $host "$names/two_groups.table" --readings - --party a:high <"$made/pipe" >"$made/out" 2>"$made/err" &
+    "${under[@]}" $host "$names/two_groups.table" --readings - --cycles trace --party a:high <"$made/pipe" \
+        >"$made/out" 2>"$made/err" &
     box=$!
     local value
     exec {sender}>"$made/pipe"
@@ -84,7 +85,7 @@ forever() {
         fail "--forever: $(cat "$made/err")"
     grep -qx '3000 lines of readings were left out' "$made/err" || fail "--forever: $(cat "$made/err")"
     grep -q '^standard input: ended before cycle ' "$made/err" || fail "--forever: no end is told: $(cat "$made/err")"
-    [ "$(wc -l <"$made/err")" = 4 ] || fail "--forever says more: $(cat "$made/err")"
+    [ "$(grep -vc "^late by " "$made/err")" = 4 ] || fail "--forever says more: $(cat "$made/err")"
 }
 
 input() {

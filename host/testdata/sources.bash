@@ -41,7 +41,7 @@ wrong_sources() {
         --console
     source_refused '--readings NAME=PATH goes with neither --console nor --replay' "${north[@]}" --ports north=2 \
         --replay
-    says 2 'with --readings NAME=PATH either --cycles or --forever' "$names/two_groups.table" "${north[@]}" \
+    says 2 'with --readings NAME=PATH either --cycles N or --forever' "$names/two_groups.table" "${north[@]}" \
         --ports north=2
     # What is listed is a port of the design, and of one source alone.
     for given in timer readin 0 4 4294967296 -1 2x; do
