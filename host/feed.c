@@ -16,7 +16,7 @@
 static void line_drop(struct feed *feed)
 {
     if (feed->length > 0 || feed->too_long)
-        notices_bad_line(feed->notices, feed->source.name, feed->lines + 1, "the line was cut: it has no line feed");
+        notices_bad_line(feed->notices, feed->source.name, ++feed->lines, "the line was cut: it has no line feed");
     feed->length = 0;
     feed->too_long = false;
 }

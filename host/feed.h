@@ -41,7 +41,7 @@ struct feed {
     bool told;       /* that it is absent or ended */
     bool any;        /* such a thing was told before */
     struct timespec said; /* when */
-    uint64_t lines;  /* that have come whole */
+    uint64_t lines;  /* that have come, whole or cut */
     uint64_t asked;  /* the cycle before which the input was read last */
     uint64_t latest; /* the cycle of the last reading */
 };

@@ -94,7 +94,8 @@ static enum status site_record(struct site *site, const struct inputs *inputs)
     alive_end(&alive);
     /* After a refusal there is no control: nobody is waited for. */
     lost = records_close(&records, signals_stop() || status == STATUS_REFUSED);
-    if (status == STATUS_DONE && !signals_stop() && (lost > 0 || inputs->feed.broken || sources_broken(&inputs->sources)))
+    if (status == STATUS_DONE && !signals_stop() &&
+        (lost > 0 || inputs->feed.broken || sources_broken(&inputs->sources)))
         return STATUS_INPUT;
     return status;
 }
