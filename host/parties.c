@@ -15,7 +15,7 @@ static const char *const label_names[CAISSON_LABELS] = {
     "label8", "label9", "label10", "label11", "label12", "label13", "label14", "label15",
 };
 
-size_t party_name_length(const char *text)
+size_t party_name_span(const char *text)
 {
     return strspn(text, name_characters);
 }
@@ -26,7 +26,7 @@ bool party_read(struct party *party, const char *text)
     const char *level;
 
     party->name = text;
-    party->name_length = party_name_length(text);
+    party->name_length = party_name_span(text);
     if (party->name_length == 0 || party->name_length > PARTY_LONGEST_NAME || text[party->name_length] != ':')
         return false;
     level = text + party->name_length + 1;

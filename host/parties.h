@@ -21,9 +21,6 @@ struct party {
     gid_t group;
 };
 
-/* How many characters of a text are those of a name, from its start: letters, digits, and the signs - _ . */
-size_t party_name_length(const char *text);
-
 /*
  * Reads NAME:LEVEL. A name is letters, digits, and the signs - _ . so that it cannot be taken for
  * another part of a record, and a level is a label's name or number, which parties_judge judges. The party keeps a
@@ -33,6 +30,9 @@ CAISSON_LOOK_AT_ANSWER
 bool party_read(struct party *party, const char *text);
 
 bool party_same_name(const struct party *party, const struct party *other);
+
+/* How many characters of a text are those of a name. */
+size_t party_name_span(const char *text);
 
 /* One party for each label of a checked image, named as the label is, or label0 and so on; answers how many. */
 size_t parties_of_labels(struct party parties[CAISSON_LABELS], const uint8_t *image, const struct names *names);

@@ -6,7 +6,7 @@
 
 const char *source_read(struct source *source, const char *text)
 {
-    *source = (struct source){.name = text, .name_length = party_name_length(text)};
+    *source = (struct source){.name = text, .name_length = party_name_span(text)};
     if (source->name_length == 0 || source->name_length > PARTY_LONGEST_NAME || text[source->name_length] != '=' ||
         text[source->name_length + 1] == '\0')
         return NULL;

@@ -42,7 +42,8 @@ runs_by_name() {
             # Numbers are taken all the same.
             records $design.expected "$names/$design.table" $numbers/two_groups.trace $way --party south:0 \
                 --party north:high
-            records $design.expected "$names/$design.table" two_groups.trace $way --party south:low --party north:1
+            records $design.expected "$names/$design.table" two_groups.trace $way --cycles 16 --party south:low \
+                --party north:1
         done
     done
     session two_groups_console.expected two_groups.console "$names/two_groups.table" two_groups.trace --cycles 0 \
@@ -153,7 +154,7 @@ large_names() {
     } | testdata/summed >"$file.names"
     [ "$(stat -c %s "$file.names")" = 1048576 ] || fail "not the largest names file"
     grep 'party south' two_groups.expected >"$made/expected"
-    records "$made/expected" "$file" $numbers/two_groups.trace --fast --party south:low
+    records "$made/expected" "$file" $numbers/two_groups.trace --fast --cycles 16 --party south:low
 }
 
 wrong_names_files() {
