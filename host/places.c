@@ -10,7 +10,7 @@
 
 bool place_read(struct place *place, const char *text, bool group)
 {
-    size_t length = party_name_length(text);
+    size_t length = party_name_span(text);
 
     *place = (struct place){.party = {.name = text, .name_length = length}, .group = group};
     if (length == 0 || text[length] != '=' || text[length + 1] == '\0')
