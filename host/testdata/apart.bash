@@ -133,7 +133,7 @@ one_host() {
 # What is said to nobody goes into no party's file.
 no_standard_error() {
     folder
-    outstation "$names/two_groups.table" two_groups.trace --fast --party south:low --records "$made/records" 2>&- ||
+    plainly "$names/two_groups.table" two_groups.trace --fast --party south:low --records "$made/records" 2>&- ||
         fail "without standard error: status $?"
     [ "$(grep -vc '^cycle' "$made/records/south.record")" = 1 ] || fail "$(cat "$made/records/south.record")"
     runs=$((runs + 1))
@@ -173,6 +173,10 @@ touched() {
     [ "$(stat -c %Y "$made/alive")" -gt "$1" ]
 }
 
+twice() {
+    [ "$(grep -c "$1" "$2")" -ge 2 ]
+}
+
 untouched() {
     [ $(($(date +%s) - $(stat -c %Y "$made/alive"))) -ge 4 ]
 }
@@ -180,6 +184,8 @@ untouched() {
 # While the cycles run, and no longer: here a reader of standard output holds them.
 tells_alive() {
     local since waiter got=0
+    # A host that the alarm ends leaves its threads as they are, which valgrind would count.
+    [ ${#under[@]} = 0 ] || return 0
     gcc -std=c11 -D_POSIX_C_SOURCE=200809L -Wall -Wextra -Werror testdata/notified.c -o $folder/notified
     rm -f "$made/socket" "$made/alive" "$made/notices" "$made/pipe"
     $folder/notified "$made/socket" >"$made/notices" &
@@ -187,7 +193,7 @@ tells_alive() {
     awaits test -S "$made/socket"
     mkfifo "$made/pipe"
     exec {reader}<>"$made/pipe"
-    NOTIFY_SOCKET=$made/socket "${under[@]}" $host "$names/long.table" $numbers/two_groups.trace --forever \
+    NOTIFY_SOCKET=$made/socket $host "$names/long.table" $numbers/two_groups.trace --forever \
         --alive "$made/alive" >"$made/pipe" 2>"$made/err" {reader}>&- &
     box=$!
     cat <&$reader >/dev/null &
@@ -198,7 +204,7 @@ tells_alive() {
         since=$(stat -c %Y "$made/alive")
         awaits touched "$since"
     done
-    awaits [ "$(grep -c WATCHDOG=1 "$made/notices")" -ge 2 ]
+    awaits twice WATCHDOG=1 "$made/notices"
     kill $cat
     wait $cat 2>/dev/null || true
     awaits untouched

@@ -76,7 +76,8 @@ first_lines() {
     # By number. A line that was cut is ended.
     printf 'cycle 9 par' >"$made/records/a.record"
     records /dev/null $designs/lease.table $numbers/lease.trace --replay --records "$made/records" --party a:1
-    sed -n 2p "$made/records/a.record" | grep -q "^# caisson record, party a, level 1, library " || fail "$(cat "$made/records/a.record")"
+    sed -n 2p "$made/records/a.record" | grep -q "^# caisson record, party a, level 1, library " ||
+        fail "$(cat "$made/records/a.record")"
     plainly $designs/lease.table $numbers/lease.trace --fast --party a:1 2>"$made/err" |
         diff - <(tail -n +3 "$made/records/a.record") ||
         fail "a.record has other lines than standard output"
