@@ -25,7 +25,8 @@ bool lateness_words(const struct lateness *lateness, struct text *words)
 
         if (lateness->kinds[kind] == 0)
             continue;
-        if (!text_add(words, "%s%" PRIu64 " to %" PRIu64 " ms: %" PRIu64, between, from, 2 * from, lateness->kinds[kind]))
+        if (!text_add(words, "%s%" PRIu64 " to %" PRIu64 " ms: %" PRIu64, between, from, 2 * from,
+                      lateness->kinds[kind]))
             return false;
         between = ", ";
     }

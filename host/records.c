@@ -63,8 +63,9 @@ static enum status files_begin(struct records *records)
     moment_now(started);
     for (size_t i = 0; status == STATUS_DONE && i < records->count; i++) {
         struct sink *sink = &records->sinks[i];
+        bool whole = first_add(&sink->first, &records->parties[i], records->names, started);
 
-        status = first_add(&sink->first, &records->parties[i], records->names, started) ? sink_begin(sink) : no_memory();
+        status = whole ? sink_begin(sink) : no_memory();
     }
     for (size_t i = 0; status == STATUS_DONE && i < records->count; i++)
         status = writer_start(&records->writers[i], &records->sinks[i]);
@@ -280,8 +281,10 @@ uint64_t records_close(struct records *records, bool hurried)
     if (records->sinks == NULL)
         return 0;
     writers_end(records, hurried);
-    for (size_t i = 0; i < records->count; i++)
+    for (size_t i = 0; i < records->count; i++) {
+        refusal_tell(&records->sinks[i]);
         lost += file_say(&records->sinks[i], records->writers[i].started);
+    }
     files_close(records);
     return lost;
 }
