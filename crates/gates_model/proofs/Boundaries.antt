@@ -2,3 +2,4 @@
 pub mod Directories
 pub mod Records
 pub mod Calls
+pub mod FarEnds

@@ -23,3 +23,4 @@ pub mod Lists
 pub mod Views
 pub mod Neighbours
 pub mod Listings
+pub mod FarEnds

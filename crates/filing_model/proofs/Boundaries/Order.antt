@@ -19,3 +19,9 @@ shows-first-place
     : comesBefore (1 ∷ 9 ∷ 9 ∷ []) (2 ∷ []) ∷ comesBefore (2 ∷ []) (1 ∷ 9 ∷ 9 ∷ []) ∷ comesBefore (5 ∷ 1 ∷ 9 ∷ []) (5 ∷ 2 ∷ 0 ∷ []) ∷ comesBefore (5 ∷ 2 ∷ 0 ∷ []) (5 ∷ 1 ∷ 9 ∷ []) ∷ []
     ≡ true ∷ false ∷ true ∷ false ∷ []
 shows-first-place = unfold filing in refl
+
+-- "by these bytes": from 0 to 255, and none of them below 0
+shows-high-bytes
+    : comesBefore (127 ∷ []) (128 ∷ []) ∷ comesBefore (128 ∷ []) (127 ∷ []) ∷ comesBefore (0 ∷ []) (255 ∷ []) ∷ comesBefore (255 ∷ []) (0 ∷ []) ∷ comesBefore (254 ∷ []) (255 ∷ []) ∷ []
+    ≡ true ∷ false ∷ true ∷ false ∷ true ∷ []
+shows-high-bytes = unfold filing in refl
