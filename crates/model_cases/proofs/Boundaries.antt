@@ -24,3 +24,5 @@ pub mod Views
 pub mod Neighbours
 pub mod Listings
 pub mod FarEnds
+pub mod FarRuns
+pub mod Orders
