@@ -3,3 +3,4 @@ pub mod Forms
 pub mod Same
 pub mod Order
 pub mod Calls
+pub mod FarEnds

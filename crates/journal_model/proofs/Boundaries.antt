@@ -4,3 +4,4 @@ pub mod Steps
 pub mod Unsound
 pub mod Lists
 pub mod Elsewhere
+pub mod FarEnds

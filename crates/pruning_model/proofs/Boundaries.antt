@@ -2,3 +2,4 @@
 pub mod Reaching
 pub mod Images
 pub mod Calls
+pub mod FarEnds

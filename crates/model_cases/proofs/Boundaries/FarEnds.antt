@@ -2,7 +2,7 @@
 -- two faults of one pass is told.
 use Prim.Native.Nat.{ℕ, zero, suc, _+_, _-_}
 use mathlib.Core.Path.{_≡_, refl}
-use mathlib.Core.Bool.{Bool, true, false, not}
+use mathlib.Core.Bool.{true, false, not}
 use mathlib.Core.List.{List, [], _∷_, _++_, map}
 use lib.Dec.{ltb, eqb}
 use lib.ListN.{length, replicate, getD}
@@ -11,13 +11,14 @@ use Rattle.model.specs.Indices.{allBelow, someBelow, lowest, lowestFailing, low
 use Rattle.model.specs.Image.{Register, State, Node, Design, noNode, word16At, word32At, rowOf, registerOf, stateOf, nodeOf, constantOf, count, offset, Registers, Commands, Expressions}
 use Rattle.model.specs.Lattice.{flowsTo, rowInside, reflexive, antisymmetric, transitive, leastFull, joined}
 use Rattle.model.specs.States.{registerKept, stateKept, isChild, hasChild, defaultTarget, siblingOrSelf, within}
-use Rattle.model.specs.Kinds.{CommandKind, sequences, assigns, goes, branches, unknownCommand, ExpressionKind, operates, add, unknownExpression, commandKind, expressionKind, commandHolds, expressionHolds}
-use Rattle.model.specs.Trees.{Cmd, goto, fall, sequence, cmdOf, bodyOf}
+use Rattle.model.specs.Kinds.{sequences, assigns, goes, branches, unknownCommand, operates, add, unknownExpression, commandKind, expressionKind, commandHolds, expressionHolds}
+use Rattle.model.specs.Trees.{goto, bodyOf}
 use Rattle.model.specs.Parameters.{scopeOf, lowerBound, upperBound, withinBounds, hasParameters, labelByte, labelUnder, labelInScope}
 use Rattle.model.specs.Scopes.{nameKept, isArgument}
 use Rattle.model.specs.Ports.{namesNoPort}
-use Rattle.model.proofs.Opened.{checks, everything, raising, refused, accepted, judged}
-use Rattle.model.proofs.Designs.{ofRows}
+use Rattle.model.specs.Raising.{joinOf, putLabels}
+use Rattle.model.specs.Neighbours.{isExcepted}
+use Rattle.model.proofs.Opened.{checks, raising}
 
 -- ---- indices
 -- "the lowest offending label, register, state or node": up to the last of 2,048
@@ -110,7 +111,8 @@ stateLike parent label command parameters =
 -- so many states, each below the one before it; the first has this number, and state n has command 960 + n
 abbrev line : ℕ → ℕ → List State
 line n zero = []
-line n (suc more) = stateLike (n - 1) 0 (960 + n) 0 ∷ line (suc n) more
+line n (suc more) =
+    record { parent = n - 1; label = 0; command = 960 + n; parameters = 0; firstLower = 0; firstUpper = 0; secondLower = 0; secondUpper = 0 } ∷ line (suc n) more
 
 -- 16 labels, 63 registers and this one, 63 states in a line and this one, 1,024 commands of which the last is this one, and 2,048 expressions
 abbrev lattice : List ℕ
@@ -150,7 +152,7 @@ shows-register-63 = unfold checks in refl
 shows-state-63
     : map
     (λ state. stateKept (withState state) 63)
-    (stateLike 62 15 1023 0 ∷ stateLike 63 0 0 0 ∷ stateLike 191 0 0 0 ∷ stateLike 0 128 0 0 ∷ stateLike 0 145 0 0 ∷ stateLike 0 0 1024 0 ∷ stateLike 0 0 32769 0 ∷ [])
+    (stateLike 62 15 1023 0 ∷ stateLike 63 0 0 0 ∷ stateLike 190 0 0 0 ∷ stateLike 0 128 0 0 ∷ stateLike 0 145 0 0 ∷ stateLike 0 0 1024 0 ∷ stateLike 0 0 32769 0 ∷ [])
     ≡ true ∷ replicate 6 false
 shows-state-63 = unfold checks in refl
 
@@ -228,3 +230,17 @@ shows-names-of-63 = unfold checks in refl
 
 shows-label-in-scope : map (λ label. labelInScope (withState (stateLike 62 label 1023 1)) 63) (15 ∷ 16 ∷ 17 ∷ 255 ∷ []) ≡ true ∷ true ∷ false ∷ false ∷ []
 shows-label-in-scope = unfold checks in refl
+
+-- ---- raising, and neighbours
+-- the least label above labels 13 and 14, and above 0 and 15, is 15; above 13 and 15, where 15 is below 14, it is 15 too
+shows-join-15
+    : joinOf (sixteen 61440 40960 49152 32768) (13 ∷ 14 ∷ []) ∷ joinOf lattice (0 ∷ 15 ∷ []) ∷ joinOf (sixteen 61440 57344 16384 49152) (13 ∷ 15 ∷ []) ∷ [] ≡ 15 ∷ 15 ∷ 15 ∷ []
+shows-join-15 = unfold raising in refl
+
+-- the label of the last of 64 registers, 7 bytes each from byte 20 on
+shows-label-of-63-put : getD (putLabels 20 (replicate 63 1 ++ (15 ∷ [])) (replicate 500 0)) 461 0 ≡ 15
+shows-label-of-63-put = unfold raising in refl
+
+-- "states whose fixed label is not at or below a level": label 15 is fixed, and bytes 16 and 17 are not
+shows-excepted-15 : map (λ label. isExcepted (withState (stateLike 62 label 1023 2)) 14 63) (14 ∷ 15 ∷ 16 ∷ 17 ∷ []) ≡ false ∷ true ∷ false ∷ false ∷ []
+shows-excepted-15 = unfold checks isExcepted in refl

@@ -1,24 +1,21 @@
 -- Cases at the far ends of numbers, of values and of runs: the top bit of each operand, the largest register and state, the last byte of an area, and many cycles.
 use Prim.Native.Nat.{ℕ, zero, suc, _+_, _-_}
 use mathlib.Core.Path.{_≡_, refl}
-use mathlib.Core.Bool.{Bool, true, false}
+use mathlib.Core.Bool.{true, false}
 use mathlib.Core.List.{List, [], _∷_, _++_, map}
 use lib.ListN.{length, replicate, getD}
 use Rattle.model.specs.declared.Refusal.the-variants.{Area, CycleCount, NoPort}
 use Rattle.model.specs.declared.Answer.the-variants.{Accepted, Refused}
-use Rattle.model.specs.Image.{Register, State, Node, Design, noNode}
+use Rattle.model.specs.Image.{Register, State, Node, Design}
 use Rattle.model.specs.Kinds.{Operation, add, subtract, bitwiseAnd, bitwiseOr, bitwiseXor, equal, less, signedLess, arithmeticShift, signedDivision}
-use Rattle.model.specs.Trees.{Expr, constant, register, binary, Cmd, assign, goto, fall, branch}
+use Rattle.model.specs.Trees.{constant, register, assign, branch}
 use Rattle.model.specs.Values.{apply, wordsOf, bytesOf}
 use Rattle.model.specs.Bindings.{named, boundIn, ownBound, boundBy, onPath, byteSound, boundSound, bindingSound}
-use Rattle.model.specs.Machine.{Cycle, eval, exec, resetAreas, targetSound, cleared, goneTo, cycle, cycles, afterCycles}
-use Rattle.model.specs.Calls.{Lent, registerAreaAnswer, lengthAnswer, contentsAnswer, targetsAnswer, isWritable, portAnswer, cyclesAnswer, registersLength, targetsLength}
+use Rattle.model.specs.Machine.{eval, exec, resetAreas, targetSound, goneTo, cycle, afterCycles}
+use Rattle.model.specs.Calls.{registerAreaAnswer, lengthAnswer, contentsAnswer, targetsAnswer, portAnswer, cyclesAnswer}
 use Rattle.model.specs.Parties.{wasWritten, aWrite, remaining, valuesSeen, givenUnseen}
-use Rattle.model.specs.Listing.{decimal}
-use Rattle.model.specs.Neighbours.{isExcepted}
-use Rattle.model.specs.Labelling.{labelsOf}
-use Rattle.model.specs.Raising.{joinOf, putLabels}
-use Rattle.model.proofs.Opened.{checks, everything, sights, raising, lentBound, areasBound}
+use Rattle.model.specs.Neighbours.{common}
+use Rattle.model.proofs.Opened.{everything, sights, lentBound, areasBound}
 
 -- ---- values
 -- an operation on the top bit and nothing, either way round, on the top bit twice, and on all bits and one
@@ -82,7 +79,7 @@ shows-if-top-bit = unfold everything in refl
 -- ---- states
 abbrev stateLike : ℕ → ℕ → ℕ → State
 stateLike parent command parameters =
-    record { parent = parent; label = 0; command = command; parameters = parameters; firstLower = 0; firstUpper = 0; secondLower = 0; secondUpper = 0 }
+    record { parent = parent; label = 0; command = command; parameters = parameters; firstLower = 0; firstUpper = 1; secondLower = 0; secondUpper = 1 }
 
 -- so many states, each below the one before it, from this number on; state n has command n
 abbrev line : ℕ → ℕ → List State
@@ -200,3 +197,7 @@ shows-written-63 = unfold sights remaining in refl
 -- "the registers not at or below the level are given any values": r63 at level 0, and none at level 1
 shows-given-63 : map (λ level. givenUnseen deepest level (λ r. 900 + r) (replicate 64 5)) (0 ∷ 1 ∷ []) ≡ (replicate 63 5 ++ (963 ∷ [])) ∷ replicate 64 5 ∷ []
 shows-given-63 = unfold sights givenUnseen in refl
+
+-- 02, E14: "their bodies": of every state
+shows-bodies-of-64 : length (common deepest 0 .bodies) ≡ 64
+shows-bodies-of-64 = unfold everything common in refl

@@ -1,12 +1,12 @@
 -- Cases of the order within one pass: of two faults at different places the lower place is told, whichever rules of the pass they break.
 use Prim.Native.Nat.{ℕ}
 use mathlib.Core.Path.{_≡_, refl}
-use mathlib.Core.List.{List, [], _∷_, _++_, map}
+use mathlib.Core.List.{List, [], _∷_, map}
 use lib.ListN.{replicate}
 use Rattle.model.specs.Answers.{numbersOf}
 use Rattle.model.specs.Calls.{runAnswer}
 use Rattle.model.proofs.Opened.{checks, everything, refused, judged, lentBound}
-use Rattle.model.proofs.Designs.{assemble, oneState, ofRows, chain, lowAndHigh, widthRecord, registerRecord, stateRecord, stateWith, node, skips, assigns, sequences, falls, goesTo, goesWith, branches, constant, reads}
+use Rattle.model.proofs.Designs.{assemble, oneState, ofRows, chain, widthRecord, registerRecord, stateRecord, stateWith, node, skips, assigns, sequences, falls, goesTo, goesWith, branches, constant}
 
 -- "charged to the lowest i whose row, or whose rule with i first, fails": labels 1 and 2 have no common label above, and row 3 has a bit at the count
 shows-join-before-higher-row : judged (ofRows (15 ∷ 2 ∷ 4 ∷ 24 ∷ [])) ≡ refused 2 1
@@ -141,16 +141,16 @@ shows-parameters-before-higher = unfold checks in refl
 shows-binding-before-higher
     : map
     (λ (bindings : List ℕ).
-      numbersOf
-      (runAnswer
-      (assemble
-      (1 ∷ [])
-      (registerRecord 0 1 0 ∷ registerRecord 0 0 0 ∷ [])
-      (stateRecord 0 0 0 ∷ stateRecord 0 0 1 ∷ stateWith 0 0 2 1 0 0 0 0 ∷ stateRecord 0 0 3 ∷ [])
-      (falls ∷ goesWith 2 1 ∷ goesWith 2 64 ∷ goesTo 3 ∷ [])
-      [])
-      (lentBound (replicate 8 0) (2 ∷ 1 ∷ 2 ∷ 3 ∷ []) bindings)
-      1))
+    numbersOf
+    (runAnswer
+    (assemble
+    (1 ∷ [])
+    (registerRecord 0 1 0 ∷ registerRecord 0 0 0 ∷ [])
+    (stateRecord 0 0 0 ∷ stateRecord 0 0 1 ∷ stateWith 0 0 2 1 0 0 0 0 ∷ stateRecord 0 0 3 ∷ [])
+    (falls ∷ goesWith 2 1 ∷ goesWith 2 64 ∷ goesTo 3 ∷ [])
+    [])
+    (lentBound (replicate 8 0) (2 ∷ 1 ∷ 2 ∷ 3 ∷ []) bindings)
+    1))
     ((0 ∷ 0 ∷ 0 ∷ 0 ∷ 0 ∷ 0 ∷ 2 ∷ 0 ∷ []) ∷ (0 ∷ 0 ∷ 0 ∷ 0 ∷ 1 ∷ 0 ∷ 2 ∷ 0 ∷ []) ∷ [])
     ≡ refused 14 2 ∷ refused 14 3 ∷ []
 shows-binding-before-higher = unfold everything in refl
