@@ -59,7 +59,7 @@ wrong_sources() {
 }
 
 # Each has what it sent, whatever the other does.
-apart() {
+senders_apart() {
     local first='cycle 1 party a: timer=3 mode=1' second='cycle 2 party a: timer=2 mode=1' wrong
     sent 'reading 5\n' 'switch 6\n' "$first reading=5 switch=6\n" --cycles 1
     grep -qx '1 cycles, 2 port writes, 0 late cycles' "$made/err" || fail "two sources: $(cat "$made/err")"
@@ -165,7 +165,7 @@ own_sources() {
     # Nobody reads the FIFOs of an earlier turn.
     rm -f "$made"/{north,south}
     wrong_sources
-    apart
+    senders_apart
     broken_sources
     senders_go_and_come
     ends_are_told
