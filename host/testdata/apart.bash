@@ -227,11 +227,11 @@ tells_alive() {
 apart() {
     gcc -std=c11 -Wall -Wextra -Werror -I../include -pthread ${sanitize:-} -Wl,--wrap=write,--wrap=caisson_run \
         testdata/held.c $folder/*.o ../target/staticlib/libcaisson.a -o $held
-    held_disk
-    edit_for_a_neighbour
-    groups
-    one_host
-    no_standard_error
-    times
-    tells_alive
+    anew held_disk
+    anew edit_for_a_neighbour
+    anew groups
+    anew one_host
+    anew no_standard_error
+    anew times
+    anew tells_alive
 }

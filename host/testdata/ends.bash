@@ -147,10 +147,10 @@ unheard_ends() {
 }
 
 ends() {
-    slow_reader
-    broken_output
-    replay_signals
-    long_run
-    unheard_ends
+    anew slow_reader
+    anew broken_output
+    anew replay_signals
+    anew long_run
+    anew unheard_ends
     rm "$made/pipe"
 }

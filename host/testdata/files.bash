@@ -291,6 +291,8 @@ fast_files() {
 signals() {
     local signal
     for signal in TERM INT; do
+        # What an earlier box has written must not be taken for this one's: it would be sent the signal too early.
+        rm -f "$made/out"
         "${under[@]}" $host "$names/two_groups.table" two_groups.trace --forever --party a:low >"$made/out" \
             2>"$made/err" &
         box=$!
@@ -325,11 +327,11 @@ files() {
     first_lines
     wrong_folders
     long_lines
-    full_disk
-    stopped_reader
-    closed_pipe
-    rotated
-    fast_files
-    signals
-    held_output
+    anew full_disk
+    anew stopped_reader
+    anew closed_pipe
+    anew rotated
+    anew fast_files
+    anew signals
+    anew held_output
 }

@@ -164,9 +164,9 @@ broken_sources() {
 own_sources() {
     # Nobody reads the FIFOs of an earlier turn.
     rm -f "$made"/{north,south}
-    wrong_sources
-    senders_apart
-    broken_sources
-    senders_go_and_come
-    ends_are_told
+    anew wrong_sources
+    anew senders_apart
+    anew broken_sources
+    anew senders_go_and_come
+    anew ends_are_told
 }
