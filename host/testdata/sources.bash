@@ -162,8 +162,8 @@ broken_sources() {
 }
 
 own_sources() {
-    # Nobody reads the FIFOs of an earlier turn.
-    rm -f "$made"/{north,south}
+    # Nobody reads the FIFOs of an earlier turn, and another test has a folder there.
+    rm -rf "$made"/{north,south}
     anew wrong_sources
     anew senders_apart
     anew broken_sources
