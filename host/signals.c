@@ -7,7 +7,9 @@
 #include <stddef.h>
 #include <unistd.h>
 
+#ifndef SECONDS_TO_END
 #define SECONDS_TO_END 5u
+#endif
 
 static atomic_bool stop;
 static atomic_bool ending;

@@ -226,7 +226,7 @@ tells_alive() {
 
 apart() {
     gcc -std=c11 -Wall -Wextra -Werror -I../include -pthread ${sanitize:-} -Wl,--wrap=write,--wrap=caisson_run \
-        testdata/held.c $folder/*.o ../target/staticlib/libcaisson.a -o $held
+        testdata/held.c "${host%/*}"/*.o ../target/staticlib/libcaisson.a -o $held
     anew held_disk
     anew edit_for_a_neighbour
     anew groups
