@@ -12,7 +12,7 @@ use lib.ListN.{length, getD, set, replicate, length-set, length-replicate, lengt
 use lib.Seq.{getD-set-same, getD-set-other, getD-append-add, ext-getD}
 use borrow.Author.Tests.{lt-ltb, le-ltb}
 use Rattle.model.specs.declared.Found.the-variants.{At}
-use Rattle.model.specs.Indices.{lowest, tabulate}
+use Rattle.model.specs.Indices.{lowest, tabulate, filledTo}
 use Rattle.model.specs.Image.{Design as Table, States, Register, noRegister, State, designOf, registerAt}
 use Rattle.model.specs.States.{foundOr, parent, isChild, hasChild, defaultTarget}
 use Rattle.model.specs.Values.{bytesOf}
@@ -20,7 +20,7 @@ use Rattle.model.specs.Machine.{resetAreas}
 use Rattle.model.specs.Calls.{lentOf}
 use Rattle.model.proofs.Laws.Cycles.{reset-length}
 use Rattle.model.proofs.Laws.Booleans.{true-or-false, false-unless-true}
-use Rattle.model.proofs.Laws.Indices.{extend, nothing-below-zero, lowest-nowhere, lowest-at, lowest-found, length-tabulate, getD-tabulate}
+use Rattle.model.proofs.Laws.Indices.{extend, nothing-below-zero, lowest-nowhere, lowest-at, lowest-found, length-tabulate, getD-tabulate, length-filled, filled-before, filled-behind, filled-is}
 use Rattle.model.proofs.Laws.States.{child-of, is-child, has-child, default-cases}
 use Rattle.model.proofs.Exact.Records.{state-iff}
 use Rattle.design.specs.declared.Design.{Design}
@@ -101,6 +101,19 @@ module _ {f : ℕ → ℕ} {old : List ℕ} where
       (tabulate f (length old))
       (so .long ∙ sym (length-tabulate f (length old)))
       (λ k b. so .done k (omega arith) ∙ sym (getD-tabulate f (length old) k 0 (omega arith)))
+
+  -- every entry of it is known
+  pub filled-whole : {n : ℕ} {now : List ℕ} → Filled f old n now → now ≡ filledTo f n old
+  filled-whole {n} {now} so = filled-is f n old now (so .long) (so .done) (so .rest)
+
+  pub filled-so : {n : ℕ} {now : List ℕ} → n ≤ length old → now ≡ filledTo f n old → Filled f old n now
+  filled-so {n} {now} room e =
+      rw e
+      record {
+        long = length-filled f n old;
+        done = λ k l. filled-before f n old k l (omega arith);
+        rest = λ k l. filled-behind f n old k l;
+      }
 
 -- a table that a loop clears
 module _ {old now : List ℕ} {i : ℕ} (so : Filled (λ k. 0) old i now) where
@@ -230,23 +243,17 @@ defaults-long first so = so .long ∙ first .long
 
 -- ---- a table of default targets
 module _ (d : Table) (old : List ℕ) where
-  -- the entry of s, where b says that it is a state
-  abbrev entryOf : ℕ → Bool → ℕ
-  entryOf s b = cond b (defaultTarget d s) (getD old s 0)
-
   length-defaults : length (withDefaults d old) ≡ length old
   unfolding withDefaults
-  length-defaults = length-tabulate (λ s. entryOf s (ltb s (length (d .states)))) (length old)
-
-  entry-at : (k : ℕ) → k < length old → getD (withDefaults d old) k 0 ≡ entryOf k (ltb k (length (d .states)))
-  unfolding withDefaults
-  entry-at k b = getD-tabulate (λ s. entryOf s (ltb s (length (d .states)))) (length old) k 0 b
+  length-defaults = length-filled (defaultTarget d) (length (d .states)) old
 
   default-at : (k : ℕ) → k < length (d .states) → k < length old → getD (withDefaults d old) k 0 ≡ defaultTarget d k
-  default-at k l b = entry-at k b ∙ ap (entryOf k) (lt-ltb k (length (d .states)) l)
+  unfolding withDefaults
+  default-at = filled-before (defaultTarget d) (length (d .states)) old
 
-  behind-at : (k : ℕ) → length (d .states) ≤ k → k < length old → getD (withDefaults d old) k 0 ≡ getD old k 0
-  behind-at k l b = entry-at k b ∙ ap (entryOf k) (le-ltb k (length (d .states)) l)
+  behind-at : (k : ℕ) → length (d .states) ≤ k → getD (withDefaults d old) k 0 ≡ getD old k 0
+  unfolding withDefaults
+  behind-at = filled-behind (defaultTarget d) (length (d .states)) old
 
 module _ {image : List ℕ} {x : Design} (d : Describes image x) where
   pub defaults-done : {old own now : List ℕ} {s : ℕ} → Filled (λ k. k) old (x .states) own → DefaultsSo (designOf image) own s now → s ≤ 1 → now ≡ withDefaults (designOf image) old
@@ -256,7 +263,7 @@ module _ {image : List ℕ} {x : Design} (d : Describes image x) where
     where
       at : (k : ℕ) → k < length old → Dec (k < length (designOf image .states)) → getD now k 0 ≡ getD (withDefaults (designOf image) old) k 0
       at k b (yes h) = lowest-default (designOf image) k s (getD now k 0) l (so .entry k h) ∙ sym (default-at (designOf image) old k h b)
-      at k b (no h) = let count = states-count d in so .rest k (omega arith) ∙ first .rest k (omega arith) ∙ sym (behind-at (designOf image) old k (omega arith) b)
+      at k b (no h) = let count = states-count d in so .rest k (omega arith) ∙ first .rest k (omega arith) ∙ sym (behind-at (designOf image) old k (omega arith))
 
 -- ---- what callers take from it
 -- an entry of the table
@@ -337,7 +344,7 @@ defaults-reset {image} {table} {zeros} {old} {x} d l clear e =
         let first = length-tabulate (defaultTarget (designOf image)) all in
         let place : k ≡ length targets + (k - all) = omega arith in
         ap (λ (t : List ℕ). getD t k 0) e
-        ∙ behind-at (designOf image) zeros k (omega arith) (omega arith)
+        ∙ behind-at (designOf image) zeros k (omega arith)
         ∙ clear .done k (omega arith)
         ∙ sym (ap (λ (i : ℕ). getD (targets ++ bindings) i 0) place ∙ getD-append-add targets bindings (k - all) 0 ∙ getD-tabulate {A = ℕ} (λ v. 0) (2 * all) (k - all) 0 (omega arith))
 

@@ -22,7 +22,7 @@ use Rattle.design.specs.declared.Design.{Design}
 use Rattle.design.specs.Records.{stateIn, stateEnd}
 use Rattle.design.specs.Describes.{Describes}
 use Rattle.design.specs.Kept.{StatesKept}
-use Rattle.design.specs.Scopes.{scopeLength, inheritedScope, ScopesBelow, Scopes, NoParameters, ScopesShort}
+use Rattle.design.specs.Scopes.{scopeLength, inheritedScope, withScope, withScopes, ScopesBelow, Scopes, NoParameters, ScopesShort}
 use Rattle.design.proofs.Laws.{states-count, state-inside, state-in}
 use Rattle.design.proofs.ResetRules.{states-few, parent-is, parent-inside, parent-lower}
 
@@ -189,13 +189,14 @@ module _ {image : List ℕ} {x : Design} (d : Describes image x) where
     pub scopes-hold : 3 * x .states ≤ length table
     scopes-hold = let long = so .long in let states = states-count d in omega arith
 
-    pub put-scope :
+    -- the three bytes that are written are the entry of s
+    entry-put :
         {c f g : ℕ}
         → c ≡ length (scopeOf (designOf image) s)
         → f ≡ getD (scopeOf (designOf image) s) 0 0
         → g ≡ getD (scopeOf (designOf image) s) 1 0
         → ScopesBelow (designOf image) (put table s c f g) (suc s)
-    put-scope {c} {f} {g} count first second =
+    entry-put {c} {f} {g} count first second =
         let same = length-put table s c f g in
         let long = so .long in
         let states = states-count d in
@@ -206,6 +207,19 @@ module _ {image : List ℕ} {x : Design} (d : Describes image x) where
           first = λ k b. extend {P = λ j. getD (put table s c f g) (3 * j + 1) 0 ≡ getD (scopeOf (designOf image) j) 0 0} s (λ j h. put-below table s c f g (3 * j + 1) (omega arith) ∙ so .first j h) (put-first table s c f g inside ∙ first) k b;
           second = λ k b. extend {P = λ j. getD (put table s c f g) (3 * j + 2) 0 ≡ getD (scopeOf (designOf image) j) 1 0} s (λ j h. put-below table s c f g (3 * j + 2) (omega arith) ∙ so .second j h) (put-second table s c f g inside ∙ second) k b;
         }
+
+    pub scope-put : {now : List ℕ} → now ≡ withScope (designOf image) s table → ScopesBelow (designOf image) now (suc s)
+    unfolding withScope
+    scope-put e = rw e (entry-put refl refl refl)
+
+  pub scope-written :
+      (table : List ℕ) (s : ℕ) {c f g : ℕ}
+      → c ≡ length (scopeOf (designOf image) s)
+      → f ≡ getD (scopeOf (designOf image) s) 0 0
+      → g ≡ getD (scopeOf (designOf image) s) 1 0
+      → put table s c f g ≡ withScope (designOf image) s table
+  unfolding withScope
+  scope-written table s count first second = rw (count, first, second) refl
 
   pub own-parameter-fits : (n : ℕ) {s i : ℕ} → s < x .states → i < 2 → 2 * s + (i - n) < 256
   own-parameter-fits n l h = let few = states-few d in omega arith
@@ -220,6 +234,17 @@ module _ {image : List ℕ} {x : Design} (d : Describes image x) where
         first = λ s b. absurd (nothing-below-zero b);
         second = λ s b. absurd (nothing-below-zero b);
       }
+
+  pub scopes-begun : {table : List ℕ} → table ≡ withScopes (designOf image) 0 table
+  unfolding withScopes
+  scopes-begun = refl
+
+  pub scopes-written : (old : List ℕ) (s : ℕ) {table now : List ℕ} → table ≡ withScopes (designOf image) s old → now ≡ withScope (designOf image) s table → now ≡ withScopes (designOf image) (s + 1) old
+  unfolding withScopes
+  scopes-written old s e h = rw (add-one s) (h ∙ ap (withScope (designOf image) s) e)
+
+  pub scopes-done : (old : List ℕ) {now : List ℕ} {s n : ℕ} → now ≡ withScopes (designOf image) s old → s ≤ n → n ≤ s → now ≡ withScopes (designOf image) n old
+  scopes-done old {now} {s} {n} e l h = let end : n ≡ s = omega arith in rw end e
 
   pub scopes-next : {table : List ℕ} {s : ℕ} → ScopesBelow (designOf image) table (suc s) → ScopesBelow (designOf image) table (s + 1)
   scopes-next {s = s} so = rw (add-one s) so
@@ -289,6 +314,9 @@ no-parameters d h e = record { none = plain-iff d .0 (rw (← e, h) refl) }
 
 -- the laws of a state's entry, for `search`
 pub ruleset scope-laws = (none-above, parent-entry, parent-parameter, some-above, parameter-above, count-is, parameter-own, parameter-none, count-fits, own-parameter-fits)
+
+-- and of the loop that enters all of them
+pub ruleset scopes-loop = (scopes-none, scopes-begun, scope-put, scopes-written, scopes-next, scopes-done, scopes-all, short-at)
 
 pub ruleset bound-laws = (half-inside, lower-first, lower-second, upper-first, upper-second)
 

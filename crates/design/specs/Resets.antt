@@ -1,18 +1,16 @@
 -- What reset writes: a table of default targets, a table filled up to an entry, and the two areas as one value.
 use Prim.Native.Nat.{ℕ, _<_, _≤_}
 use mathlib.Core.Path.{_≡_}
-use mathlib.Core.Bool.{cond}
 use mathlib.Core.List.{List}
-use lib.Dec.{ltb}
 use lib.ListN.{length, getD}
-use Rattle.model.specs.Indices.{tabulate}
+use Rattle.model.specs.Indices.{filledTo}
 use Rattle.model.specs.Image.{Design as Table}
 use Rattle.model.specs.States.{defaultTarget}
 use Rattle.model.specs.Calls.{Lent}
 
 -- a table in which the entry of each state is its default target; the bytes behind them stay
 unfoldable pub withDefaults : Table → List ℕ → List ℕ
-withDefaults d old = tabulate (λ s. cond (ltb s (length (d .states))) (defaultTarget d s) (getD old s 0)) (length old)
+withDefaults d old = filledTo (defaultTarget d) (length (d .states)) old
 
 -- a table that holds the default target of each state
 pub record Defaults (d : Table) (table : List ℕ) : Type 0 where

@@ -1,11 +1,11 @@
 -- A table of the parameters in scope of each state: three bytes for a state, how many they are and the numbers of the first two.
-use Prim.Native.Nat.{ℕ, _+_, _*_, _-_, _<_, _≤_}
+use Prim.Native.Nat.{ℕ, zero, suc, _+_, _*_, _-_, _<_, _≤_}
 use mathlib.Core.Path.{_≡_}
 use mathlib.Core.Logic.{_⊎_}
 use mathlib.Core.Bool.{cond}
 use mathlib.Core.List.{List, []}
 use lib.Dec.{eqb}
-use lib.ListN.{length, getD}
+use lib.ListN.{length, getD, set}
 use Rattle.model.specs.Limits.{parametersMax, parameterLabel}
 use Rattle.model.specs.Image.{Design as Table, stateAt}
 use Rattle.model.specs.States.{parent}
@@ -18,6 +18,19 @@ scopeLength = 3
 -- what state s has from the states above it
 unfoldable pub inheritedScope : Table → ℕ → List ℕ
 inheritedScope d s = cond (eqb s 0) [] (scopeOf d (parent d s))
+
+-- a table with the entry of state s
+unfoldable pub withScope : Table → ℕ → List ℕ → List ℕ
+withScope d s table =
+    set
+    (set (set table (scopeLength * s) (length (scopeOf d s))) (scopeLength * s + 1) (getD (scopeOf d s) 0 0))
+    (scopeLength * s + 2)
+    (getD (scopeOf d s) 1 0)
+
+-- and with those of the states below n, one after the other
+unfoldable pub withScopes : Table → ℕ → List ℕ → List ℕ
+withScopes d zero table = table
+withScopes d (suc n) table = withScope d n (withScopes d n table)
 
 -- the entries of the states below n
 pub record ScopesBelow (d : Table) (table : List ℕ) (n : ℕ) : Type 0 where

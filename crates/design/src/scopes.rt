@@ -2,7 +2,7 @@
 // the numbers of the first two. And the bounds of a parameter by its number.
 use crate::Design;
 use crate::wide;
-ghost use Prim.Native.Nat.{suc, _+_, _*_, _≤_, _<_};
+ghost use Prim.Native.Nat.{_+_, _*_, _≤_, _<_};
 ghost use mathlib.Core.Path.{_≡_};
 ghost use lib.ListN.{length, getD};
 ghost use Rattle.model.specs.Limits.{parametersMax, bindingLength};
@@ -10,7 +10,7 @@ ghost use Rattle.model.specs.Image.{designOf};
 ghost use Rattle.model.specs.Parameters.{scopeOf, hasParameters, lowerBound, upperBound};
 ghost use Rattle.design.specs.Describes.{Describes};
 ghost use Rattle.design.specs.Kept.{StatesKept};
-ghost use Rattle.design.specs.Scopes.{scopeLength, inheritedScope, ScopesBelow, Scopes, ScopesShort};
+ghost use Rattle.design.specs.Scopes.{scopeLength, inheritedScope, withScope, withScopes, ScopesBelow, Scopes, ScopesShort};
 
 // The bytes that a state takes in the table.
 pub const SCOPE_LENGTH: usize = 3;
@@ -73,7 +73,7 @@ fn parameter(image: &[u8], design: Design, scopes: &[u8], s: usize, i: usize) ->
 // The entry of state s, behind those of the states below it.
 pub fn put_scope(image: &[u8], design: Design, scopes: &mut [u8], s: usize)
     requires { ⌜ Describes (now image) design × StatesKept (designOf (now image)) × ScopesBelow (designOf (now image)) (now scopes) s × (s < design .states) × (length (scopeOf (designOf (now image)) s) ≤ parametersMax) ⌝ }
-    ensures { λ _. ⌜ ScopesBelow (designOf (now (image .entry))) (now (scopes .exit)) (suc s) ⌝ }
+    ensures { λ _. ⌜ now (scopes .exit) ≡ withScope (designOf (now (image .entry))) s (now (scopes .entry)) ⌝ }
 {
     let above = inherited(image, design, scopes, s);
     let own = Design::parameters(image, design.states_at, s);
@@ -119,7 +119,7 @@ pub fn has_parameters(image: &[u8], design: Design) -> bool
 // The entries of all states.
 pub fn scopes(image: &[u8], design: Design, scopes: &mut [u8])
     requires { ⌜ Describes (now image) design × StatesKept (designOf (now image)) × ScopesShort (designOf (now image)) × (scopeLength * design .states ≤ length (now scopes)) ⌝ }
-    ensures { λ _. ⌜ Scopes (designOf (now (image .entry))) (now (scopes .exit)) ⌝ }
+    ensures { λ _. ⌜ (now (scopes .exit) ≡ withScopes (designOf (now (image .entry))) (design .states) (now (scopes .entry))) × Scopes (designOf (now (image .entry))) (now (scopes .exit)) ⌝ }
 {
     let mut s = 0;
     while s < design.states {

@@ -1,9 +1,10 @@
 -- Tests over the indices below a count, the lowest index that passes one, a list by its indices, and recursion from an index to lower ones.
 -- The rules of 01 speak of "the lowest offending label, register, state or node", and parts have lower numbers than their owner.
 use Prim.Native.Nat.{ℕ, zero, suc, min}
-use mathlib.Core.Bool.{Bool, true, false, _&&_, _||_, not}
+use mathlib.Core.Bool.{Bool, true, false, _&&_, _||_, not, cond}
 use mathlib.Core.List.{List, [], _∷_, _++_}
 use lib.Dec.{ltb, eqb}
+use lib.ListN.{length, getD}
 use Rattle.model.specs.declared.Found.{Found}
 use Rattle.model.specs.declared.Found.the-variants.{At, Nowhere}
 
@@ -67,6 +68,10 @@ module _ {A : Type 0} where
   unfoldable pub joinEach : (ℕ → List A) → List ℕ → List A
   joinEach f [] = []
   joinEach f (x ∷ xs) = f x ++ joinEach f xs
+
+-- a table whose entries before n are those of f; those from n on stay
+unfoldable pub filledTo : (ℕ → ℕ) → ℕ → List ℕ → List ℕ
+filledTo f n old = tabulate (λ k. cond (ltb k n) (f k) (getD old k 0)) (length old)
 
 -- Recursion over numbers: `step n below` says the value at n from the values below n; at n or above, `below` gives `none`.
 module _ {A : Type 0} (none : A) (step : ℕ → (ℕ → A) → A) where

@@ -1,19 +1,20 @@
 -- Laws of the tests over indices, the lowest index, lists by their indices and recursion over numbers (`specs/Indices.antt`).
-use Prim.Native.Nat.{ℕ, zero, suc, _+_, _<_}
+use Prim.Native.Nat.{ℕ, zero, suc, _+_, _≤_, _<_}
 use mathlib.Core.Path.{_≡_, refl, sym, _∙_, ap, fun-ext}
 use mathlib.Core.Logic.{_⊎_, inl, inr, ⊎-elim}
-use mathlib.Core.Bool.{Bool, true, false, not}
+use mathlib.Core.Bool.{Bool, true, false, not, cond}
 use mathlib.Core.List.{List, [], _∷_, _++_, map}
 use native.Mathlib.Omega.{arith}
 use native.Mathlib.Nat.{le-refl, zero-add}
 use native.Mathlib.Decide.{decLt}
 use lib.Dec.{ltb}
-use lib.ListN.{length, getD}
-use borrow.Author.Tests.{lt-ltb, ltb-true}
+use lib.ListN.{length, getD, List·getD-eq-default}
+use lib.Seq.{ext-getD}
+use borrow.Author.Tests.{lt-ltb, le-ltb, ltb-true}
 use Rattle.model.specs.declared.Found.{Found}
 use Rattle.model.specs.declared.Found.the-variants.{At, Nowhere}
-use Rattle.model.specs.Indices.{allBelow, someBelow, orAt, lowest, lowestFailing, tabulateFrom, tabulate, joinBelow, upTo, recursively}
-use Rattle.model.proofs.Laws.Booleans.{and-first, and-second, and-both, or-cases, or-first, or-second, not-false, true-not, true-or-false}
+use Rattle.model.specs.Indices.{allBelow, someBelow, orAt, lowest, lowestFailing, tabulateFrom, tabulate, filledTo, joinBelow, upTo, recursively}
+use Rattle.model.proofs.Laws.Booleans.{cond-true, cond-false, and-first, and-second, and-both, or-cases, or-first, or-second, not-false, true-not, true-or-false}
 
 -- an index below suc n is below n or is n
 pub below-suc : {k n : ℕ} → k < suc n → (k < n) ⊎ (k ≡ n)
@@ -181,6 +182,41 @@ module _ {A : Type 0} where
   unfolding joinBelow
   join-same f g zero h = refl
   join-same f g (suc n) h = rw (join-same f g n (λ k l. h k (below-more l)), h n (last n))
+
+-- ---- a table that is filled from the front
+module _ (f : ℕ → ℕ) (n : ℕ) (old : List ℕ) where
+  pub length-filled : length (filledTo f n old) ≡ length old
+  unfolding filledTo
+  length-filled = length-tabulate (λ k. cond (ltb k n) (f k) (getD old k 0)) (length old)
+
+  filled-at : (k : ℕ) → k < length old → getD (filledTo f n old) k 0 ≡ cond (ltb k n) (f k) (getD old k 0)
+  unfolding filledTo
+  filled-at k b = getD-tabulate (λ k. cond (ltb k n) (f k) (getD old k 0)) (length old) k 0 b
+
+  pub filled-before : (k : ℕ) → k < n → k < length old → getD (filledTo f n old) k 0 ≡ f k
+  filled-before k l b = filled-at k b ∙ cond-true (ltb k n) (f k) (getD old k 0) (lt-ltb k n l)
+
+  pub filled-behind : (k : ℕ) → n ≤ k → getD (filledTo f n old) k 0 ≡ getD old k 0
+  filled-behind k l = go (decLt k (length old))
+    where
+      go : Dec (k < length old) → getD (filledTo f n old) k 0 ≡ getD old k 0
+      go (yes b) = filled-at k b ∙ cond-false (ltb k n) (f k) (getD old k 0) (le-ltb k n l)
+      go (no b) =
+          let long = length-filled in
+          List·getD-eq-default (filledTo f n old) 0 (omega arith) ∙ sym (List·getD-eq-default old 0 (omega arith))
+
+  -- a table with these entries is this one
+  pub filled-is :
+      (now : List ℕ)
+      → length now ≡ length old
+      → ((k : ℕ) → k < n → getD now k 0 ≡ f k)
+      → ((k : ℕ) → n ≤ k → getD now k 0 ≡ getD old k 0)
+      → now ≡ filledTo f n old
+  filled-is now long before behind = ext-getD 0 now (filledTo f n old) (long ∙ sym length-filled) (λ k b. at k (omega arith) (decLt k n))
+    where
+      at : (k : ℕ) → k < length old → Dec (k < n) → getD now k 0 ≡ getD (filledTo f n old) k 0
+      at k b (yes l) = before k l ∙ sym (filled-before k l b)
+      at k b (no l) = behind k (omega arith) ∙ sym (filled-behind k (omega arith))
 
 -- ---- recursion over numbers
 module _ {A : Type 0} (none : A) where

@@ -1,4 +1,4 @@
-use Rattle.design.proofs.ScopeRules.{scope-laws, scopes-hold, put-scope, inside-first, inside-second, inside-third}
+use Rattle.design.proofs.ScopeRules.{scope-laws, scope-written, scopes-hold, inside-first, inside-second, inside-third}
 use borrow.Author.Needs.{needs}
 use Rattle.design.proofs.scopes.put_scope.Statement.{statement}
 use Rattle.design.proofs.scopes.put_scope.Tie as tie
@@ -22,10 +22,10 @@ add-scopes : tie.Need-add-scopes
 add-scopes c = search needs
 
 cast-scopes : tie.Need-cast-scopes
-cast-scopes c = search (scope-laws, scopes-hold, put-scope, inside-first, inside-second, inside-third, needs)
+cast-scopes c = search (scope-laws, scopes-hold, inside-first, inside-second, inside-third, needs)
 
 slice-write-scopes : tie.Need-slice-write-scopes
-slice-write-scopes c = search (scope-laws, scopes-hold, put-scope, inside-first, inside-second, inside-third, needs)
+slice-write-scopes c = search (scope-laws, scopes-hold, inside-first, inside-second, inside-third, needs)
 
 cast-scopes-2 : tie.Need-cast-scopes-2
 cast-scopes-2 c = search needs
@@ -34,7 +34,7 @@ add-scopes-2 : tie.Need-add-scopes-2
 add-scopes-2 c = search needs
 
 slice-write-scopes-2 : tie.Need-slice-write-scopes-2
-slice-write-scopes-2 c = search (scope-laws, scopes-hold, put-scope, inside-first, inside-second, inside-third, needs)
+slice-write-scopes-2 c = search (scope-laws, scopes-hold, inside-first, inside-second, inside-third, needs)
 
 cast-scopes-3 : tie.Need-cast-scopes-3
 cast-scopes-3 c = search needs
@@ -43,13 +43,13 @@ add-scopes-3 : tie.Need-add-scopes-3
 add-scopes-3 c = search needs
 
 slice-write-scopes-3 : tie.Need-slice-write-scopes-3
-slice-write-scopes-3 c = search (scope-laws, scopes-hold, put-scope, inside-first, inside-second, inside-third, needs)
+slice-write-scopes-3 c = search (scope-laws, scopes-hold, inside-first, inside-second, inside-third, needs)
 
 same-length : tie.Need-same-length
 same-length c = search needs
 
 returns : tie.Need-returns
-returns c = search (scope-laws, scopes-hold, put-scope, inside-first, inside-second, inside-third, needs)
+returns c = search (scope-laws, scope-written, needs)
 
 pub put-scope-spec : {M : Type 1} → statement M
 put-scope-spec =
