@@ -12,8 +12,8 @@ ghost use Rattle.design.specs.Resets.{lends};
 ghost use Rattle.running.specs.Stages.{leftAs};
 ghost use Rattle.calls.specs.Stages.{leftRegistersAs};
 
-// Accepts an image exactly when it keeps the rules, or refuses it with the lowest number that
-// applies, 10 to 12 by their lowest node, and its place.
+// Accepts an image exactly when it keeps the rules, or refuses it with the first number that applies, in the
+// order of the checks (1 to 8, 16, 19, 9, then 10 to 12 as the bodies are read), and its place.
 pub fn check(image: &[u8]) -> Answer
     ensures { λ a. ⌜ a ≡ checkOf (now (image .entry)) ⌝ }
 {

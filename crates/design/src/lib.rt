@@ -1,5 +1,5 @@
-// The design table in bytes: its limits, its directory, and one accessor for each field. No code of
-// another crate knows where a byte stands.
+// The design table in bytes: its limits, its directory, and one accessor for each field. All other code reads
+// records by these; only what writes images anew (crates `encoding` and `filing_steps`) has places of its own.
 pub mod labels;
 pub mod reset;
 pub mod rows;
@@ -14,7 +14,7 @@ ghost use lib.Dec.{eqb, leb};
 ghost use mathlib.Core.Path.{_≡_};
 ghost use lib.ListN.{length, set};
 ghost use Rattle.model.specs.Image.{word16At, word32At, offsetsKept, directoryKept, designOf};
-ghost use Rattle.model.specs.Limits.{directoryLength, labelLength, registerLength, stateLength, nodeLength, labelsMax, registersMax, statesMax, commandsMax, expressionsMax, depthMax, expressionPlace, widthMax, wordLength, parametersMax, parameterRegister, parameterLabel, bindingLength, targetLength, largestImage};
+ghost use Rattle.model.specs.Limits.{directoryLength, labelLength, registerLength, stateLength, nodeLength, labelsMin, labelsMax, registersMax, statesMin, statesMax, commandsMax, expressionsMax, depthMax, expressionPlace, widthMax, wordLength, parametersMax, parameterRegister, parameterLabel, bindingLength, targetLength, largestImage};
 ghost use Rattle.model.specs.Rules.{DirectoryKeeps};
 ghost use Rattle.model.specs.Machine.{resetAreas};
 ghost use Rattle.model.specs.Calls.{lentOf};
@@ -109,10 +109,14 @@ fn section_kept(size: usize, width: usize, fewest: usize, most: usize) -> bool
 }
 
 impl Design {
-    // The greatest count of records in each section.
+    // The least and the greatest count of records in each section; those without a least may be empty.
+    pub const LEAST_LABELS: usize = 1;
+
     pub const LABELS: usize = 16;
 
     pub const REGISTERS: usize = 64;
+
+    pub const LEAST_STATES: usize = 1;
 
     pub const STATES: usize = 64;
 
@@ -157,8 +161,10 @@ impl Design {
 
     // Each limit is the one that the meaning names.
     pub fn limits()
+        ensures { λ _. do ⌜ (← ⟦Design::LEAST_LABELS⟧ .entry) ≡ labelsMin ⌝ }
         ensures { λ _. do ⌜ (← ⟦Design::LABELS⟧ .entry) ≡ labelsMax ⌝ }
         ensures { λ _. do ⌜ (← ⟦Design::REGISTERS⟧ .entry) ≡ registersMax ⌝ }
+        ensures { λ _. do ⌜ (← ⟦Design::LEAST_STATES⟧ .entry) ≡ statesMin ⌝ }
         ensures { λ _. do ⌜ (← ⟦Design::STATES⟧ .entry) ≡ statesMax ⌝ }
         ensures { λ _. do ⌜ (← ⟦Design::COMMANDS⟧ .entry) ≡ commandsMax ⌝ }
         ensures { λ _. do ⌜ (← ⟦Design::EXPRESSIONS⟧ .entry) ≡ expressionsMax ⌝ }
@@ -332,9 +338,19 @@ impl Design {
             return false;
         }
         offsets_kept(image)
-            & section_kept(size(image, 0), Self::LABEL_LENGTH, 1, Self::LABELS)
+            & section_kept(
+                size(image, 0),
+                Self::LABEL_LENGTH,
+                Self::LEAST_LABELS,
+                Self::LABELS,
+            )
             & section_kept(size(image, 1), Self::REGISTER_LENGTH, 0, Self::REGISTERS)
-            & section_kept(size(image, 2), Self::STATE_LENGTH, 1, Self::STATES)
+            & section_kept(
+                size(image, 2),
+                Self::STATE_LENGTH,
+                Self::LEAST_STATES,
+                Self::STATES,
+            )
             & section_kept(size(image, 3), Self::NODE_LENGTH, 0, Self::COMMANDS)
             & section_kept(size(image, 4), Self::NODE_LENGTH, 0, Self::EXPRESSIONS)
     }

@@ -1,4 +1,4 @@
--- 01, 'The image': bytes to sections, sections to records. Nothing else in the definitions knows where a byte stands.
+-- 01, 'The image': bytes to sections, sections to records. No rule and no step knows where a byte stands; what is written anew has `Encoding` of crate `encoding`.
 -- An image is the list of its bytes.
 use Prim.Native.Nat.{ℕ, zero, suc, _+_, _*_, _/_, _%_, _<_}
 use mathlib.Core.Bool.{Bool, _&&_}

@@ -49,7 +49,8 @@ pub enum Refusal {
     GateWire,
 }
 
-// What a call answers: an acceptance with its count (a run's cycles, else 0), or a refusal with its place.
+// What a call answers: an acceptance with its count, or a refusal with its place. The count is what the call's
+// meaning says: cycles run, steps gone back, bytes asked for or written, else 0.
 pub enum Answer {
     Accepted(usize),
     Refused(Refusal, usize),
