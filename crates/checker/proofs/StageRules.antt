@@ -170,10 +170,10 @@ pub children-told : {image defaults falls : List ℕ} {x : Design} {f : Found} �
 children-told h passed known e = record { targets = fresh-defaults (known .describes) e; held = passed .falls }
 
 -- what is known and told once refusal 19 has found no state
-pub known-parameters : {d : Table} {f : Found} {table : List ℕ} → f ≡ Nowhere → ParametersPassed d f table → ParametersKept d
+pub known-parameters : {d : Table} {f : Found} {old table : List ℕ} → f ≡ Nowhere → ParametersPassed d f old table → ParametersKept d
 known-parameters {d} h passed = record { kept = failing-none (parametersKept d) (length (d .states)) (sym (passed .is) ∙ h) }
 
-pub scopes-told : {d : Table} {f : Found} {table : List ℕ} → f ≡ Nowhere → ParametersPassed d f table → Scopes d table
+pub scopes-told : {d : Table} {f : Found} {old table : List ℕ} → f ≡ Nowhere → ParametersPassed d f old table → Scopes d table
 scopes-told h passed = passed .scopes h
 
 -- a plain design goes on to refusal 9

@@ -7,7 +7,7 @@ use lib.Dec.{leb, eqb}
 use lib.ListN.{length, getD, set}
 use Rattle.model.specs.declared.Found.{Found}
 use Rattle.model.specs.declared.Found.the-variants.{At, Nowhere}
-use Rattle.model.specs.Indices.{lowestFailing, joinBelow}
+use Rattle.model.specs.Indices.{lowestFailing, passed, joinBelow}
 use Rattle.model.specs.Limits.{depthMax}
 use Rattle.model.specs.Image.{Design, designOf}
 use Rattle.model.specs.Kinds.{commandKept, expressionKept}
@@ -16,11 +16,6 @@ use Rattle.model.specs.Nodes.{partsOf, valuesOf, operandsOf, commandUsedOnce, e
 use Rattle.model.specs.Verdict.{lowestNode}
 use Rattle.design.specs.declared.Design.{Design as Described}
 use Rattle.design.specs.Resets.{Filled}
-
--- how many nodes a pass has behind it, of so many, where it found this
-abbrev pub passed : Found → ℕ → ℕ
-passed (At n) count = n
-passed Nowhere count = count
 
 -- a depth in a table; an entry stops at one past the limit
 abbrev pub depthEntry : ℕ → ℕ

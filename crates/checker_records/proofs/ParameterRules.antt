@@ -1,10 +1,9 @@
 -- The rules of a state's parameters, tested on the fields that the accessors read and on the scopes of the states below it, are the meaning's.
-use Prim.Native.Nat.{ℕ, suc, _+_, _*_, _-_, _≤_, _<_}
+use Prim.Native.Nat.{ℕ, _+_, _*_, _-_, _≤_, _<_}
 use mathlib.Core.Path.{_≡_, refl, sym, _∙_, ap}
-use mathlib.Core.Bool.{Bool, true, false, _&&_, _||_, not, false≢true}
+use mathlib.Core.Bool.{Bool, true, false, _&&_, _||_, not}
 use mathlib.Core.List.{List}
 use native.Mathlib.Omega.{arith}
-use native.Mathlib.Numerals.{add-one}
 use lib.Dec.{leb, ltb, eqb}
 use lib.ListN.{length, getD}
 use borrow.Author.Tests.{lt-ltb, le-ltb, eq-eqb, ne-eqb}
@@ -15,7 +14,7 @@ use Rattle.model.specs.Image.{State, designOf, stateAt}
 use Rattle.model.specs.Lattice.{flowsTo}
 use Rattle.model.specs.States.{parent, defaultTarget}
 use Rattle.model.specs.Parameters.{scopeOf, pairKept, isDefaultChild, takesParameters, labelInScope, parametersKept}
-use Rattle.model.proofs.Laws.Booleans.{not-true, not-false}
+use Rattle.model.proofs.Laws.Booleans.{cond-true, cond-false, not-true, not-false}
 use Rattle.model.proofs.Laws.Passes.{Passed, passed-more, passed-fails, passed-all}
 use Rattle.model.proofs.Laws.States.{is-child}
 use Rattle.model.proofs.Exact.Parameters.{parameters-iff}
@@ -24,11 +23,11 @@ use Rattle.design.specs.Records.{stateIn}
 use Rattle.design.specs.Describes.{Describes}
 use Rattle.design.specs.Kept.{StatesKept}
 use Rattle.design.specs.Resets.{Defaults}
-use Rattle.design.specs.Scopes.{inheritedScope, ScopesBelow}
+use Rattle.design.specs.Scopes.{inheritedScope, withScope, withScopes, ScopesBelow}
 use Rattle.design.proofs.Laws.{labels-count, states-count, state-in}
 use Rattle.design.proofs.ResetRules.{parent-is, parent-inside, state-fits}
 use Rattle.design.proofs.RowRules.{comparing}
-use Rattle.design.proofs.ScopeRules.{count-is, scopes-all}
+use Rattle.design.proofs.ScopeRules.{count-is, scope-put, scopes-begun, scopes-written, scopes-done, scopes-next, scopes-all}
 use Rattle.checker_records.specs.ParameterTests.{firstPairKept, secondPairKept, Entered, ParametersPassed}
 
 -- a test that a part fails
@@ -134,24 +133,44 @@ module _ {image : List ℕ} {x : Design} (d : Describes image x) where
   pub short-kept : (s : ℕ) {b : Bool} → b ≡ parametersKept (designOf image) s → not b ≡ false → length (scopeOf (designOf image) s) ≤ 2
   short-kept s {b} e h = parameters-iff (designOf image) s .0 (sym e ∙ not-false b h) .scope
 
-  pub not-entered : {table : List ℕ} {s : ℕ} {b : Bool} → b ≡ parametersKept (designOf image) s → not b ≡ true → Entered (designOf image) s false table
-  not-entered {b = b} e h = record { is = sym (not-true b h) ∙ e; scopes = λ z. absurd (false≢true z) }
+  pub not-entered : {table : List ℕ} {s : ℕ} {b : Bool} → b ≡ parametersKept (designOf image) s → not b ≡ true → Entered (designOf image) s false table table
+  not-entered {b = b} e h = record { is = sym (not-true b h) ∙ e; entry = refl }
 
-  pub entered : {table : List ℕ} {s : ℕ} {b : Bool} → ScopesBelow (designOf image) table (suc s) → b ≡ parametersKept (designOf image) s → not b ≡ false → Entered (designOf image) s true table
-  entered {b = b} so e h = record { is = sym (not-false b h) ∙ e; scopes = λ z. so }
+  pub entered : {before after : List ℕ} {s : ℕ} {b : Bool} → after ≡ withScope (designOf image) s before → b ≡ parametersKept (designOf image) s → not b ≡ false → Entered (designOf image) s true before after
+  entered {b = b} put e h = record { is = sym (not-false b h) ∙ e; entry = put }
 
-  module _ {table : List ℕ} {s : ℕ} {b : Bool} (one : Entered (designOf image) s b table) where
+  module _ {before after : List ℕ} {s : ℕ} {b : Bool} (one : Entered (designOf image) s b before after) where
     pub passed-entered : Passed (parametersKept (designOf image)) s → not b ≡ false → Passed (parametersKept (designOf image)) (s + 1)
     passed-entered p h = passed-more p (one .is) h
 
-    pub scopes-entered : not b ≡ false → ScopesBelow (designOf image) table (s + 1)
-    scopes-entered h = rw (add-one s) (one .scopes (not-false b h))
+    scope-there : not b ≡ false → after ≡ withScope (designOf image) s before
+    scope-there h = one .entry ∙ cond-true b (withScope (designOf image) s before) before (not-false b h)
 
-    pub parameters-fail : Passed (parametersKept (designOf image)) s → s < x .states → not b ≡ true → ParametersPassed (designOf image) (At s) table
-    parameters-fail p l h = record { is = passed-fails p l (states-count d) (one .is) h; scopes = λ z. let no : _≡_ {A = ℕ} 0 1 = cc in absurd (omega arith) }
+    pub scopes-entered : StatesKept (designOf image) → ScopesBelow (designOf image) before s → s < x .states → not b ≡ false → ScopesBelow (designOf image) after (s + 1)
+    scopes-entered kept so l h = scopes-next d (scope-put d kept so l (scope-there h))
 
-  pub parameters-pass : {table : List ℕ} {i : ℕ} → Passed (parametersKept (designOf image)) i → ScopesBelow (designOf image) table i → x .states ≤ i → ParametersPassed (designOf image) Nowhere table
-  parameters-pass p so l = record { is = passed-all p l (states-count d); scopes = λ z. scopes-all d so l }
+    pub entries-more : (old : List ℕ) → before ≡ withScopes (designOf image) s old → not b ≡ false → after ≡ withScopes (designOf image) (s + 1) old
+    entries-more old e h = scopes-written d old s e (scope-there h)
+
+    pub parameters-fail : (old : List ℕ) → before ≡ withScopes (designOf image) s old → Passed (parametersKept (designOf image)) s → s < x .states → not b ≡ true → ParametersPassed (designOf image) (At s) old after
+    parameters-fail old e p l h =
+        record {
+          is = passed-fails p l (states-count d) (one .is) h;
+          entries = one .entry ∙ cond-false b (withScope (designOf image) s before) before (not-true b h) ∙ e;
+          scopes = λ z. let no : _≡_ {A = ℕ} 0 1 = cc in absurd (omega arith);
+        }
+
+  pub parameters-pass :
+      (old : List ℕ) {table : List ℕ} {i : ℕ}
+      → Passed (parametersKept (designOf image)) i
+      → ScopesBelow (designOf image) table i
+      → table ≡ withScopes (designOf image) i old
+      → i ≤ x .states
+      → x .states ≤ i
+      → ParametersPassed (designOf image) Nowhere old table
+  parameters-pass old p so e h l =
+      let count = states-count d in
+      record { is = passed-all p l (states-count d); entries = scopes-done d old e (omega arith) (omega arith); scopes = λ z. scopes-all d so l }
 
 -- the laws of a state's parameters, for `search`
 pub ruleset pair-laws = (pair-unused, pair-no-lower, pair-no-upper, pair-flows, comparing)
@@ -160,4 +179,4 @@ pub ruleset taking-laws = (root-takes-none, parent-default, child-takes, state-f
 
 pub ruleset scope-label-laws = (label-plain, label-parameter)
 
-pub ruleset entering-laws = (passed-entered, scopes-entered, parameters-fail, parameters-pass)
+pub ruleset entering-laws = (scopes-begun, passed-entered, scopes-entered, entries-more, parameters-fail, parameters-pass)

@@ -102,7 +102,7 @@ fn parameters_kept(image: &[u8], design: Design, defaults: &[u8], scopes: &[u8],
 fn enter(image: &[u8], design: Design, defaults: &[u8], scopes: &mut [u8], s: usize) -> bool
     requires { ⌜ Describes (now image) design × StatesKept (designOf (now image)) × (s < design .states) ⌝ }
     requires { ⌜ Defaults (designOf (now image)) (now defaults) × ScopesBelow (designOf (now image)) (now scopes) s ⌝ }
-    ensures { λ x. ⌜ Entered (designOf (now (image .entry))) s x (now (scopes .exit)) ⌝ }
+    ensures { λ x. ⌜ Entered (designOf (now (image .entry))) s x (now (scopes .entry)) (now (scopes .exit)) ⌝ }
 {
     if !parameters_kept(image, design, defaults, scopes, s) {
         return false;
@@ -111,12 +111,11 @@ fn enter(image: &[u8], design: Design, defaults: &[u8], scopes: &mut [u8], s: us
     true
 }
 
-// Refusal 19, at the lowest state. Where there is none, the table has the scopes of all
-// states.
+// Refusal 19, at the lowest state. The table has the scopes of the states below it; where there is none, of all.
 pub fn parameters(image: &[u8], design: Design, defaults: &[u8], scopes: &mut [u8]) -> Found
     requires { ⌜ Describes (now image) design × StatesKept (designOf (now image)) ⌝ }
     requires { ⌜ Defaults (designOf (now image)) (now defaults) × (scopeLength * design .states ≤ length (now scopes)) ⌝ }
-    ensures { λ f. ⌜ ParametersPassed (designOf (now (image .entry))) f (now (scopes .exit)) ⌝ }
+    ensures { λ f. ⌜ ParametersPassed (designOf (now (image .entry))) f (now (scopes .entry)) (now (scopes .exit)) ⌝ }
 {
     let mut s = 0;
     while s < design.states {

@@ -33,6 +33,11 @@ lowest test (suc n) = orAt (lowest test n) (test n) n
 unfoldable pub lowestFailing : (ℕ → Bool) → ℕ → Found
 lowestFailing rule n = lowest (λ i. not (rule i)) n
 
+-- how many indices a pass has behind it, of so many, where it found this
+abbrev pub passed : Found → ℕ → ℕ
+passed (At n) count = n
+passed Nowhere count = count
+
 -- the lower of two finds
 abbrev pub lower : Found → Found → Found
 lower Nowhere other = other

@@ -1,18 +1,18 @@
-use Prim.Native.Nat.{_-_}
+use Prim.Native.Nat.{_-_, _≤_}
 use mathlib.Core.Path.{_≡_}
 use lib.ListN.{length}
 use Rattle.model.specs.Image.{designOf}
 use Rattle.model.specs.Parameters.{parametersKept}
 use Rattle.model.proofs.Laws.Passes.{passed-none, Passed}
-use Rattle.design.specs.Scopes.{ScopesBelow}
+use Rattle.design.specs.Scopes.{withScopes, ScopesBelow}
 use Rattle.design.proofs.ScopeRules.{scopes-none}
-use Rattle.checker_records.proofs.ParameterRules.{entering-laws}
+use Rattle.checker_records.proofs.ParameterRules.{entering-laws, passed-entered, scopes-entered, entries-more}
 use borrow.Author.Needs.{needs}
 use Rattle.checker_records.proofs.parameters.parameters.Statement.{statement}
 use Rattle.checker_records.proofs.parameters.parameters.Tie as tie
 
 abbrev Inv-loop : tie.InvT-loop
-Inv-loop image design defaults scopes₀ s₀ scopes s = Passed (parametersKept (designOf image)) s × ScopesBelow (designOf image) scopes s × (length scopes ≡ length scopes₀)
+Inv-loop image design defaults scopes₀ s₀ scopes s = Passed (parametersKept (designOf image)) s × ScopesBelow (designOf image) scopes s × (scopes ≡ withScopes (designOf image) s scopes₀) × (s ≤ design .states) × (length scopes ≡ length scopes₀)
 
 abbrev μ-loop : tie.MeasureT-loop
 μ-loop image design defaults scopes₀ s₀ scopes s = design .states - s
@@ -36,7 +36,7 @@ loop-less : tie.Need-loop-less Inv-loop μ-loop
 loop-less c = search (passed-none, scopes-none, entering-laws, needs)
 
 loop-again : tie.Need-loop-again Inv-loop μ-loop
-loop-again c = search (passed-none, scopes-none, entering-laws, needs)
+loop-again c = (search (passed-entered, needs), search (scopes-entered, needs), search (entries-more, needs), search needs, search needs)
 
 same-length-2 : tie.Need-same-length-2 Inv-loop μ-loop
 same-length-2 c = search (passed-none, scopes-none, entering-laws, needs)
