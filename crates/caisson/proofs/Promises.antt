@@ -1,19 +1,24 @@
 -- The promises as a C host has them. Each takes the postconditions of the exported functions (`Contracts.antt`), and no more.
 use Prim.Native.Nat.{ℕ, _+_, _*_, _≤_, _<_}
 use mathlib.Core.Path.{_≡_, refl, sym, _∙_, ap}
-use mathlib.Core.Logic.{_↔_}
+use mathlib.Core.Logic.{_↔_, Iff·trans}
 use mathlib.Core.List.{List, [], _∷_}
 use lib.ListN.{length}
 use Rattle.model.specs.declared.Refusal.{Refusal}
 use Rattle.model.specs.Limits.{cyclesMax, wordLength, targetLength}
 use Rattle.model.specs.Image.{AreBytes, designOf}
 use Rattle.model.specs.Answers.{Numbers, numberOf, numbersOf}
-use Rattle.model.specs.Rules.{Keeps}
 use Rattle.model.specs.Ports.{PortsKept}
-use Rattle.model.specs.Values.{wordsOf}
+use Rattle.model.specs.Kinds.{subtract}
+use Rattle.model.specs.Trees.{exprOf, exprDepth}
+use Rattle.model.specs.Values.{apply, wordsOf}
+use Rattle.model.specs.Machine.{cycle}
+use Rattle.model.specs.Listing.{bytesOfText, listing}
 use Rattle.model.specs.Calls.{Lent}
-use Rattle.model.specs.Refusals.{FirstBroken, imageTable, callTable, callCount, AnswersBy, WithinWidths}
-use Rattle.model.specs.declared.Answer.the-variants.{Accepted}
+use Rattle.model.specs.Refusals.{AllKept, FirstBroken, imageTable, callTable, callCount, AnswersBy, WithinWidths}
+use Rattle.model.specs.declared.Answer.the-variants.{Accepted, Refused}
+use Rattle.model.specs.declared.Refusal.the-variants.{Depth, Shape}
+use Rattle.model.specs.declared.Found.the-variants.{At, Nowhere}
 use Rattle.model.specs.Verdict.{verdict}
 use Rattle.model.specs.Neighbours.{common}
 use Rattle.model.specs.Parties.{Call, resets, writes, runs, perform, Event, events, atEnd, Use, withUnseen, start, history, remains, views, valuesSeen, view, remaining, seenAtEnd}
@@ -21,16 +26,33 @@ use Rattle.model.proofs.Exact.{verdict-exact}
 use Rattle.model.proofs.Grouping.{Grouped}
 use Rattle.model.proofs.Writing.{ChangesOnly}
 use Rattle.model.proofs.Promises as meaning
+use Rattle.model.proofs.Opened.{areas, faultOfRows, walks, anyLent}
+use Rattle.model.proofs.Designs.{lease, deep, gotoRoot}
+use Rattle.model_cases.proofs.Cases as cases
 use Rattle.caisson.specs.declared.HostAnswer.{HostAnswer}
 use Rattle.caisson.specs.Told.{told, NumbersLeft}
 use Rattle.caisson.proofs.Contracts.{Checked, RegistersMeasured, TargetsMeasured, Called, AllCalled, Hosted, checked-told, registers-measured, targets-measured, called-made}
 
--- Demand 2, of check: a host is told 0, 0, 0 exactly when the image keeps the rules.
-pub told-accepted-exactly : (image : List ℕ) (h : HostAnswer) → Checked image h → (told h ≡ record { number = 0; place = 0; count = 0 }) ↔ Keeps image
-told-accepted-exactly image h checked = rw (checked-told image h checked) (meaning.accepted-exactly image)
+-- Demand 2, of check: a host is told 0, 0, 0 exactly when the image keeps every row of the table of refusals, at every place.
+pub told-accepted-exactly : (image : List ℕ) (h : HostAnswer) → Checked image h → (told h ≡ record { number = 0; place = 0; count = 0 }) ↔ AllKept (imageTable image)
+told-accepted-exactly image h checked = rw (checked-told image h checked) (Iff·trans (meaning.accepted-exactly image) (meaning.keeps-exactly image))
 
 pub told-verdict : (image : List ℕ) (h : HostAnswer) → Checked image h → told h ≡ record { number = 0; place = 0; count = 0 } → verdict image ≡ Accepted 0
-told-verdict image h checked accepted = verdict-exact image .1 (told-accepted-exactly image h checked .0 accepted)
+told-verdict image h checked accepted = verdict-exact image .1 (meaning.keeps-exactly image .1 (told-accepted-exactly image h checked .0 accepted))
+
+-- 01: "Proved cases, one table", P1 to P10 in their order.
+pub proved-cases
+    : (listing (4 ∷ 0 ∷ lease) ≡ bytesOfText "cycle;walk;registers\n1;0 1;3 0\n2;0 2 3;2 0\n3;0 2 3;1 0\n4;0 2;0 0\n")
+    × (walks (events lease anyLent (resets ∷ writes 1 7 ∷ runs 3 ∷ [])) ≡ (0 ∷ 1 ∷ []) ∷ (0 ∷ 2 ∷ 3 ∷ []) ∷ (0 ∷ 2 ∷ 4 ∷ []) ∷ [])
+    × (cycle (designOf lease) (areas (3 ∷ 0 ∷ []) (1 ∷ 1 ∷ 4 ∷ 3 ∷ 4 ∷ [])) .after .targets ≡ 2 ∷ 1 ∷ 3 ∷ 3 ∷ 4 ∷ [])
+    × (apply subtract 0 1 ≡ 4294967295)
+    × ((exprDepth (exprOf (designOf (deep 63)) 126) ≡ 64) × (verdict (deep 63) ≡ Accepted 0))
+    × (verdict (deep 64) ≡ Refused Depth (1024 + 128))
+    × (faultOfRows (1 ∷ []) ≡ Nowhere)
+    × (faultOfRows (15 ∷ 10 ∷ 12 ∷ 8 ∷ []) ≡ Nowhere)
+    × (faultOfRows (7 ∷ 2 ∷ 4 ∷ []) ≡ At 1)
+    × (verdict gotoRoot ≡ Refused Shape 1)
+proved-cases = cases.proved-cases
 
 -- ---- what a call told and left
 pub called-told : (image : List ℕ) (before after : Lent) (call : Call) (h : HostAnswer) → Called image before call h after → told h ≡ numbersOf (perform image before call .answer)

@@ -72,6 +72,20 @@ p9-rows = unfold checks in refl
 p10-refused : verdict gotoRoot ≡ Refused Shape 1
 p10-refused = unfold checks in refl
 
+-- the ten in one, in 01's order
+pub proved-cases
+    : (listing (4 ∷ 0 ∷ lease) ≡ bytesOfText "cycle;walk;registers\n1;0 1;3 0\n2;0 2 3;2 0\n3;0 2 3;1 0\n4;0 2;0 0\n")
+    × (walks (events lease anyLent (resets ∷ writes 1 7 ∷ runs 3 ∷ [])) ≡ (0 ∷ 1 ∷ []) ∷ (0 ∷ 2 ∷ 3 ∷ []) ∷ (0 ∷ 2 ∷ 4 ∷ []) ∷ [])
+    × (cycle (designOf lease) (areas (3 ∷ 0 ∷ []) (1 ∷ 1 ∷ 4 ∷ 3 ∷ 4 ∷ [])) .after .targets ≡ 2 ∷ 1 ∷ 3 ∷ 3 ∷ 4 ∷ [])
+    × (apply subtract 0 1 ≡ 4294967295)
+    × ((exprDepth (exprOf (designOf (deep 63)) 126) ≡ 64) × (verdict (deep 63) ≡ Accepted 0))
+    × (verdict (deep 64) ≡ Refused Depth (1024 + 128))
+    × (faultOfRows (1 ∷ []) ≡ Nowhere)
+    × (faultOfRows (15 ∷ 10 ∷ 12 ∷ 8 ∷ []) ≡ Nowhere)
+    × (faultOfRows (7 ∷ 2 ∷ 4 ∷ []) ≡ At 1)
+    × (verdict gotoRoot ≡ Refused Shape 1)
+proved-cases = (p1-listing, p2-walks, p3-targets, p4-subtract, (p5-depth, p5-accepted), p6-refused, p7-rows, p8-rows, p9-rows, p10-refused)
+
 -- 01, 'The lease design'.
 
 -- "208 bytes"; with 02's E2, which gives each of its two registers a byte more, and E8, which gives each of its five states five, 235
