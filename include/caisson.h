@@ -13,8 +13,8 @@
  * the length is 0. The slices of one call must not overlap. Nothing is read or written outside them.
  *
  * Every call answers a caisson_answer, but for caisson_version, caisson_format and caisson_matches, which are about
- * the library itself, and for caisson_earlier, which hands back a part of what it is lent, and caisson_which_earlier
- * before it. `number` is 0 on acceptance, else the refusal's number, one of the
+ * the library itself, and for caisson_earlier, which hands back a part of what it is lent, with
+ * caisson_earlier_part and caisson_which_earlier. `number` is 0 on acceptance, else the refusal's number, one of the
  * caisson_refusal values below: of those that apply, the one judged first. Every call begins with the image
  * checks, in this order: 1 to 8, then 16, then 19, then 9, then 10 to 12 in one pass in reading order: state
  * by state from number 0 on, and in each the commands as they are written, an if's first branch before its
@@ -645,6 +645,14 @@ caisson_answer caisson_file(const uint8_t *image, size_t image_len, /* the image
                             uint8_t *out, size_t out_len);          /* where its filing form goes */
 
 /*
+ * The proved call behind caisson_earlier, for hosts that have no use of the function below: it puts the part into
+ * *part. What *part holds before must be a part of readable memory too, as {first, 0} is; it is not read.
+ */
+void caisson_earlier_part(const uint8_t *first, size_t first_len,   /* one image */
+                          const uint8_t *second, size_t second_len, /* and another */
+                          caisson_part *part);                      /* where the part goes */
+
+/*
  * caisson_earlier without pointers, for hosts in other languages: which image it hands back a part of, and how
  * many bytes of it.
  */
@@ -671,11 +679,9 @@ CAISSON_LOOK_AT_ANSWER
 static inline caisson_part caisson_earlier(const uint8_t *first, size_t first_len,   /* one image */
                                            const uint8_t *second, size_t second_len) /* and another */
 {
-    caisson_which which = caisson_which_earlier(first, first_len, second, second_len);
-    caisson_part part;
+    caisson_part part = {first, 0};
 
-    part.bytes = which.second != 0 ? second : first;
-    part.len = which.len;
+    caisson_earlier_part(first, first_len, second, second_len, &part);
     return part;
 }
 

@@ -4,9 +4,13 @@ use Prim.Native.Nat.{ℕ, _≤_}
 use mathlib.Core.Path.{_≡_, refl, sym, _∙_, ap}
 use mathlib.Core.Logic.{_↔_}
 use mathlib.Core.Bool.{false, _&&_}
-use mathlib.Core.List.{List}
+use mathlib.Core.List.{List, []}
 use lib.ListN.{length, take}
 use lib.Seq.{take-length}
+use contract.Lifetimes.{Lfts}
+use denote.Ref.{now}
+use denote.Triple.Clauses.{AtExit}
+use borrow.Fn.Kinds.{Dens, endedOf}
 use Rattle.model.specs.declared.Answer.the-variants.{Accepted}
 use Rattle.model.specs.Image.{byteAt, AreBytes}
 use Rattle.model.specs.Answers.{Numbers, numbersOf}
@@ -19,7 +23,7 @@ use Rattle.filing_model.specs.declared.Earlier.the-variants.{First, Second, Nei
 use Rattle.filing_model.specs.Filed.{filedImage}
 use Rattle.filing_model.specs.Same.{DifferAtMostInNumbers}
 use Rattle.filing_model.specs.Order.{comesBefore}
-use Rattle.filing_model.specs.Calls.{file, earlier, handedBack}
+use Rattle.filing_model.specs.Calls.{file, earlier, handedBack, handedFrom}
 use Rattle.filing_model.specs.Rules.{fileTable}
 use Rattle.filing_model.proofs.Promises as meaning
 use Rattle.caisson.specs.declared.HostAnswer.{HostAnswer}
@@ -28,7 +32,9 @@ use Rattle.caisson.specs.Told.{told, NumbersLeftOut}
 use Rattle.caisson.specs.ToldFiling.{Part, toldWhich, partOf, bytesOf}
 use Rattle.caisson.proofs.Contracts.{Checked}
 use Rattle.caisson.proofs.Promises.{told-verdict}
-use Rattle.caisson.proofs.FileContracts.{FileCalled, file-called, EarlierCalled, earlier-called}
+use Rattle.caisson.proofs.FileContracts.{FileCalled, file-called, EarlierCalled, earlier-called, part-tie}
+use Rattle.caisson.proofs.caisson_earlier_part.Kinds as part-kinds
+use Rattle.caisson.proofs.caisson_earlier_part.Reads as part-reads
 
 -- ---- what filing told and left
 module _ (image before : List ℕ) (h : HostAnswer) (after : List ℕ) (called : FileCalled image before h after) where
@@ -111,3 +117,29 @@ module _ (first second : List ℕ) (h : HostWhich) (called : EarlierCalled first
       → (comesBefore (filedImage first) (filedImage (bytesOf first second (toldWhich h))) ≡ false)
       × (comesBefore (filedImage second) (filedImage (bytesOf first second (toldWhich h))) ≡ false)
   told-earlier-least a b = rw told-handed-back (meaning.earlier-is-least first second a b)
+
+-- ---- the part itself, as the call that puts it where the host says leaves it: its bytes, and where they begin
+module _ (κs : Lfts 2) (a : Dens κs part-kinds.ps) (e : AtExit (endedOf 2 part-kinds.ps part-kinds.r) κs) (called : part-reads.Post κs a tt e) where
+  -- "handed back as it was lent"
+  pub part-handed-back :
+      (now (now (e .1 .1 .0)) ≡ handedBack (now (a .0)) (now (a .1 .0)) (earlier (now (a .0)) (now (a .1 .0))))
+      × (now (e .1 .1 .0) .ptr ≡ handedFrom (a .0 .ptr) (a .1 .0 .ptr) (earlier (now (a .0)) (now (a .1 .0))))
+  part-handed-back = part-tie κs a e called
+
+  -- "the first of them if equal": not the second, also where both have the same bytes
+  pub part-first-where-equal :
+      verdict (now (a .0)) ≡ Accepted 0
+      → verdict (now (a .1 .0)) ≡ Accepted 0
+      → filedImage (now (a .0)) ≡ filedImage (now (a .1 .0))
+      → (now (now (e .1 .1 .0)) ≡ now (a .0)) × (now (e .1 .1 .0) .ptr ≡ a .0 .ptr)
+  part-first-where-equal f s same =
+      let first = meaning.first-where-equal (now (a .0)) (now (a .1 .0)) f s same in
+      (part-handed-back .0 ∙ ap (handedBack (now (a .0)) (now (a .1 .0))) first, part-handed-back .1 ∙ ap (handedFrom (a .0 .ptr) (a .1 .0 .ptr)) first)
+
+  -- "an empty part of the first if either is refused"
+  pub part-of-first-where-refused :
+      (accepts (verdict (now (a .0))) && accepts (verdict (now (a .1 .0)))) ≡ false
+      → (now (now (e .1 .1 .0)) ≡ []) × (now (e .1 .1 .0) .ptr ≡ a .0 .ptr)
+  part-of-first-where-refused refused =
+      let neither = meaning.neither-where-refused (now (a .0)) (now (a .1 .0)) refused in
+      (part-handed-back .0 ∙ ap (handedBack (now (a .0)) (now (a .1 .0))) neither, part-handed-back .1 ∙ ap (handedFrom (a .0 .ptr) (a .1 .0 .ptr)) neither)

@@ -14,7 +14,7 @@ ghost use Rattle.journal_model.specs.Calls.{runJournalled, stepBack};
 ghost use Rattle.journal.specs.Stages.{lendsJournal};
 ghost use Rattle.replay_model.specs.Calls.{replay as replayOf};
 ghost use Rattle.pruning_model.specs.Calls.{prune};
-ghost use Rattle.filing_model.specs.Calls.{file, earlier};
+ghost use Rattle.filing_model.specs.Calls.{file, earlier, handedBack, handedFrom};
 ghost use Rattle.caisson.specs.Told.{told, toldLeft, inNumbers, toldLeftRegisters, registersInNumbers, toldLeftOut, outInNumbers};
 ghost use Rattle.caisson.specs.ToldFiling.{toldWhich, partOf};
 ghost use Rattle.caisson.specs.ToldGates.{toldLeftFlipFlops, flipFlopsInNumbers};
@@ -211,8 +211,16 @@ pub struct HostWhich {
     pub len: usize,
 }
 
-// Which of two images is handed back, and how long a part of it. A function that returns the part itself is
-// `filing::earlier`; it cannot be exported.
+// The earlier of two lent images as it was lent, as a part that the host lends room for; in C it is a pointer and a
+// length. An exported function returns no reference.
+#[no_mangle]
+pub extern "C" fn caisson_earlier_part<'a>(first: &'a [u8], second: &'a [u8], part: &mut &'a [u8])
+    ensures { λ _. ⌜ (now (now (part .exit)) ≡ handedBack (now (first .entry)) (now (second .entry)) (earlier (now (first .entry)) (now (second .entry)))) × (now (part .exit) .ptr ≡ handedFrom (first .entry .ptr) (second .entry .ptr) (earlier (now (first .entry)) (now (second .entry)))) ⌝ }
+{
+    *part = filing::earlier(first, second);
+}
+
+// The same without pointers: which of two images is handed back, and how long a part of it.
 #[no_mangle]
 pub extern "C" fn caisson_which_earlier(first: &[u8], second: &[u8]) -> HostWhich
     ensures { λ r. ⌜ toldWhich r ≡ partOf (now (first .entry)) (now (second .entry)) (earlier (now (first .entry)) (now (second .entry))) ⌝ }

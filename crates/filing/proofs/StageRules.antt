@@ -17,7 +17,7 @@ use Rattle.filing_model.specs.declared.Earlier.{Earlier}
 use Rattle.filing_model.specs.declared.Earlier.the-variants.{First, Second, Neither}
 use Rattle.filing_model.specs.Filed.{filedImage}
 use Rattle.filing_model.specs.Order.{comesBefore}
-use Rattle.filing_model.specs.Calls.{fileAnswer, file, earlier, handedBack}
+use Rattle.filing_model.specs.Calls.{fileAnswer, file, earlier, handedBack, handedFrom}
 use Rattle.filing_model.proofs.Earliest.{earlier-refused, earlier-second, earlier-not-second}
 use Rattle.filing.specs.Stages.{fileOn}
 
@@ -60,8 +60,20 @@ module _ (first second : List ℕ) where
     pub first-back : which ≡ First → first ≡ handedBack first second (earlier first second)
     first-back h = rw (← is, h)
 
+    pub from-first : {A : Type 0} (a b : A) → which ≡ First → a ≡ handedFrom a b (earlier first second)
+    from-first a b h = rw (← is, h)
+
+    pub from-second : {A : Type 0} (a b : A) → which ≡ Second → b ≡ handedFrom a b (earlier first second)
+    from-second a b h = rw (← is, h)
+
+    pub from-first-too : {A : Type 0} (a b : A) → which ≡ Neither → a ≡ handedFrom a b (earlier first second)
+    from-first-too a b h = rw (← is, h)
+
     pub second-back : which ≡ Second → second ≡ handedBack first second (earlier first second)
     second-back h = rw (← is, h)
 
     pub nothing-back : which ≡ Neither → take 0 first ≡ handedBack first second (earlier first second)
     nothing-back h = rw (← is, h)
+
+-- the laws of what is handed back, for `search`
+pub ruleset back-laws = (first-back, second-back, nothing-back, from-first, from-second, from-first-too)

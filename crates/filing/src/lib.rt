@@ -12,7 +12,7 @@ use model::Answer;
 ghost use mathlib.Core.Path.{_≡_};
 ghost use Rattle.model.specs.Verdict.{verdict as verdictOf};
 ghost use Rattle.model.specs.Raising.{accepts as acceptsIn, leftOutAs};
-ghost use Rattle.filing_model.specs.Calls.{file as fileOf, earlier as earlierOf, handedBack};
+ghost use Rattle.filing_model.specs.Calls.{file as fileOf, earlier as earlierOf, handedBack, handedFrom};
 
 // The filing form of an image, over the beginning of the output area.
 pub fn file(image: &[u8], out: &mut [u8]) -> Answer
@@ -54,7 +54,7 @@ pub fn which_earlier(first: &[u8], second: &[u8]) -> Earlier
 
 // The earlier of two lent images as it was lent, and an empty part of the first where either is refused.
 pub fn earlier<'a>(first: &'a [u8], second: &'a [u8]) -> &'a [u8]
-    ensures { λ r. ⌜ now r ≡ handedBack (now (first .entry)) (now (second .entry)) (earlierOf (now (first .entry)) (now (second .entry))) ⌝ }
+    ensures { λ r. ⌜ (now r ≡ handedBack (now (first .entry)) (now (second .entry)) (earlierOf (now (first .entry)) (now (second .entry)))) × (r .ptr ≡ handedFrom (first .entry .ptr) (second .entry .ptr) (earlierOf (now (first .entry)) (now (second .entry)))) ⌝ }
 {
     let which = which_earlier(first, second);
     match which {

@@ -38,3 +38,9 @@ module _ (first second : List ℕ) where
   handedBack First = first
   handedBack Second = second
   handedBack Neither = take 0 first
+
+-- the same of anything that two images have, as where they stand: the empty part begins where the first image does
+abbrev pub handedFrom : {A : Type 0} → A → A → Earlier → A
+handedFrom first second First = first
+handedFrom first second Second = second
+handedFrom first second Neither = first

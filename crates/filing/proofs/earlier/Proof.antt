@@ -1,4 +1,4 @@
-use Rattle.filing.proofs.StageRules.{first-back, second-back, nothing-back}
+use Rattle.filing.proofs.StageRules.{back-laws}
 use borrow.Author.Needs.{needs}
 use Rattle.filing.proofs.earlier.Statement.{statement}
 use Rattle.filing.proofs.earlier.Tie as tie
@@ -19,13 +19,13 @@ slice-aggregate-result : tie.Need-slice-aggregate-result
 slice-aggregate-result c = search needs
 
 returns : tie.Need-returns
-returns c = search (first-back, second-back, nothing-back, needs)
+returns c = search (back-laws, needs)
 
 returns-2 : tie.Need-returns-2
-returns-2 c = search (first-back, second-back, nothing-back, needs)
+returns-2 c = search (back-laws, needs)
 
 returns-3 : tie.Need-returns-3
-returns-3 c = search (first-back, second-back, nothing-back, needs)
+returns-3 c = search (back-laws, needs)
 
 pub earlier-spec : {M : Type 1} → statement M
 earlier-spec =
