@@ -1,15 +1,15 @@
 -- The wires on the stack: a byte carries its signal, the sources are those that are lent, and each gate adds its own behind lower ones.
 use Prim.Native.Nat.{ℕ, _+_, _-_, _*_, _/_, _%_, _≤_, _<_}
-use mathlib.Core.Path.{_≡_, sym, _∙_, ap, ap₂}
+use mathlib.Core.Path.{_≡_, refl, sym, _∙_, ap, ap₂}
 use mathlib.Core.List.{List}
 use native.Mathlib.Omega.{arith}
 use native.Mathlib.Nat.{add-zero}
 use native.Mathlib.Numerals.{add-one}
-use lib.ListN.{length, getD, set}
+use lib.ListN.{length, getD, set, length-set}
 use lib.Seq.{getD-set-same, getD-set-other}
 use mir.Syntax.{w8}
 use mir.Val.{Fits}
-use Rattle.model.proofs.Laws.Indices.{extend, nothing-below-zero}
+use Rattle.model.proofs.Laws.Indices.{extend, nothing-below-zero, length-filled, filled-behind, filled-is}
 use Rattle.gates_model.specs.Tables.{Table, tableOf, gateAt, firstGate, wires}
 use Rattle.gates_model.specs.Signals.{Signal, IsSound, nand}
 use Rattle.gates_model.specs.Cycle.{signalAt, signalIn, inputSignal, sources, settled, signals}
@@ -17,7 +17,7 @@ use Rattle.gates_model.proofs.Laws.Wires.{length-sources, source-input, source-
 use Rattle.gates.specs.declared.Gates.{Gates}
 use Rattle.gates.specs.Records.{markIn, gateIn}
 use Rattle.gates.specs.Describes.{Accepts}
-use Rattle.gates.specs.Codes.{codeOf, signalOf, Carries, Lends}
+use Rattle.gates.specs.Codes.{codeOf, signalOf, withWires, Carries, Lends}
 use Rattle.gates.proofs.Laws.{inputs-count, flipflops-count, gates-count, inputs-most, flipflops-most, gates-most, mark-in, first-in, second-in}
 
 -- ---- one byte
@@ -52,6 +52,22 @@ module _ {all : List Signal} where
 -- signals that are the same up to n
 carries-same : {all other : List Signal} {n : ℕ} {bytes : List ℕ} → Carries all n bytes → ((w : ℕ) → w < n → signalAt other w ≡ signalAt all w) → Carries other n bytes
 carries-same so same = record { code = λ w l. so .code w l ∙ ap codeOf (sym (same w l)); sound = λ w l. rw (same w l) (so .sound w l) }
+
+-- ---- the bytes from a wire on, which stay
+pub record Beyond (old : List ℕ) (n : ℕ) (bytes : List ℕ) : Type 0 where
+  pub long : length bytes ≡ length old
+  pub rest : (k : ℕ) → n ≤ k → getD bytes k 0 ≡ getD old k 0
+
+pub beyond-same : {n : ℕ} {old : List ℕ} → Beyond old n old
+beyond-same = record { long = refl; rest = λ k l. refl }
+
+beyond-more : (v : ℕ) {n : ℕ} {old bytes : List ℕ} → Beyond old n bytes → Beyond old (n + 1) (set bytes n v)
+beyond-more v {n} {old} {bytes} so =
+    record { long = length-set bytes n v ∙ so .long; rest = λ k l. getD-set-other bytes n k v 0 (λ z. omega arith) ∙ so .rest k (omega arith) }
+
+-- so every byte is known
+wires-known : {all : List Signal} {n : ℕ} {old bytes : List ℕ} → Carries all n bytes → Beyond old n bytes → bytes ≡ withWires all n old
+wires-known {all} {n} {old} {bytes} so beyond = filled-is (λ w. codeOf (signalAt all w)) n old bytes (beyond .long) (so .code) (beyond .rest)
 
 -- ---- the sources
 module _ {table : List ℕ} {x : Gates} {inputs area : List ℕ} (known : Accepts table x) (lent : Lends (tableOf table) inputs area) where
@@ -111,6 +127,17 @@ module _ {table : List ℕ} {x : Gates} {inputs area : List ℕ} (known : Accept
       let f = flipflops-count (known .describes) in
       let end : firstGate (tableOf table) ≡ w = omega arith in
       rw end so
+
+  pub source-beyond : (v : ℕ) {w : ℕ} {old bytes : List ℕ} → Beyond old w bytes → Beyond old (w + 1) (set bytes w v)
+  source-beyond = beyond-more
+
+  pub sources-known : {w : ℕ} {old bytes : List ℕ} → Carries (sources (tableOf table) inputs area) w bytes → Beyond old w bytes → w ≤ x .inputs + x .flipflops → x .inputs + x .flipflops ≤ w
+      → bytes ≡ withWires (sources (tableOf table) inputs area) (firstGate (tableOf table)) old
+  sources-known {w} so beyond l h =
+      let i = inputs-count (known .describes) in
+      let f = flipflops-count (known .describes) in
+      let end : firstGate (tableOf table) ≡ w = omega arith in
+      rw end (wires-known so beyond)
 
 -- ---- the gates
 pub settled-begins : (t : Table) {start : List Signal} {bytes : List ℕ} → Carries start (firstGate t) bytes → Carries (settled t start 0) (firstGate t + 0) bytes
@@ -209,3 +236,34 @@ module _ {table : List ℕ} {x : Gates} (known : Accepts table x) where
       let n = gates-count (known .describes) in
       let end : length (t .gates) ≡ g = omega arith in
       rw end so
+
+  pub gate-beyond : (g v : ℕ) {old bytes : List ℕ} → Beyond old (firstGate (tableOf table) + g) bytes → Beyond old (firstGate (tableOf table) + (g + 1)) (set bytes (x .inputs + x .flipflops + g) v)
+  gate-beyond g v so =
+      let i = inputs-count (known .describes) in
+      let f = flipflops-count (known .describes) in
+      let here : x .inputs + x .flipflops + g ≡ firstGate (tableOf table) + g = omega arith in
+      let more : firstGate (tableOf table) + (g + 1) ≡ firstGate (tableOf table) + g + 1 = omega arith in
+      rw (here, more) (beyond-more v so)
+
+  pub gates-known : (inputs area : List ℕ) (old : List ℕ) {g : ℕ} {first bytes : List ℕ}
+      → first ≡ withWires (sources (tableOf table) inputs area) (firstGate (tableOf table)) old
+      → Carries (settled (tableOf table) (sources (tableOf table) inputs area) g) (firstGate (tableOf table) + g) bytes
+      → Beyond first (firstGate (tableOf table) + g) bytes
+      → g ≤ x .gates
+      → x .gates ≤ g
+      → bytes ≡ withWires (signals (tableOf table) inputs area) (wires (tableOf table)) old
+  unfolding signals
+  gates-known inputs area old {g} {first} {bytes} e so beyond l h =
+      let t = tableOf table in
+      let n = gates-count (known .describes) in
+      let end : length (t .gates) ≡ g = omega arith in
+      let code : ℕ → ℕ = λ w. codeOf (signalAt (sources t inputs area) w) in
+      let long : length first ≡ length old = ap length e ∙ length-filled code (firstGate t) old in
+      rw
+      end
+      (wires-known
+      so
+      (record {
+        long = beyond .long ∙ long;
+        rest = λ k b. beyond .rest k b ∙ ap (λ (bytes : List ℕ). getD bytes k 0) e ∙ filled-behind code (firstGate t) old k (omega arith);
+      }))

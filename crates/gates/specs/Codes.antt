@@ -5,7 +5,7 @@ use mathlib.Core.Bool.{Bool, cond, _&&_}
 use mathlib.Core.List.{List}
 use lib.Dec.{ltb}
 use lib.ListN.{length, getD, set}
-use Rattle.model.specs.Indices.{tabulate}
+use Rattle.model.specs.Indices.{tabulate, filledTo}
 use Rattle.model.specs.Image.{byteAt}
 use Rattle.gates_model.specs.Limits.{signalLength}
 use Rattle.gates_model.specs.Tables.{Table, flipFlopAt, firstGate}
@@ -19,6 +19,10 @@ codeOf s = s .value + 2 * s .mark
 
 abbrev pub signalOf : ℕ → Signal
 signalOf code = signal (code % 2) (code / 2)
+
+-- bytes with the first n of these signals; those from n on stay
+abbrev pub withWires : List Signal → ℕ → List ℕ → List ℕ
+withWires signals n old = filledTo (λ w. codeOf (signalAt signals w)) n old
 
 -- the bytes carry the first n of these signals, and these are sound
 pub record Carries (signals : List Signal) (n : ℕ) (wires : List ℕ) : Type 0 where

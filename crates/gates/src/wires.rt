@@ -9,7 +9,7 @@ ghost use Rattle.gates_model.specs.Tables.{tableOf, firstGate, wires as wiresOf
 ghost use Rattle.gates_model.specs.Signals.{nand as nandOf};
 ghost use Rattle.gates_model.specs.Cycle.{signalAt, sources, signals};
 ghost use Rattle.gates.specs.Describes.{Accepts};
-ghost use Rattle.gates.specs.Codes.{codeOf, signalOf, Carries, Lends};
+ghost use Rattle.gates.specs.Codes.{codeOf, signalOf, withWires, Carries, Lends};
 
 // What a gate makes of two wires. A trusted 0 decides: the output is a trusted 1.
 fn nand(a: u8, b: u8) -> u8
@@ -37,7 +37,7 @@ fn source(table: &[u8], gates: Gates, inputs: &[u8], area: &[u8], w: usize) -> u
 // The wires before the gates.
 fn put_sources(table: &[u8], gates: Gates, inputs: &[u8], area: &[u8], wires: &mut [u8])
     requires { ⌜ Accepts (now table) gates × Lends (tableOf (now table)) (now inputs) (now area) × (length (now wires) ≡ wiresMax) ⌝ }
-    ensures { λ _. ⌜ Carries (sources (tableOf (now (table .entry))) (now (inputs .entry)) (now (area .entry))) (firstGate (tableOf (now (table .entry)))) (now (wires .exit)) ⌝ }
+    ensures { λ _. ⌜ (now (wires .exit) ≡ withWires (sources (tableOf (now (table .entry))) (now (inputs .entry)) (now (area .entry))) (firstGate (tableOf (now (table .entry)))) (now (wires .entry))) × Carries (sources (tableOf (now (table .entry))) (now (inputs .entry)) (now (area .entry))) (firstGate (tableOf (now (table .entry)))) (now (wires .exit)) ⌝ }
 {
     let first_gate = gates.inputs + gates.flipflops;
     let mut w = 0;
@@ -50,7 +50,7 @@ fn put_sources(table: &[u8], gates: Gates, inputs: &[u8], area: &[u8], wires: &m
 // All wires: the gates follow in their order, and each reads lower wires.
 pub fn settle(table: &[u8], gates: Gates, inputs: &[u8], area: &[u8], wires: &mut [u8])
     requires { ⌜ Accepts (now table) gates × Lends (tableOf (now table)) (now inputs) (now area) × (length (now wires) ≡ wiresMax) ⌝ }
-    ensures { λ _. ⌜ Carries (signals (tableOf (now (table .entry))) (now (inputs .entry)) (now (area .entry))) (wiresOf (tableOf (now (table .entry)))) (now (wires .exit)) ⌝ }
+    ensures { λ _. ⌜ (now (wires .exit) ≡ withWires (signals (tableOf (now (table .entry))) (now (inputs .entry)) (now (area .entry))) (wiresOf (tableOf (now (table .entry)))) (now (wires .entry))) × Carries (signals (tableOf (now (table .entry))) (now (inputs .entry)) (now (area .entry))) (wiresOf (tableOf (now (table .entry)))) (now (wires .exit)) ⌝ }
 {
     put_sources(table, gates, inputs, area, wires);
     let first_gate = gates.inputs + gates.flipflops;

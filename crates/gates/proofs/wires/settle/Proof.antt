@@ -6,12 +6,12 @@ use Rattle.gates_model.specs.Tables.{tableOf, firstGate}
 use Rattle.gates_model.specs.Cycle.{sources, settled}
 use Rattle.gates.specs.Codes.{Carries}
 use Rattle.gates.proofs.Laws.{gate-inside}
-use Rattle.gates.proofs.WireRules.{settled-begins, first-inside, first-small, second-inside, second-small, gate-inside-wires, gate-carried, gates-carried}
+use Rattle.gates.proofs.WireRules.{Beyond, settled-begins, beyond-same, first-inside, first-small, second-inside, second-small, gate-inside-wires, gate-carried, gate-beyond, gates-carried, gates-known}
 use Rattle.gates.proofs.wires.settle.Statement.{statement}
 use Rattle.gates.proofs.wires.settle.Tie as tie
 
 abbrev Inv-loop : tie.InvT-loop
-Inv-loop table gates inputs area wires₀ first-gate g₀ wires g = Carries (settled (tableOf table) (sources (tableOf table) inputs area) g) (firstGate (tableOf table) + g) wires × (length wires ≡ 4608) × (g ≤ gates .gates)
+Inv-loop table gates inputs area wires₀ first-gate g₀ wires g = Carries (settled (tableOf table) (sources (tableOf table) inputs area) g) (firstGate (tableOf table) + g) wires × Beyond wires₀ (firstGate (tableOf table) + g) wires × (length wires ≡ 4608) × (g ≤ gates .gates)
 
 abbrev μ-loop : tie.MeasureT-loop
 μ-loop table gates inputs area wires₀ first-gate g₀ wires g = gates .gates - g
@@ -23,7 +23,7 @@ add-first-gate : tie.Need-add-first-gate Inv-loop μ-loop
 add-first-gate c = search needs
 
 loop-holds : tie.Need-loop-holds Inv-loop μ-loop
-loop-holds c = search (settled-begins, needs)
+loop-holds c = search (settled-begins, beyond-same, needs)
 
 first-requires : tie.Need-first-requires Inv-loop μ-loop
 first-requires c κs = search (gate-inside, needs)
@@ -53,13 +53,13 @@ loop-less : tie.Need-loop-less Inv-loop μ-loop
 loop-less c = search needs
 
 loop-again : tie.Need-loop-again Inv-loop μ-loop
-loop-again c = (search (gate-carried, needs), search needs, search needs)
+loop-again c = (search (gate-carried, needs), search (gate-beyond, needs), search needs, search needs)
 
 same-length : tie.Need-same-length Inv-loop μ-loop
 same-length c = search needs
 
 returns : tie.Need-returns Inv-loop μ-loop
-returns c = search (gates-carried, needs)
+returns c = (search (gates-known, needs), search (gates-carried, needs))
 
 pub settle-spec : {M : Type 1} → statement M
 settle-spec =
