@@ -11,10 +11,11 @@ use Rattle.design.specs.Describes.{Describes}
 use Rattle.design.specs.Kept.{Structured}
 use Rattle.design.proofs.Laws.{commands-count, expressions-count, commands-most, expressions-most}
 use Rattle.checker.proofs.Accepted.{accepted-known}
+use Rattle.encoding.specs.Parts.{overwrittenAt}
 use Rattle.filing_model.specs.Filed.{commandOrder, expressionOrder}
 use Rattle.filing_model.proofs.Counts.{Enumerates, enumerated-long}
 use Rattle.filing_model.proofs.Orders.{commands-enumerated, expressions-enumerated}
-use Rattle.filing_steps.specs.Tables.{EachBelow, Ordered, Numbered, FormTables}
+use Rattle.filing_steps.specs.Tables.{EachBelow, Ordered, withPlaces, Numbered, tablesOf, withForm, FormTables}
 
 -- ---- an accepted image
 pub accepted-filing : {image : List ℕ} {x : Described} → Describes image x → Keeps image → Structured image x
@@ -72,3 +73,21 @@ module _ {image : List ℕ} {x : Described} (here : Structured image x) where
         expressions-ordered = expressions-ordered;
         expressions-numbered = rw (taken expressions-all expressions-ordered) at expressions-numbered;
       }
+
+  pub form-filled :
+      (commands₀ command-numbers₀ expressions₀ expression-numbers₀ : List ℕ) {commands command-numbers expressions expression-numbers : List ℕ}
+      → commands ≡ overwrittenAt 0 (commandOrder (designOf image)) commands₀
+      → Ordered (commandOrder (designOf image)) commands
+      → command-numbers ≡ withPlaces 0 (take (x .commands) commands) command-numbers₀
+      → expressions ≡ overwrittenAt 0 (expressionOrder (designOf image)) expressions₀
+      → Ordered (expressionOrder (designOf image)) expressions
+      → expression-numbers ≡ withPlaces 0 (take (x .expressions) expressions) expression-numbers₀
+      → tablesOf commands command-numbers expressions expression-numbers ≡ withForm (designOf image) (tablesOf commands₀ command-numbers₀ expressions₀ expression-numbers₀)
+  unfolding withForm
+  form-filled commands₀ command-numbers₀ expressions₀ expression-numbers₀ {commands} {command-numbers} {expressions} {expression-numbers} a b c e f g =
+      let numbered : command-numbers ≡ withPlaces 0 (commandOrder (designOf image)) command-numbers₀ = c ∙ ap (λ (xs : List ℕ). withPlaces 0 xs command-numbers₀) (taken commands-all b) in
+      let numbered-too : expression-numbers ≡ withPlaces 0 (expressionOrder (designOf image)) expression-numbers₀ = g ∙ ap (λ (xs : List ℕ). withPlaces 0 xs expression-numbers₀) (taken expressions-all f) in
+      ap (λ (t : List ℕ). tablesOf t command-numbers expressions expression-numbers) a
+      ∙ ap (λ (t : List ℕ). tablesOf (overwrittenAt 0 (commandOrder (designOf image)) commands₀) t expressions expression-numbers) numbered
+      ∙ ap (λ (t : List ℕ). tablesOf (overwrittenAt 0 (commandOrder (designOf image)) commands₀) (withPlaces 0 (commandOrder (designOf image)) command-numbers₀) t expression-numbers) e
+      ∙ ap (λ (t : List ℕ). tablesOf (overwrittenAt 0 (commandOrder (designOf image)) commands₀) (withPlaces 0 (commandOrder (designOf image)) command-numbers₀) (overwrittenAt 0 (expressionOrder (designOf image)) expressions₀) t) numbered-too

@@ -88,6 +88,9 @@ module _ {piece : ℕ → List ℕ} {count s k : ℕ} {before now : List ℕ} (p
             ∙ take-at (joinBelow piece count) (drop (0 + length (joinBelow piece count)) before) (length (joinBelow piece count)) refl;
       }
 
+  below-whole : count ≤ s → now ≡ overwrittenAt 0 (joinBelow piece count) before
+  below-whole l = let most = put .most in let all : s ≡ count = omega arith in put .so .put ∙ ap (λ (i : ℕ). overwrittenAt 0 (joinBelow piece i) before) all
+
 below-begins : (piece : ℕ → List ℕ) (count : ℕ) (before : List ℕ) → length (joinBelow piece count) ≤ length before → PutBelow piece count before 0 0 before
 unfolding joinBelow
 below-begins piece count before room = record { so = put-none before 0; most = omega arith; room = room; long = refl }
@@ -138,6 +141,9 @@ module _ {image : List ℕ} {x : Described} (here : Structured image x) where
     pub bodies-done : x .states ≤ s → Ordered (commandOrder (designOf image)) now
     bodies-done l = rw bodies-are at (below-done (put .put) l)
 
+    pub bodies-whole : x .states ≤ s → now ≡ overwrittenAt 0 (commandOrder (designOf image)) before
+    bodies-whole l = rw bodies-are at (below-whole (put .put) l)
+
 pub bodies-long : {image before now : List ℕ} {x : Described} {s k : ℕ} → BodiesPut image x before s k now → length now ≡ length before
 bodies-long put = put .put .long
 
@@ -186,6 +192,9 @@ module _ {image : List ℕ} {x : Described} (here : Structured image x) where
 
   pub values-done : {before now : List ℕ} {i k : ℕ} → ValuesPut image x before i k now → x .commands ≤ i → Ordered (expressionOrder (designOf image)) now
   values-done put l = rw values-are at (below-done (put .put) l)
+
+  pub values-whole : {before now : List ℕ} {i k : ℕ} → ValuesPut image x before i k now → x .commands ≤ i → now ≡ overwrittenAt 0 (expressionOrder (designOf image)) before
+  values-whole put l = rw values-are at (below-whole (put .put) l)
 
 pub values-long : {image before now : List ℕ} {x : Described} {i k : ℕ} → ValuesPut image x before i k now → length now ≡ length before
 values-long put = put .put .long

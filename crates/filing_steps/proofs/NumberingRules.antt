@@ -1,6 +1,6 @@
 -- New numbers, from the last entry to the first: an entry that is met again in front gets the lower place, which is its place in the order.
 use Prim.Native.Nat.{ℕ, suc, _+_, _-_, _*_, _^_, _≤_, _<_}
-use mathlib.Core.Path.{_≡_, refl, sym, _∙_}
+use mathlib.Core.Path.{_≡_, refl, sym, _∙_, ap}
 use mathlib.Core.Logic.{_≢_, ⊎-elim}
 use mathlib.Core.List.{List, [], _∷_, List·Memᴰ, List·Memᴰ·cases-cons, List·Memᴰ·not-nil}
 use native.Mathlib.Omega.{arith}
@@ -13,7 +13,7 @@ use borrow.Author.Tests.{eq-eqb, ne-eqb}
 use borrow.Author.Needs.{scaled-fits}
 use Rattle.filing_model.specs.Filed.{placeIn}
 use Rattle.filing_model.proofs.Places.{entry-stands}
-use Rattle.filing_steps.specs.Tables.{EachBelow, Numbered}
+use Rattle.filing_steps.specs.Tables.{EachBelow, withPlaces, Numbered}
 
 place-here : {x n : ℕ} (xs : List ℕ) → x ≡ n → placeIn (x ∷ xs) n ≡ 0
 unfolding placeIn
@@ -29,12 +29,14 @@ pub record NumberedFrom (order : List ℕ) (count : ℕ) (before : List ℕ) (k 
   pub inside : count ≤ length order
   pub room : EachBelow (length before) (take count order)
   pub long : length now ≡ length before
+  pub put : now ≡ withPlaces k (drop k (take count order)) before
   pub entry : (n : ℕ) → List·Memᴰ n (drop k (take count order)) → getD now n 0 ≡ k + placeIn (drop k (take count order)) n
 
 pub numbered-begins : {order before : List ℕ} {count : ℕ} → count ≤ length order → EachBelow (length before) (take count order) → NumberedFrom order count before count before
+unfolding withPlaces
 numbered-begins {order} {before} {count} inside room =
     let none : drop count (take count order) ≡ [] = drop-of-length-le (take count order) {i = count} (let long = length-take-le count order inside in omega arith) in
-    record { most = omega arith; inside = inside; room = room; long = refl; entry = λ n h. absurd (List·Memᴰ·not-nil (rw none at h)) }
+    record { most = omega arith; inside = inside; room = room; long = refl; put = rw none refl; entry = λ n h. absurd (List·Memᴰ·not-nil (rw none at h)) }
 
 pub numbered-long : {order before now : List ℕ} {count k : ℕ} → NumberedFrom order count before k now → length now ≡ length before
 numbered-long so = so .long
@@ -85,6 +87,10 @@ module _ {order before now : List ℕ} {count k : ℕ} (so : NumberedFrom order 
           omega arith)
           (List·Memᴰ·cases-cons g)
 
+  more-put : (j : ℕ) → k ≡ suc j → set now (getD order j 0) j ≡ withPlaces j (drop j (take count order)) before
+  unfolding withPlaces
+  more-put j s = rw (last-first j s) (ap (λ (t : List ℕ). set t (getD order j 0) j) (so .put ∙ ap (λ (i : ℕ). withPlaces i (drop k (take count order)) before) s))
+
   pub numbered-more : {n : ℕ} → 0 < k → n ≡ getD order (k - 1) 0 → NumberedFrom order count before (k - 1) (set now n (k - 1))
   numbered-more {n} l e =
       let most = so .most in
@@ -93,8 +99,12 @@ module _ {order before now : List ℕ} {count k : ℕ} (so : NumberedFrom order 
         inside = so .inside;
         room = so .room;
         long = length-set now n (k - 1) ∙ so .long;
+        put = rw e (more-put (k - 1) (omega arith));
         entry = λ m h. rw e (more-entry (k - 1) m (omega arith) h);
       }
+
+  pub places-put : k ≤ 0 → now ≡ withPlaces 0 (take count order) before
+  places-put l = let none : k ≡ 0 = omega arith in so .put ∙ rw none refl
 
   pub numbered-done : k ≤ 0 → Numbered (take count order) now
   numbered-done l = record { entry = entries; inside = λ n h. rw (so .long) (so .room .below n h) }

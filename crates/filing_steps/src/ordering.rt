@@ -9,6 +9,7 @@ ghost use Rattle.model.specs.Image.{designOf};
 ghost use Rattle.model.specs.Nodes.{partsOf, operandsOf};
 ghost use Rattle.design.specs.RecordsAt.{CommandAt};
 ghost use Rattle.design.specs.Kept.{Structured};
+ghost use Rattle.encoding.specs.Parts.{overwrittenAt};
 ghost use Rattle.filing_model.specs.Filed.{partsFirst, commandOrder, valueOrder, expressionOrder};
 ghost use Rattle.filing_steps.specs.Tables.{Ordered};
 ghost use Rattle.filing_steps.specs.Ordering.{PutFrom, OrderingCommand, OrderingExpression};
@@ -49,7 +50,7 @@ fn order_command(image: &[u8], commands: usize, n: usize, order: &mut [u16], k: 
 // The commands of all bodies, state by state.
 pub fn order_commands(image: &[u8], design: Design, order: &mut [u16])
     requires { ⌜ Structured (now image) design × (design .commands ≤ length (now order)) ⌝ }
-    ensures { λ _. ⌜ Ordered (commandOrder (designOf (now (image .entry)))) (now (order .exit)) ⌝ }
+    ensures { λ _. ⌜ (now (order .exit) ≡ overwrittenAt 0 (commandOrder (designOf (now (image .entry)))) (now (order .entry))) × Ordered (commandOrder (designOf (now (image .entry)))) (now (order .exit)) ⌝ }
 {
     let mut s = 0;
     let mut k = 0;
@@ -105,7 +106,7 @@ pub fn order_expressions(image: &[u8], design: Design, commands: &[u16], order: 
     requires { ⌜ Structured (now image) design
         × Ordered (commandOrder (designOf (now image))) (now commands)
         × (design .expressions ≤ length (now order)) ⌝ }
-    ensures { λ _. ⌜ Ordered (expressionOrder (designOf (now (image .entry)))) (now (order .exit)) ⌝ }
+    ensures { λ _. ⌜ (now (order .exit) ≡ overwrittenAt 0 (expressionOrder (designOf (now (image .entry)))) (now (order .entry))) × Ordered (expressionOrder (designOf (now (image .entry)))) (now (order .exit)) ⌝ }
 {
     let mut i = 0;
     let mut k = 0;

@@ -1,4 +1,4 @@
-use Rattle.filing.proofs.TableRules.{commands-small, expressions-small, commands-reached, expressions-reached, commands-below, expressions-below, form-tables}
+use Rattle.filing.proofs.TableRules.{commands-small, expressions-small, commands-reached, expressions-reached, commands-below, expressions-below, form-tables, form-filled}
 use borrow.Author.Needs.{needs}
 use Rattle.filing.proofs.tables.fill.Statement.{statement}
 use Rattle.filing.proofs.tables.fill.Tie as tie
@@ -28,7 +28,7 @@ same-length-4 : tie.Need-same-length-4
 same-length-4 c = search needs
 
 returns : tie.Need-returns
-returns c = search form-tables
+returns c = (search (form-filled, needs), search (form-tables, needs))
 
 pub fill-spec : {M : Type 1} → statement M
 fill-spec =

@@ -1,4 +1,4 @@
-use Rattle.filing_steps.proofs.NumberingRules.{NumberedFrom, numbered-begins, numbered-long, last-inside, last-below, last-fits, last-small, numbered-more, numbered-done}
+use Rattle.filing_steps.proofs.NumberingRules.{NumberedFrom, numbered-begins, numbered-long, last-inside, last-below, last-fits, last-small, numbered-more, numbered-done, places-put}
 use borrow.Author.Needs.{needs}
 use Rattle.filing_steps.proofs.numbering.number.Statement.{statement}
 use Rattle.filing_steps.proofs.numbering.number.Tie as tie
@@ -37,7 +37,7 @@ same-length : tie.Need-same-length Inv-loop μ-loop
 same-length c = search (numbered-long, needs)
 
 returns : tie.Need-returns Inv-loop μ-loop
-returns c = search (numbered-done, needs)
+returns c = (search (places-put, needs), search (numbered-done, needs))
 
 pub number-spec : {M : Type 1} → statement M
 number-spec =

@@ -1,6 +1,6 @@
 use Prim.Native.Nat.{_-_}
 use Rattle.design.proofs.Laws.{state-inside}
-use Rattle.filing_steps.proofs.LoopRules.{BodiesPut, bodies-begin, body-ordering, bodies-next, bodies-done, bodies-long}
+use Rattle.filing_steps.proofs.LoopRules.{BodiesPut, bodies-begin, body-ordering, bodies-next, bodies-done, bodies-whole, bodies-long}
 use borrow.Author.Needs.{needs}
 use Rattle.filing_steps.proofs.ordering.order_commands.Statement.{statement}
 use Rattle.filing_steps.proofs.ordering.order_commands.Tie as tie
@@ -33,7 +33,7 @@ same-length : tie.Need-same-length Inv-loop μ-loop
 same-length c = search (bodies-long, needs)
 
 returns : tie.Need-returns Inv-loop μ-loop
-returns c = search (bodies-done, needs)
+returns c = (search (bodies-whole, needs), search (bodies-done, needs))
 
 pub order-commands-spec : {M : Type 1} → statement M
 order-commands-spec =

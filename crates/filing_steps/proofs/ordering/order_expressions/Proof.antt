@@ -1,5 +1,5 @@
 use Prim.Native.Nat.{_-_}
-use Rattle.filing_steps.proofs.LoopRules.{ValuesPut, values-begin, command-entry, entry-command, value-room, values-next, values-done, values-long}
+use Rattle.filing_steps.proofs.LoopRules.{ValuesPut, values-begin, command-entry, entry-command, value-room, values-next, values-done, values-whole, values-long}
 use borrow.Author.Needs.{needs}
 use Rattle.filing_steps.proofs.ordering.order_expressions.Statement.{statement}
 use Rattle.filing_steps.proofs.ordering.order_expressions.Tie as tie
@@ -32,7 +32,7 @@ same-length : tie.Need-same-length Inv-loop μ-loop
 same-length c = search (values-long, needs)
 
 returns : tie.Need-returns Inv-loop μ-loop
-returns c = search (values-done, needs)
+returns c = (search (values-whole, needs), search (values-done, needs))
 
 pub order-expressions-spec : {M : Type 1} → statement M
 order-expressions-spec =
