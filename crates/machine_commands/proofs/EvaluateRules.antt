@@ -1,13 +1,13 @@
 -- The operations by the number of their kind, and the value of an expression from the values of its parts: the laws that the recursion over parts cites.
 use Prim.Native.Nat.{ℕ, zero, suc, _+_, _-_, _*_, _/_, _%_, _^_, _≤_, _<_}
 use mathlib.Core.Path.{_≡_, refl, sym, _∙_, ap}
-use mathlib.Core.Bool.{Bool}
+use mathlib.Core.Bool.{Bool, true, false}
 use mathlib.Core.List.{List}
 use native.Mathlib.Omega.{arith}
 use lib.Bits.{bitAnd, bitOr, bitXor}
 use lib.Dec.{ltb, eqb}
 use lib.ListN.{length, getD}
-use borrow.Author.Tests.{ltb-true, lt-ltb}
+use borrow.Author.Tests.{ltb-true, ltb-false, lt-ltb}
 use Rattle.model.specs.Image.{Node, designOf, expressionAt, word32At, constantOf}
 use Rattle.model.specs.Kinds.{Operation, add, subtract, bitwiseAnd, bitwiseOr, bitwiseXor, equal, less, signedLess, arithmeticShift, signedDivision, ExpressionKind, constants, reads, operates, unknownExpression, expressionKind}
 use Rattle.model.specs.Signed.{belowSigned, shiftedRight, dividedSigned}
@@ -18,9 +18,9 @@ use Rattle.model.specs.Machine.{eval}
 use Rattle.model.proofs.Laws.Booleans.{cond-true, cond-false, false-unless-true}
 use Rattle.model.proofs.Laws.Kinds.{expressionKinds, kind-constants, kind-reads, kind-operates, no-expression-kind}
 use Rattle.model.proofs.Laws.Trees.{expr-constant, expr-register, expr-binary}
-use Rattle.design.specs.Records.{nodeIn, constantIn}
+use Rattle.design.specs.Records.{nodeIn, nodeEnd, constantIn}
 use Rattle.design.proofs.Laws.{registers-count}
-use Rattle.design.proofs.FieldRules.{expression-place-inside, same-expression, expression-kind-is, read-is, first-is, second-is, expression-holds, operand-a-below, operand-b-below, lower-expression}
+use Rattle.design.proofs.FieldRules.{expression-place-inside, same-expression, expression-kind-is, read-is, first-is, second-is, expression-holds, operand-a-falls, operand-b-falls, lower-expression}
 use Rattle.design.proofs.WordRules.{words-at}
 use Rattle.machine_commands.specs.Executions.{Evaluating, ReadsFit, boundOf, valuesIn}
 
@@ -162,60 +162,6 @@ module _ {image : List ℕ} {place : ℕ} {registers : List ℕ} {bound e : ℕ}
       let count = registers-count (here .known .describes) in
       rw (read-tree q p, ← f, ← count) (h ∙ sym (words-at registers (read-below q p f) (here .area)))
 
-  -- ---- the parts of an operation
-  lower-evaluating : (m : ℕ) → m < e → ReadsFit (designOf image) (boundOf bound) (exprOf (designOf image) m) → Evaluating image place registers bound m
-  lower-evaluating m l fits =
-      record {
-        design = here .design;
-        known = here .known;
-        expression = lower-expression (here .expression) (here .known .expressions) l;
-        fits = fits;
-        area = here .area;
-      }
-
-  operation-tree :
-      {k : ℕ}
-      → k < expressionKinds
-      → 1 ≤ k
-      → (k ≡ 1 → ⊥)
-      → k ≡ nodeIn image place e .kind
-      → (o : Operation) × (expressionKind k ≡ operates o) × (exprOf (designOf image) e ≡ binary o (exprOf (designOf image) (expressionAt (designOf image) e .a)) (exprOf (designOf image) (expressionAt (designOf image) e .b)))
-  operation-tree u l other p =
-      let found = kind-operates (λ z. omega arith) other u in
-      let fields = same-expression (here .expression) in
-      let lower = operand-a-below (here .expression) u l other p (sym (ap (λ (y : Node). y .a) fields)) in
-      let lower′ = operand-b-below (here .expression) u l other p (sym (ap (λ (y : Node). y .b) fields)) in
-      (found .0, found .1, expr-binary (designOf image) e (ap expressionKind (expression-kind-is (here .expression) p) ∙ found .1) lower lower′)
-
-  pub operand-a-evaluating : {k a : ℕ} → k < expressionKinds → 1 ≤ k → (k ≡ 1 → ⊥) → k ≡ nodeIn image place e .kind → a ≡ nodeIn image place e .a → Evaluating image place registers bound a
-  unfolding ReadsFit
-  operand-a-evaluating {a = a} u l other p f =
-      let fits = rw (operation-tree u l other p .2) at (here .fits) in
-      lower-evaluating a (operand-a-below (here .expression) u l other p f) (rw (first-is (here .expression) f) (fits .0))
-
-  pub operand-b-evaluating : {k b : ℕ} → k < expressionKinds → 1 ≤ k → (k ≡ 1 → ⊥) → k ≡ nodeIn image place e .kind → b ≡ nodeIn image place e .b → Evaluating image place registers bound b
-  unfolding ReadsFit
-  operand-b-evaluating {b = b} u l other p f =
-      let fits = rw (operation-tree u l other p .2) at (here .fits) in
-      lower-evaluating b (operand-b-below (here .expression) u l other p f) (rw (second-is (here .expression) f) (fits .1))
-
-  pub evaluates-operation :
-      {k a b m n v : ℕ}
-      → k < expressionKinds
-      → 1 ≤ k
-      → (k ≡ 1 → ⊥)
-      → k ≡ nodeIn image place e .kind
-      → a ≡ nodeIn image place e .a
-      → b ≡ nodeIn image place e .b
-      → m ≡ eval (valuesIn (designOf image) registers) (exprWith (boundOf bound) (exprOf (designOf image) a))
-      → n ≡ eval (valuesIn (designOf image) registers) (exprWith (boundOf bound) (exprOf (designOf image) b))
-      → ((o : Operation) → expressionKind k ≡ operates o → v ≡ apply o m n)
-      → v ≡ eval (valuesIn (designOf image) registers) (exprWith (boundOf bound) (exprOf (designOf image) e))
-  unfolding eval exprWith
-  evaluates-operation u l other p f g first second applied =
-      let tree = operation-tree u l other p in
-      rw (tree .2) (applied (tree .0) (tree .1) ∙ rw (first, second, first-is (here .expression) f, second-is (here .expression) g))
-
   -- ---- a constant
   constant-is : {v : ℕ} → expressionKind (expressionAt (designOf image) e .kind) ≡ constants → v ≡ constantIn image place e → v ≡ eval (valuesIn (designOf image) registers) (exprWith (boundOf bound) (exprOf (designOf image) e))
   unfolding eval exprWith
@@ -226,11 +172,108 @@ module _ {image : List ℕ} {place : ℕ} {registers : List ℕ} {bound e : ℕ}
       let fields : v ≡ constantOf (nodeIn image place e) = h ∙ rw behind in
       rw (expr-constant d e kind) (fields ∙ ap constantOf (same-expression (here .expression)))
 
-  pub evaluates-low : {k v : ℕ} → k ≡ nodeIn image place e .kind → k < 1 → v ≡ constantIn image place e → v ≡ eval (valuesIn (designOf image) registers) (exprWith (boundOf bound) (exprOf (designOf image) e))
-  evaluates-low p l h = let none = expression-kind-is (here .expression) p in constant-is (kind-constants (omega arith)) h
+  -- behind a kind that is no register's
+  pub evaluates-constant :
+      {k v : ℕ}
+      → (k ≡ 1 → ⊥)
+      → k ≡ nodeIn image place e .kind
+      → nodeIn image place e .kind < 2
+      → v ≡ constantIn image place e
+      → v ≡ eval (valuesIn (designOf image) registers) (exprWith (boundOf bound) (exprOf (designOf image) e))
+  evaluates-constant other p low h = let none = expression-kind-is (here .expression) p in constant-is (kind-constants (omega arith)) h
 
-  -- no number from here on is a kind
-  pub evaluates-high : {k v : ℕ} → k ≡ nodeIn image place e .kind → expressionKinds ≤ k → v ≡ constantIn image place e → v ≡ eval (valuesIn (designOf image) registers) (exprWith (boundOf bound) (exprOf (designOf image) e))
-  evaluates-high p l h = absurd (rw (no-expression-kind l) at (expression-holds (here .expression) p))
+  -- ---- an operation, by its kind from 2 on
+  kind-below : {k : ℕ} → k ≡ nodeIn image place e .kind → k < expressionKinds
+  kind-below {k} p = go (ltb k expressionKinds) refl
+    where
+      go : (w : Bool) → ltb k expressionKinds ≡ w → k < expressionKinds
+      go true h = ltb-true k expressionKinds h
+      go false h = absurd (rw (no-expression-kind (ltb-false k expressionKinds h)) at (expression-holds (here .expression) p))
 
-pub ruleset evaluate-laws = (expression-place-inside, read-inside, evaluates-register, evaluates-operation, evaluates-low, evaluates-high)
+  pub operation-low : {k : ℕ} → k ≡ nodeIn image place e .kind → 2 ≤ nodeIn image place e .kind → 2 ≤ k
+  operation-low p low = omega arith
+
+  pub operation-high : {k : ℕ} → k ≡ nodeIn image place e .kind → k ≤ 11
+  operation-high p = let below = kind-below p in omega arith
+
+  pub part-a-falls : {a t : ℕ} → a ≡ nodeIn image place e .a → e ≡ t → 2 ≤ nodeIn image place e .kind → a < t
+  part-a-falls f same low = operand-a-falls (here .expression) (kind-below refl) (omega arith) (λ q. omega arith) refl f same
+
+  pub part-b-falls : {b t : ℕ} → b ≡ nodeIn image place e .b → e ≡ t → 2 ≤ nodeIn image place e .kind → b < t
+  part-b-falls f same low = operand-b-falls (here .expression) (kind-below refl) (omega arith) (λ q. omega arith) refl f same
+
+  operation-tree :
+      2 ≤ nodeIn image place e .kind
+      → (o : Operation) × (expressionKind (nodeIn image place e .kind) ≡ operates o) × (exprOf (designOf image) e ≡ binary o (exprOf (designOf image) (expressionAt (designOf image) e .a)) (exprOf (designOf image) (expressionAt (designOf image) e .b)))
+  operation-tree low =
+      let found = kind-operates (λ z. omega arith) (λ q. omega arith) (kind-below refl) in
+      let fields = same-expression (here .expression) in
+      let lower = part-a-falls (sym (ap (λ (y : Node). y .a) fields)) refl low in
+      let lower′ = part-b-falls (sym (ap (λ (y : Node). y .b) fields)) refl low in
+      (found .0, found .1, expr-binary (designOf image) e (ap expressionKind (expression-kind-is (here .expression) refl) ∙ found .1) lower lower′)
+
+  lower-evaluating : (m : ℕ) → m < e → ReadsFit (designOf image) (boundOf bound) (exprOf (designOf image) m) → Evaluating image place registers bound m
+  lower-evaluating m l fits =
+      record {
+        design = here .design;
+        known = here .known;
+        expression = lower-expression (here .expression) (here .known .expressions) l;
+        fits = fits;
+        area = here .area;
+      }
+
+  pub part-a-evaluating : {a : ℕ} → a ≡ nodeIn image place e .a → 2 ≤ nodeIn image place e .kind → Evaluating image place registers bound a
+  unfolding ReadsFit
+  part-a-evaluating {a = a} f low =
+      let fits = rw (operation-tree low .2) at (here .fits) in
+      lower-evaluating a (part-a-falls f refl low) (rw (first-is (here .expression) f) (fits .0))
+
+  pub part-b-evaluating : {b : ℕ} → b ≡ nodeIn image place e .b → 2 ≤ nodeIn image place e .kind → Evaluating image place registers bound b
+  unfolding ReadsFit
+  part-b-evaluating {b = b} f low =
+      let fits = rw (operation-tree low .2) at (here .fits) in
+      lower-evaluating b (part-b-falls f refl low) (rw (second-is (here .expression) f) (fits .1))
+
+  pub part-a-inside : {a : ℕ} → a ≡ nodeIn image place e .a → 2 ≤ nodeIn image place e .kind → nodeEnd place a ≤ length image
+  part-a-inside f low = expression-place-inside (part-a-evaluating f low .expression)
+
+  pub part-b-inside : {b : ℕ} → b ≡ nodeIn image place e .b → 2 ≤ nodeIn image place e .kind → nodeEnd place b ≤ length image
+  part-b-inside f low = expression-place-inside (part-b-evaluating f low .expression)
+
+  -- x and y are the values of the parts, each by one of two ways
+  pub evaluates-operation :
+      {k a b x y m n v : ℕ}
+      → k ≡ nodeIn image place e .kind
+      → a ≡ nodeIn image place e .a
+      → b ≡ nodeIn image place e .b
+      → 2 ≤ nodeIn image place e .kind
+      → x ≡ m
+      → m ≡ eval (valuesIn (designOf image) registers) (exprWith (boundOf bound) (exprOf (designOf image) a))
+      → y ≡ n
+      → n ≡ eval (valuesIn (designOf image) registers) (exprWith (boundOf bound) (exprOf (designOf image) b))
+      → ((o : Operation) → expressionKind k ≡ operates o → v ≡ apply o x y)
+      → v ≡ eval (valuesIn (designOf image) registers) (exprWith (boundOf bound) (exprOf (designOf image) e))
+  unfolding eval exprWith
+  evaluates-operation p f g low first value second other applied =
+      let tree = operation-tree low in
+      rw (tree .2) (applied (tree .0) (ap expressionKind p ∙ tree .1) ∙ rw (first, value, second, other, first-is (here .expression) f, second-is (here .expression) g))
+
+-- ---- the arms of a match on the kind byte
+pub operation-kind : {k m : ℕ} → 2 ≤ k → k ≡ m → 2 ≤ m
+operation-kind l p = omega arith
+
+pub leaf-low : {k m : ℕ} → k < 2 → k ≡ m → m < 2
+leaf-low l p = omega arith
+
+-- no number from here on is a kind
+module _ {image : List ℕ} {place : ℕ} {registers : List ℕ} {bound e k : ℕ} (here : Evaluating image place registers bound e) where
+  pub leaf-high : expressionKinds ≤ k → k ≡ nodeIn image place e .kind → nodeIn image place e .kind < 2
+  leaf-high l p = let below = kind-below here p in omega arith
+
+  pub part-a-high : {a : ℕ} → expressionKinds ≤ k → k ≡ nodeIn image place a .kind → a ≡ nodeIn image place e .a → 2 ≤ nodeIn image place e .kind → nodeIn image place a .kind < 2
+  part-a-high l p f low = let below = kind-below (part-a-evaluating here f low) p in omega arith
+
+  pub part-b-high : {b : ℕ} → expressionKinds ≤ k → k ≡ nodeIn image place b .kind → b ≡ nodeIn image place e .b → 2 ≤ nodeIn image place e .kind → nodeIn image place b .kind < 2
+  part-b-high l p f low = let below = kind-below (part-b-evaluating here f low) p in omega arith
+
+pub ruleset leaf-laws = (expression-place-inside, read-inside, evaluates-register, evaluates-constant)

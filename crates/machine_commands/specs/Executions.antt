@@ -1,14 +1,11 @@
--- What is known where expression e is evaluated and where command n runs, what a command leaves as the code gives it, and what the command that ran last came to.
+-- What is known where expression e is evaluated and where command n runs, and what a command leaves as the code gives it.
 use Prim.Native.Nat.{ℕ, _*_, _/_, _%_, _<_}
 use mathlib.Core.Path.{_≡_}
 use mathlib.Core.List.{List, [], _∷_}
 use lib.ListN.{length}
 use Rattle.model.specs.Limits.{wordLength}
-use Rattle.model.specs.declared.Ending.the-variants.{Goto, Fall}
 use Rattle.model.specs.declared.Outcome.{Outcome}
-use Rattle.model.specs.declared.Outcome.the-variants.{Continued, Transferred}
-use Rattle.model.specs.Image.{Design as Table, Node, designOf}
-use Rattle.model.specs.Kinds.{CommandKind, skips, assigns, sequences, falls, goes, branches, unknownCommand, commandKind}
+use Rattle.model.specs.Image.{Design as Table, designOf}
 use Rattle.model.specs.Trees.{Expr, constant, register, binary, Cmd, skip, assign, sequence, fall, goto, branch, exprOf, cmdOf}
 use Rattle.model.specs.Values.{wordsOf}
 use Rattle.model.specs.Bindings.{named}
@@ -63,16 +60,3 @@ valuesIn d registers = wordsOf (length (d .registers)) registers
 
 abbrev pub executedAs : List ℕ → Outcome → Executed
 executedAs values o = record { registers = values; outcome = o }
-
--- what a command that holds no other comes to, by its kind and the registers bound
-unfoldable pub cameToBy : List ℕ → CommandKind → Node → Outcome
-cameToBy bound skips x = Continued
-cameToBy bound assigns x = Continued
-cameToBy bound sequences x = Continued
-cameToBy bound falls x = Transferred Fall
-cameToBy bound goes x = Transferred (Goto (x .item) (named bound (x .a)) (named bound (x .b)))
-cameToBy bound branches x = Continued
-cameToBy bound unknownCommand x = Continued
-
-unfoldable pub cameTo : List ℕ → Node → Outcome
-cameTo bound x = cameToBy bound (commandKind (x .kind)) x

@@ -2,7 +2,7 @@
 use super::signed;
 use design::Design;
 use design::words::word;
-ghost use Prim.Native.Nat.{_≤_};
+ghost use Prim.Native.Nat.{_≤_, _<_};
 ghost use mathlib.Core.Path.{_≡_};
 ghost use lib.ListN.{length};
 ghost use Rattle.model.specs.Image.{designOf};
@@ -62,27 +62,49 @@ fn apply(kind: u8, x: u32, y: u32) -> u32
     }
 }
 
-// The value of expression e over the registers, with the registers bound to the parameters in scope.
-// The place is where the expressions begin: the whole design would be copied at every call. The bound
-// registers are packed in one number: a further argument costs time too.
-// A reborrow keeps the slice in registers of the processor; image itself would go through memory.
-pub fn evaluate(image: &[u8], at: usize, registers: &[u8], bound: usize, e: usize) -> u32
-    requires { ⌜ Evaluating (now image) at (now registers) bound e ⌝ }
+// The value of a constant or a register.
+fn leaf_value(image: &[u8], at: usize, registers: &[u8], bound: usize, e: usize) -> u32
+    requires { ⌜ Evaluating (now image) at (now registers) bound e × (nodeIn (now image) at e .kind < 2) ⌝ }
     ensures { λ v. ⌜ v ≡ eval (valuesIn (designOf (now (image .entry))) (now (registers .entry))) (exprWith (boundOf bound) (exprOf (designOf (now (image .entry))) e)) ⌝ }
 {
-    let kind = Design::kind(image, at, e);
-    match kind {
+    match Design::kind(image, at, e) {
         1 => {
             let r = item_named(image, at, bound, e);
             word(registers, r)
         }
-        2..=11 => {
-            let a = Design::part_a(image, at, e);
-            let b = Design::part_b(image, at, e);
-            let x = evaluate(&*image, at, &*registers, bound, a);
-            let y = evaluate(&*image, at, &*registers, bound, b);
-            apply(kind, x, y)
-        }
         _ => Design::constant(image, at, e),
+    }
+}
+
+// The value of an operation. A part that is a constant or a register costs no call.
+// The place is where the expressions begin: the whole design would be copied at every call. The bound
+// registers are packed in one number: a further argument costs time too.
+// A reborrow keeps the slice in registers of the processor; image itself would go through memory.
+fn operation_value(image: &[u8], at: usize, registers: &[u8], bound: usize, e: usize) -> u32
+    requires { ⌜ Evaluating (now image) at (now registers) bound e × (2 ≤ nodeIn (now image) at e .kind) ⌝ }
+    ensures { λ v. ⌜ v ≡ eval (valuesIn (designOf (now (image .entry))) (now (registers .entry))) (exprWith (boundOf bound) (exprOf (designOf (now (image .entry))) e)) ⌝ }
+{
+    let kind = Design::kind(image, at, e);
+    let a = Design::part_a(image, at, e);
+    let b = Design::part_b(image, at, e);
+    let x = match Design::kind(image, at, a) {
+        2..=11 => operation_value(&*image, at, &*registers, bound, a),
+        _ => leaf_value(image, at, registers, bound, a),
+    };
+    let y = match Design::kind(image, at, b) {
+        2..=11 => operation_value(&*image, at, &*registers, bound, b),
+        _ => leaf_value(image, at, registers, bound, b),
+    };
+    apply(kind, x, y)
+}
+
+// The value of expression e over the registers, with the registers bound to the parameters in scope.
+pub fn evaluate(image: &[u8], at: usize, registers: &[u8], bound: usize, e: usize) -> u32
+    requires { ⌜ Evaluating (now image) at (now registers) bound e ⌝ }
+    ensures { λ v. ⌜ v ≡ eval (valuesIn (designOf (now (image .entry))) (now (registers .entry))) (exprWith (boundOf bound) (exprOf (designOf (now (image .entry))) e)) ⌝ }
+{
+    match Design::kind(image, at, e) {
+        2..=11 => operation_value(&*image, at, &*registers, bound, e),
+        _ => leaf_value(image, at, registers, bound, e),
     }
 }

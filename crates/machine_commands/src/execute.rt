@@ -7,30 +7,35 @@ use design::widths::cut;
 use design::words::put_word;
 use model::Ending;
 use model::Outcome;
-ghost use Prim.Native.Nat.{_*_, _<_};
-ghost use mathlib.Core.Bool.{_||_};
+ghost use Prim.Native.Nat.{_*_};
 ghost use mathlib.Core.Path.{_≡_};
-ghost use lib.Dec.{eqb};
 ghost use lib.ListN.{length};
 ghost use Rattle.model.specs.Limits.{wordLength};
-ghost use Rattle.model.specs.Image.{designOf, commandAt};
+ghost use Rattle.model.specs.Image.{designOf};
 ghost use Rattle.model.specs.Trees.{cmdOf};
 ghost use Rattle.model.specs.Values.{wordsOf};
 ghost use Rattle.model.specs.Bindings.{cmdWith};
 ghost use Rattle.model.specs.Machine.{exec};
-ghost use Rattle.machine_commands.specs.Executions.{Executing, Performing, boundOf, executedAs, cameTo, valuesIn};
+ghost use Rattle.machine_commands.specs.Executions.{Executing, Performing, boundOf, executedAs, valuesIn};
 
-// A fall or a goto, by the number of its kind.
-fn transfers(kind: u8) -> bool
-    ensures { λ r. ⌜ r ≡ (eqb kind 3 || eqb kind 4) ⌝ }
+// An outcome, made anew from its parts. One that is answered as it came from a call is copied whole, behind a
+// store of its first byte, which stalls.
+fn anew(outcome: Outcome) -> Outcome
+    ensures { λ r. ⌜ r ≡ outcome ⌝ }
 {
-    (kind == 3) | (kind == 4)
+    let Outcome::Transferred(ending) = outcome else {
+        return Outcome::Continued;
+    };
+    match ending {
+        Ending::Goto(t, a, b) => Outcome::Transferred(Ending::Goto(t, a, b)),
+        Ending::Fall => Outcome::Transferred(Ending::Fall),
+    }
 }
 
-// Command n runs: the registers are what it leaves, and the answer is the command that ran last,
-// which holds no other.
+// Command n runs: the registers are what it leaves, and the answer is what it came to.
+// It has the places where the sections begin: the whole design would be copied at every call.
 // A reborrow keeps the slice in registers of the processor; image itself would go through memory.
-fn last_run(
+fn perform(
     image: &[u8],
     registers_at: usize,
     commands_at: usize,
@@ -38,9 +43,9 @@ fn last_run(
     registers: &mut [u8],
     bound: usize,
     n: usize,
-) -> usize
+) -> Outcome
     requires { ⌜ Performing (now image) «registers_at» «commands_at» «expressions_at» (now registers) bound n ⌝ }
-    ensures { λ l. ⌜ (executedAs (valuesIn (designOf (now (image .entry))) (now (registers .exit))) (cameTo (boundOf bound) (commandAt (designOf (now (image .entry))) l)) ≡ exec (designOf (now (image .entry)) .registers) (valuesIn (designOf (now (image .entry))) (now (registers .entry))) (cmdWith (boundOf bound) (cmdOf (designOf (now (image .entry))) n))) × (l < length (designOf (now (image .entry)) .commands)) × (length (now (registers .exit)) ≡ length (now (registers .entry))) ⌝ }
+    ensures { λ o. ⌜ (executedAs (valuesIn (designOf (now (image .entry))) (now (registers .exit))) o ≡ exec (designOf (now (image .entry)) .registers) (valuesIn (designOf (now (image .entry))) (now (registers .entry))) (cmdWith (boundOf bound) (cmdOf (designOf (now (image .entry))) n))) × (length (now (registers .exit)) ≡ length (now (registers .entry))) ⌝ }
 {
     let a = Design::part_a(image, commands_at, n);
     let b = Design::part_b(image, commands_at, n);
@@ -50,10 +55,10 @@ fn last_run(
             let v = evaluate(&*image, expressions_at, &*registers, bound, a);
             let width = Design::register_width(image, registers_at, r);
             put_word(registers, r, cut(v, width));
-            n
+            Outcome::Continued
         }
         2 => {
-            let first = last_run(
+            let first = perform(
                 &*image,
                 registers_at,
                 commands_at,
@@ -62,10 +67,10 @@ fn last_run(
                 bound,
                 a,
             );
-            if transfers(Design::kind(image, commands_at, first)) {
-                return first;
-            }
-            last_run(
+            let Outcome::Continued = first else {
+                return anew(first);
+            };
+            let second = perform(
                 &*image,
                 registers_at,
                 commands_at,
@@ -73,12 +78,18 @@ fn last_run(
                 registers,
                 bound,
                 b,
-            )
+            );
+            anew(second)
+        }
+        3 => Outcome::Transferred(Ending::Fall),
+        4 => {
+            let t = Design::item(image, commands_at, n);
+            Outcome::Transferred(Ending::Goto(t, named(bound, a), named(bound, b)))
         }
         5 => {
             let c = Design::part_c(image, commands_at, n);
             if evaluate(&*image, expressions_at, &*registers, bound, a) == 0 {
-                return last_run(
+                let other = perform(
                     &*image,
                     registers_at,
                     commands_at,
@@ -87,8 +98,9 @@ fn last_run(
                     bound,
                     c,
                 );
+                return anew(other);
             }
-            last_run(
+            let taken = perform(
                 &*image,
                 registers_at,
                 commands_at,
@@ -96,13 +108,15 @@ fn last_run(
                 registers,
                 bound,
                 b,
-            )
+            );
+            anew(taken)
         }
-        _ => n,
+        _ => Outcome::Continued,
     }
 }
 
-// Command n runs: the registers are what it leaves, and the answer is what it came to.
+// Command n of a design runs. What runs is handed the places of its sections, since it calls itself, and the whole
+// design would be copied at every call.
 pub fn execute(
     image: &[u8],
     design: Design,
@@ -113,8 +127,7 @@ pub fn execute(
     requires { ⌜ Executing (now image) design bound n × (length (now registers) ≡ wordLength * design .registers) ⌝ }
     ensures { λ o. ⌜ (executedAs (wordsOf (design .registers) (now (registers .exit))) o ≡ exec (designOf (now (image .entry)) .registers) (wordsOf (design .registers) (now (registers .entry))) (cmdWith (boundOf bound) (cmdOf (designOf (now (image .entry))) n))) × (length (now (registers .exit)) ≡ length (now (registers .entry))) ⌝ }
 {
-    let at = design.commands_at;
-    let last = last_run(
+    perform(
         image,
         design.registers_at,
         design.commands_at,
@@ -122,15 +135,5 @@ pub fn execute(
         registers,
         bound,
         n,
-    );
-    match Design::kind(image, at, last) {
-        3 => Outcome::Transferred(Ending::Fall),
-        4 => {
-            let t = Design::item(image, at, last);
-            let a = named(bound, Design::part_a(image, at, last));
-            let b = named(bound, Design::part_b(image, at, last));
-            Outcome::Transferred(Ending::Goto(t, a, b))
-        }
-        _ => Outcome::Continued,
-    }
+    )
 }
