@@ -2,20 +2,18 @@
 use Prim.Native.Nat.{ℕ, suc, _+_, _*_, _≤_, _<_}
 use mathlib.Core.Path.{_≡_, refl, sym, _∙_, ap}
 use mathlib.Core.Logic.{_⊎_, inl, inr, ⊎-elim}
-use mathlib.Core.Bool.{Bool, true, false, not, cond, _&&_, false≢true}
+use mathlib.Core.Bool.{Bool, true, false, not, cond}
 use mathlib.Core.List.{List, [], _∷_, _++_, map, map-append, append-nil}
 use native.Mathlib.Omega.{arith}
 use native.Mathlib.Numerals.{add-one}
 use native.Mathlib.Nat.{add-zero, mul-le-mul-left}
 use native.Mathlib.Decide.{ℕ-discrete, decLt}
-use lib.Dec.{leb}
 use lib.ListN.{length, getD, take, length-map}
 use lib.Seq.{length-take-le, take-suc, take-all}
-use borrow.Author.Tests.{leb-true, le-leb}
 use Rattle.model.specs.Limits.{stateLength, nodeLength}
 use Rattle.model.specs.Image.{State, Node, noState, noNode, designOf, stateAt, commandAt, expressionAt}
 use Rattle.model.specs.Kinds.{CommandKind, assigns, sequences, goes, branches, ExpressionKind, Operation, operates, commandKind, expressionKind}
-use Rattle.model.proofs.Laws.Booleans.{decide, not-true, not-false, and-first, and-second}
+use Rattle.model.proofs.Laws.Booleans.{decide, not-true, not-false}
 use Rattle.model.proofs.Laws.Kinds.{kind-skips, kind-assigns, kind-sequences, kind-falls, kind-goes, kind-branches, no-command-kind, expressionKinds, kind-constants, kind-reads, no-expression-kind}
 use Rattle.design.specs.declared.Design.{Design}
 use Rattle.design.specs.Kept.{Structured}
@@ -414,11 +412,11 @@ module _ {image : List ℕ} {x : Design} {place n k : ℕ} (here : CommandAt ima
   state-below : {m : ℕ} → m < length (designOf image .states) → m < x .states
   state-below l = omega (arith, states-count (here .describes))
 
-  module _ (at : ℕ) (out : List ℕ) {item a b c : ℕ} {after : List ℕ} (i : item ≡ nodeIn image place n .item) (p : a ≡ nodeIn image place n .a) (q : b ≡ nodeIn image place n .b) (r : c ≡ nodeIn image place n .c) where
+  module _ (at : ℕ) (out : List ℕ) {number item a b c : ℕ} {after : List ℕ} (wide : number ≡ k) (i : item ≡ nodeIn image place n .item) (p : a ≡ nodeIn image place n .a) (q : b ≡ nodeIn image place n .b) (r : c ≡ nodeIn image place n .c) where
     pub assign-new :
         {v : ℕ} {expressionNumbers : List ℕ}
         → k ≡ 1
-        → after ≡ overwrittenAt at (nodeBytes (record { kind = k; item = item; a = v; b = b; c = c })) out
+        → after ≡ overwrittenAt at (nodeBytes (record { kind = number; item = item; a = v; b = b; c = c })) out
         → v ≡ getD expressionNumbers a 0
         → Numbered (expressionStays (designOf image)) (x .expressions) expressionNumbers
         → after ≡ overwrittenAt at (nodeBytes (commandWritten (designOf image) (commandAt (designOf image) n))) out
@@ -428,7 +426,7 @@ module _ {image : List ℕ} {x : Design} {place n k : ℕ} (here : CommandAt ima
         out
         put
         (assign-is (newState (designOf image)) (newCommand (designOf image)) (newExpression (designOf image)) (commandAt (designOf image) n) (kind-of assigns (kind-assigns e)))
-        byte
+        (wide ∙ byte)
         (item-is here i)
         (new-is table (value-below (assigned-expression here e same p)) f (a-is here p))
         (b-is here q)
@@ -437,7 +435,7 @@ module _ {image : List ℕ} {x : Design} {place n k : ℕ} (here : CommandAt ima
     pub sequence-new :
         {v w : ℕ} {numbers : List ℕ}
         → k ≡ 2
-        → after ≡ overwrittenAt at (nodeBytes (record { kind = k; item = item; a = v; b = w; c = c })) out
+        → after ≡ overwrittenAt at (nodeBytes (record { kind = number; item = item; a = v; b = w; c = c })) out
         → v ≡ getD numbers a 0
         → w ≡ getD numbers b 0
         → Numbered (commandStays (designOf image)) (x .commands) numbers
@@ -448,7 +446,7 @@ module _ {image : List ℕ} {x : Design} {place n k : ℕ} (here : CommandAt ima
         out
         put
         (sequence-is (newState (designOf image)) (newCommand (designOf image)) (newExpression (designOf image)) (commandAt (designOf image) n) (kind-of sequences (kind-sequences e)))
-        byte
+        (wide ∙ byte)
         (item-is here i)
         (new-is table (lower (sequence-a-below here e same p)) f (a-is here p))
         (new-is table (lower (sequence-b-below here e same q)) g (b-is here q))
@@ -457,7 +455,7 @@ module _ {image : List ℕ} {x : Design} {place n k : ℕ} (here : CommandAt ima
     pub goto-new :
         {t : ℕ} {stateNumbers : List ℕ}
         → k ≡ 4
-        → after ≡ overwrittenAt at (nodeBytes (record { kind = k; item = t; a = a; b = b; c = c })) out
+        → after ≡ overwrittenAt at (nodeBytes (record { kind = number; item = t; a = a; b = b; c = c })) out
         → t ≡ getD stateNumbers item 0
         → Numbered (reached (designOf image)) (x .states) stateNumbers
         → after ≡ overwrittenAt at (nodeBytes (commandWritten (designOf image) (commandAt (designOf image) n))) out
@@ -467,7 +465,7 @@ module _ {image : List ℕ} {x : Design} {place n k : ℕ} (here : CommandAt ima
         out
         put
         (goto-is (newState (designOf image)) (newCommand (designOf image)) (newExpression (designOf image)) (commandAt (designOf image) n) (kind-of goes (kind-goes e)))
-        byte
+        (wide ∙ byte)
         (new-is table (state-below (named-state here e same i)) f (item-is here i))
         (a-is here p)
         (b-is here q)
@@ -476,7 +474,7 @@ module _ {image : List ℕ} {x : Design} {place n k : ℕ} (here : CommandAt ima
     pub branch-new :
         {v w u : ℕ} {numbers expressionNumbers : List ℕ}
         → k ≡ 5
-        → after ≡ overwrittenAt at (nodeBytes (record { kind = k; item = item; a = v; b = w; c = u })) out
+        → after ≡ overwrittenAt at (nodeBytes (record { kind = number; item = item; a = v; b = w; c = u })) out
         → v ≡ getD expressionNumbers a 0
         → w ≡ getD numbers b 0
         → u ≡ getD numbers c 0
@@ -489,7 +487,7 @@ module _ {image : List ℕ} {x : Design} {place n k : ℕ} (here : CommandAt ima
         out
         put
         (branch-is (newState (designOf image)) (newCommand (designOf image)) (newExpression (designOf image)) (commandAt (designOf image) n) (kind-of branches (kind-branches e)))
-        byte
+        (wide ∙ byte)
         (item-is here i)
         (new-is values (value-below (condition here e same p)) f (a-is here p))
         (new-is table (lower (branch-b-below here e same q)) g (b-is here q))
@@ -500,7 +498,7 @@ module _ {image : List ℕ} {x : Design} {place n k : ℕ} (here : CommandAt ima
         → (k ≡ 2 → ⊥)
         → (k ≡ 4 → ⊥)
         → (k ≡ 5 → ⊥)
-        → after ≡ overwrittenAt at (nodeBytes (record { kind = k; item = item; a = a; b = b; c = c })) out
+        → after ≡ overwrittenAt at (nodeBytes (record { kind = number; item = item; a = a; b = b; c = c })) out
         → after ≡ overwrittenAt at (nodeBytes (commandWritten (designOf image) (commandAt (designOf image) n))) out
     other-new one two four five put =
         node-put
@@ -509,7 +507,7 @@ module _ {image : List ℕ} {x : Design} {place n k : ℕ} (here : CommandAt ima
         put
         (ap (λ (m : ℕ). renumberedCommand (newState (designOf image)) (newCommand (designOf image)) (newExpression (designOf image)) (commandKind m) (commandAt (designOf image) n)) (sym byte)
         ∙ other-is (newState (designOf image)) (newCommand (designOf image)) (newExpression (designOf image)) (commandAt (designOf image) n) one two four five)
-        byte
+        (wide ∙ byte)
         (item-is here i)
         (a-is here p)
         (b-is here q)
@@ -531,76 +529,75 @@ module _ {image : List ℕ} {x : Design} {place n k : ℕ} (here : CommandAt ima
 
 -- ---- an expression
 module _ {image : List ℕ} {x : Design} {place n k : ℕ} (here : ExpressionAt image x place n) (same : k ≡ nodeIn image place n .kind) where
-  lowest-operation : {t : Bool} → t ≡ true → t ≡ (leb 2 k && leb k 11) → 2 ≤ k
-  lowest-operation e f = leb-true 2 k (and-first (leb 2 k) (leb k 11) (sym f ∙ e))
-
-  last-operation : {t : Bool} → t ≡ true → t ≡ (leb 2 k && leb k 11) → k < expressionKinds
-  last-operation e f = let most = leb-true k 11 (and-second (leb 2 k) (leb k 11) (sym f ∙ e)) in omega arith
-
-  is-operation : 2 ≤ k → k < expressionKinds → (leb 2 k && leb k 11) ≡ true
-  is-operation low high = rw (le-leb 2 k low, le-leb k 11 (omega arith))
-
-  operand-a : {t : Bool} {m : ℕ} → t ≡ true → t ≡ (leb 2 k && leb k 11) → m ≡ nodeIn image place n .a → m < x .expressions
-  operand-a e f p =
+  operand-a : {m : ℕ} → 2 ≤ k → k < expressionKinds → m ≡ nodeIn image place n .a → m < x .expressions
+  operand-a low high p =
       let node = here .node in
-      let low = lowest-operation e f in
-      let below = operand-a-below here (last-operation e f) (omega arith) (λ z. omega arith) same p in
+      let below = operand-a-below here high (omega arith) (λ z. omega arith) same p in
       omega arith
 
-  operand-b : {t : Bool} {m : ℕ} → t ≡ true → t ≡ (leb 2 k && leb k 11) → m ≡ nodeIn image place n .b → m < x .expressions
-  operand-b e f p =
+  operand-b : {m : ℕ} → 2 ≤ k → k < expressionKinds → m ≡ nodeIn image place n .b → m < x .expressions
+  operand-b low high p =
       let node = here .node in
-      let low = lowest-operation e f in
-      let below = operand-b-below here (last-operation e f) (omega arith) (λ z. omega arith) same p in
+      let below = operand-b-below here high (omega arith) (λ z. omega arith) same p in
       omega arith
 
-  pub operand-a-has : {t : Bool} {m long : ℕ} → t ≡ true → t ≡ (leb 2 k && leb k 11) → m ≡ nodeIn image place n .a → x .expressions ≤ long → m < long
-  operand-a-has e f p l = let below = operand-a e f p in omega arith
+  pub operand-a-has : {m long : ℕ} → 2 ≤ k → k < expressionKinds → m ≡ nodeIn image place n .a → x .expressions ≤ long → m < long
+  operand-a-has low high p l = let below = operand-a low high p in omega arith
 
-  pub operand-b-has : {t : Bool} {m long : ℕ} → t ≡ true → t ≡ (leb 2 k && leb k 11) → m ≡ nodeIn image place n .b → x .expressions ≤ long → m < long
-  operand-b-has e f p l = let below = operand-b e f p in omega arith
+  pub operand-b-has : {m long : ℕ} → 2 ≤ k → k < expressionKinds → m ≡ nodeIn image place n .b → x .expressions ≤ long → m < long
+  operand-b-has low high p l = let below = operand-b low high p in omega arith
 
-  module _ (at : ℕ) (out : List ℕ) {item a b c : ℕ} {t : Bool} {after : List ℕ} (i : item ≡ nodeIn image place n .item) (p : a ≡ nodeIn image place n .a) (q : b ≡ nodeIn image place n .b) (r : c ≡ nodeIn image place n .c) where
+  module _ (at : ℕ) (out : List ℕ) {number item a b c : ℕ} {after : List ℕ} (wide : number ≡ k) (i : item ≡ nodeIn image place n .item) (p : a ≡ nodeIn image place n .a) (q : b ≡ nodeIn image place n .b) (r : c ≡ nodeIn image place n .c) where
     pub operation-new :
         {v w : ℕ} {numbers : List ℕ}
-        → t ≡ true
-        → t ≡ (leb 2 k && leb k 11)
-        → after ≡ overwrittenAt at (nodeBytes (record { kind = k; item = item; a = v; b = w; c = c })) out
+        → 2 ≤ k
+        → k < expressionKinds
+        → after ≡ overwrittenAt at (nodeBytes (record { kind = number; item = item; a = v; b = w; c = c })) out
         → v ≡ getD numbers a 0
         → w ≡ getD numbers b 0
         → Numbered (expressionStays (designOf image)) (x .expressions) numbers
         → after ≡ overwrittenAt at (nodeBytes (expressionWritten (designOf image) (expressionAt (designOf image) n))) out
-    operation-new e f put g h table =
-        let low = lowest-operation e f in
-        let o = operation here (last-operation e f) (omega arith) (λ z. omega arith) same in
+    operation-new low high put g h table =
+        let o = operation here high (omega arith) (λ z. omega arith) same in
         let is = same-expression here in
         node-put
         at
         out
         put
         (operation-is (newState (designOf image)) (newCommand (designOf image)) (newExpression (designOf image)) (expressionAt (designOf image) n) (o .1))
-        (same ∙ ap (λ (y : Node). y .kind) is)
+        (wide ∙ same ∙ ap (λ (y : Node). y .kind) is)
         (i ∙ ap (λ (y : Node). y .item) is)
-        (new-is table (operand-a e f p) g (first-is here p))
-        (new-is table (operand-b e f q) h (second-is here q))
+        (new-is table (operand-a low high p) g (first-is here p))
+        (new-is table (operand-b low high q) h (second-is here q))
         (r ∙ ap (λ (y : Node). y .c) is)
 
-    pub plain-new :
-        t ≡ false
-        → t ≡ (leb 2 k && leb k 11)
-        → after ≡ overwrittenAt at (nodeBytes (record { kind = k; item = item; a = a; b = b; c = c })) out
+    plain :
+        (2 ≤ k → k < expressionKinds → ⊥)
+        → after ≡ overwrittenAt at (nodeBytes (record { kind = number; item = item; a = a; b = b; c = c })) out
         → after ≡ overwrittenAt at (nodeBytes (expressionWritten (designOf image) (expressionAt (designOf image) n))) out
-    plain-new e f put =
+    plain none put =
         let is = same-expression here in
-        let none : 2 ≤ k → k < expressionKinds → ⊥ = λ low high. false≢true (sym e ∙ f ∙ is-operation low high) in
         node-put
         at
         out
         put
         (ap (λ (m : ℕ). renumberedExpression (newState (designOf image)) (newCommand (designOf image)) (newExpression (designOf image)) (expressionKind m) (expressionAt (designOf image) n)) (expression-kind-is here same)
         ∙ plain-is (newState (designOf image)) (newCommand (designOf image)) (newExpression (designOf image)) (expressionAt (designOf image) n) none)
-        (same ∙ ap (λ (y : Node). y .kind) is)
+        (wide ∙ same ∙ ap (λ (y : Node). y .kind) is)
         (i ∙ ap (λ (y : Node). y .item) is)
         (first-is here p)
         (second-is here q)
         (r ∙ ap (λ (y : Node). y .c) is)
+
+    -- below the operations, and above them
+    pub low-new :
+        k < 2
+        → after ≡ overwrittenAt at (nodeBytes (record { kind = number; item = item; a = a; b = b; c = c })) out
+        → after ≡ overwrittenAt at (nodeBytes (expressionWritten (designOf image) (expressionAt (designOf image) n))) out
+    low-new l = plain (λ low high. omega arith)
+
+    pub high-new :
+        expressionKinds ≤ k
+        → after ≡ overwrittenAt at (nodeBytes (record { kind = number; item = item; a = a; b = b; c = c })) out
+        → after ≡ overwrittenAt at (nodeBytes (expressionWritten (designOf image) (expressionAt (designOf image) n))) out
+    high-new l = plain (λ low high. omega arith)

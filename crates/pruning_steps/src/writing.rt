@@ -5,13 +5,11 @@ use encoding::writers::put_node;
 use encoding::writers::put_state;
 ghost use Prim.Native.Nat.{_+_, _*_, _≤_, _<_};
 ghost use mathlib.Core.Path.{_≡_};
-ghost use mathlib.Core.Bool.{_&&_};
-ghost use lib.Dec.{leb};
 ghost use lib.ListN.{length};
 ghost use Rattle.model.specs.Limits.{stateLength, nodeLength};
 ghost use Rattle.model.specs.Image.{designOf, stateAt, commandAt, expressionAt};
 ghost use Rattle.design.specs.Kept.{Structured};
-ghost use Rattle.design.specs.Records.{stateIn, stateEnd, nodeIn, nodeEnd};
+ghost use Rattle.design.specs.Records.{stateIn, stateEnd};
 ghost use Rattle.design.specs.RecordsAt.{CommandAt, ExpressionAt};
 ghost use Rattle.encoding.specs.Encoding.{stateBytes, nodeBytes, recordsBytes};
 ghost use Rattle.encoding.specs.Parts.{overwrittenAt};
@@ -21,21 +19,6 @@ ghost use Rattle.pruning_model.specs.Pruned.{closedUp, commandStays, expression
 ghost use Rattle.pruning_model.specs.Pruned.{stateWritten, commandWritten, expressionWritten};
 ghost use Rattle.pruning_steps.specs.Marks.{Marked, isMarked, Numbered};
 ghost use Rattle.pruning_steps.specs.Writing.{behind, Stepped};
-
-// The kind of node n, as a number to be written.
-fn node_kind(image: &[u8], at: usize, n: usize) -> usize
-    requires { ⌜ nodeEnd at n ≤ length (now image) ⌝ }
-    ensures { λ r. ⌜ (r ≡ nodeIn (now (image .entry)) at n .kind) × (r < 256) ⌝ }
-{
-    design::wide(Design::kind(image, at, n))
-}
-
-// Whether a kind of expression is an operation.
-fn is_operation(kind: usize) -> bool
-    ensures { λ r. ⌜ r ≡ (leb 2 kind && leb kind 11) ⌝ }
-{
-    (2 <= kind) & (kind <= 11)
-}
 
 // State s, where the states begin at a place, with another parent and another command.
 fn write_fields(
@@ -174,7 +157,8 @@ fn write_command(
     ensures { λ _. ⌜ now (out .exit) ≡ overwrittenAt at (nodeBytes (commandWritten (designOf (now (image .entry))) (commandAt (designOf (now (image .entry))) n))) (now (out .entry)) ⌝ }
 {
     let from = design.commands_at;
-    let kind = node_kind(image, from, n);
+    let kind = Design::kind(image, from, n);
+    let number = design::wide(kind);
     let item = Design::item(image, from, n);
     let a = Design::part_a(image, from, n);
     let b = Design::part_b(image, from, n);
@@ -182,24 +166,24 @@ fn write_command(
     match kind {
         1 => {
             let value = new_number(expression_numbers, a);
-            put_node(out, at, kind, item, value, b, c);
+            put_node(out, at, number, item, value, b, c);
         }
         2 => {
             let first = new_number(numbers, a);
             let second = new_number(numbers, b);
-            put_node(out, at, kind, item, first, second, c);
+            put_node(out, at, number, item, first, second, c);
         }
         4 => {
             let target = new_number(state_numbers, item);
-            put_node(out, at, kind, target, a, b, c);
+            put_node(out, at, number, target, a, b, c);
         }
         5 => {
             let value = new_number(expression_numbers, a);
             let first = new_number(numbers, b);
             let second = new_number(numbers, c);
-            put_node(out, at, kind, item, value, first, second);
+            put_node(out, at, number, item, value, first, second);
         }
-        _ => put_node(out, at, kind, item, a, b, c),
+        _ => put_node(out, at, number, item, a, b, c),
     }
 }
 
@@ -291,18 +275,20 @@ fn write_expression(
     ensures { λ _. ⌜ now (out .exit) ≡ overwrittenAt at (nodeBytes (expressionWritten (designOf (now (image .entry))) (expressionAt (designOf (now (image .entry))) n))) (now (out .entry)) ⌝ }
 {
     let from = design.expressions_at;
-    let kind = node_kind(image, from, n);
+    let kind = Design::kind(image, from, n);
+    let number = design::wide(kind);
     let item = Design::item(image, from, n);
     let a = Design::part_a(image, from, n);
     let b = Design::part_b(image, from, n);
     let c = Design::part_c(image, from, n);
-    if is_operation(kind) {
-        let first = new_number(numbers, a);
-        let second = new_number(numbers, b);
-        put_node(out, at, kind, item, first, second, c);
-        return;
+    match kind {
+        2..=11 => {
+            let first = new_number(numbers, a);
+            let second = new_number(numbers, b);
+            put_node(out, at, number, item, first, second, c);
+        }
+        _ => put_node(out, at, number, item, a, b, c),
     }
-    put_node(out, at, kind, item, a, b, c);
 }
 
 // Expression n, where it stays; the place behind it.

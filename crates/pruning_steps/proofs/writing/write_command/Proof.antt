@@ -5,8 +5,11 @@ use borrow.Author.Needs.{needs}
 use Rattle.pruning_steps.proofs.writing.write_command.Statement.{statement}
 use Rattle.pruning_steps.proofs.writing.write_command.Tie as tie
 
-node-kind-requires : tie.Need-node-kind-requires
-node-kind-requires c κs = search (command-place-inside, needs)
+kind-requires : tie.Need-kind-requires
+kind-requires c κs = search (command-place-inside, needs)
+
+wide-requires : tie.Need-wide-requires
+wide-requires c κs = search needs
 
 item-requires : tie.Need-item-requires
 item-requires c κs = search (command-place-inside, needs)
@@ -90,7 +93,8 @@ pub write-command-spec : {M : Type 1} → statement M
 write-command-spec =
     tie.close
     (tie.spec
-    node-kind-requires
+    kind-requires
+    wide-requires
     item-requires
     part-a-requires
     part-b-requires
