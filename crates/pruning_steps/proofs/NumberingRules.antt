@@ -6,11 +6,14 @@ use mathlib.Core.Bool.{Bool, true, false}
 use mathlib.Core.List.{List}
 use native.Mathlib.Omega.{arith}
 use native.Mathlib.Numerals.{add-one}
+use native.Mathlib.Decide.{decLt}
 use lib.Dec.{eqb}
-use lib.ListN.{length}
+use lib.ListN.{length, getD, replicate, length-replicate, getD-replicate, List·getD-eq-default}
 use borrow.Author.Tests.{eq-eqb, ne-eqb}
 use Rattle.model.specs.Values.{oneOrZero}
+use Rattle.model.specs.Indices.{filledTo}
 use Rattle.design.specs.Resets.{Filled}
+use Rattle.design.proofs.ResetRules.{filled-to, filled-whole}
 use Rattle.pruning_model.specs.Pruned.{closedUp}
 use Rattle.pruning_model.proofs.Closing.{closed-at-most}
 use Rattle.pruning_steps.specs.Marks.{Marked, isMarked, Numbered}
@@ -39,8 +42,19 @@ module _ (stays : ℕ → Bool) where
   pub closed-whole : {k next count : ℕ} → next ≡ closedUp stays k → k ≤ count → count ≤ k → next ≡ closedUp stays count
   closed-whole {k} {next} {count} e l h = let end : k ≡ count = omega arith in rw end at e
 
+  pub numbers-filled : {k count : ℕ} {old now : List ℕ} → Filled (closedUp stays) old k now → k ≤ count → count ≤ k → now ≡ filledTo (closedUp stays) count old
+  numbers-filled so l h = filled-whole (filled-to so l h)
+
   pub numbered-whole : {k count : ℕ} {old now : List ℕ} → Filled (closedUp stays) old k now → count ≤ length old → k ≤ count → count ≤ k → Numbered stays count now
   numbered-whole so long l h = let same = so .long in record { long = omega arith; entry = λ j b. so .done j (omega arith) }
+
+-- ---- a fresh table
+pub fresh-zero : (most k : ℕ) {table : List ℕ} → table ≡ replicate {A = ℕ} most 0 → getD table k 0 ≡ 0
+fresh-zero most k {table} e = ap (λ (t : List ℕ). getD t k 0) e ∙ go (decLt k most)
+  where
+    go : Dec (k < most) → getD (replicate {A = ℕ} most 0) k 0 ≡ 0
+    go (yes l) = getD-replicate {A = ℕ} most k 0 0 l
+    go (no l) = List·getD-eq-default (replicate {A = ℕ} most 0) 0 (omega (arith, length-replicate {A = ℕ} most 0))
 
 -- ---- what the marks say
 one-is : (b : Bool) → eqb (oneOrZero b) 1 ≡ b

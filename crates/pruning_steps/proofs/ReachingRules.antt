@@ -9,21 +9,21 @@ use native.Mathlib.Omega.{arith}
 use native.Mathlib.Numerals.{add-one}
 use native.Mathlib.Decide.{ℕ-discrete, decLt}
 use lib.Dec.{eqb}
-use lib.ListN.{length, getD, set, replicate, length-set, length-replicate, getD-replicate, List·getD-eq-default}
+use lib.ListN.{length, getD, set, replicate, length-set, length-replicate}
 use lib.Seq.{getD-set-same, getD-set-other, set-out}
 use borrow.Author.Tests.{eqb-true, eq-eqb, ne-eqb}
 use Rattle.model.specs.declared.Found.{Found}
 use Rattle.model.specs.declared.Found.the-variants.{At, Nowhere}
-use Rattle.model.specs.Indices.{lowest}
+use Rattle.model.specs.Indices.{lowest, filledTo}
 use Rattle.model.specs.Limits.{statesMax}
-use Rattle.model.specs.Image.{Design, designOf, commandAt}
+use Rattle.model.specs.Image.{Design, States, designOf, commandAt}
 use Rattle.model.specs.States.{isChild, hasChild, defaultTarget}
 use Rattle.model.specs.Kinds.{sequences, falls, goes, branches, commandKind}
 use Rattle.model.specs.Trees.{cmdOf, bodyOf}
 use Rattle.model.specs.Rules.{StructureKeeps, CommandHolds}
 use Rattle.model.specs.Values.{oneOrZero}
 use Rattle.model.proofs.Laws.Booleans.{decide, true-or-false, not-true}
-use Rattle.model.proofs.Laws.Indices.{extend, lowest-at, lowest-none, lowest-nowhere, lowest-found}
+use Rattle.model.proofs.Laws.Indices.{extend, lowest-at, lowest-none, lowest-nowhere, lowest-found, filled-is}
 use Rattle.model.proofs.Laws.Passes.{Missed}
 use Rattle.model.proofs.Laws.States.{child-of, default-cases}
 use Rattle.model.proofs.Laws.Trees.{cmd-skip, cmd-assign, cmd-sequence, cmd-fall, cmd-goto, cmd-branch}
@@ -39,7 +39,8 @@ use Rattle.pruning_model.specs.Pruned.{closedUp}
 use Rattle.pruning_model.specs.Reached.{Reached, root, fallen, gone, leadsTo, successors, reached}
 use Rattle.pruning_model.proofs.Closing.{count-rests}
 use Rattle.pruning_model.proofs.Reached.{LeadsTo, leads-cases, fall-leads, goto-leads, reached-least, reached-state, reached-iff}
-use Rattle.pruning_steps.specs.Marks.{Marked}
+use Rattle.pruning_steps.specs.Marks.{markOf, Marked}
+use Rattle.pruning_steps.proofs.NumberingRules.{fresh-zero}
 use Rattle.pruning_steps.specs.Reaching.{found, foundAll, waits, Finding}
 
 -- ---- a state is found
@@ -335,19 +336,12 @@ reaching-begins {image} {marks} here e =
       closed = λ s t l h m. ⊎-elim (λ (z : s ≡ 0). absurd (let one : getD (set marks 0 2) 0 0 ≡ 1 = ap (λ (i : ℕ). getD (set marks 0 2) i 0) (sym z) ∙ h in omega arith)) (λ (z : getD (set marks 0 2) s 0 ≡ 0). absurd (omega arith)) (entry s);
     }
   where
-    zeros : (n k : ℕ) → getD (replicate {A = ℕ} n 0) k 0 ≡ 0
-    zeros n k = go (decLt k n)
-      where
-        go : Dec (k < n) → getD (replicate {A = ℕ} n 0) k 0 ≡ 0
-        go (yes l) = getD-replicate n k 0 0 l
-        go (no l) = List·getD-eq-default (replicate {A = ℕ} n 0) 0 (let long = length-replicate {A = ℕ} n 0 in omega arith)
-
     entry : (k : ℕ) → (k ≡ 0) ⊎ (getD (set marks 0 2) k 0 ≡ 0)
     entry k = go (ℕ-discrete k 0)
       where
         go : Dec (k ≡ 0) → (k ≡ 0) ⊎ (getD (set marks 0 2) k 0 ≡ 0)
         go (yes h) = inl h
-        go (no h) = inr (getD-set-other marks 0 k 2 0 h ∙ ap (λ (m : List ℕ). getD m k 0) e ∙ zeros statesMax k)
+        go (no h) = inr (getD-set-other marks 0 k 2 0 h ∙ fresh-zero statesMax k e)
 
 -- ---- one state more
 module _ (d : Design) (keeps : StructureKeeps d) where
@@ -531,3 +525,23 @@ module _ {image : List ℕ} {x : Described} (here : Structured image x) where
         long = omega arith;
         entry = λ k l. reached-entry (designOf image) (here .structure) (omega arith) marks so (λ i b. none-waits marks e h i (omega arith)) k (omega arith);
       }
+
+  -- a state that does not exist is not reached, so that its entry stays
+  pub reaching-whole :
+      {old marks : List ℕ} {f : Found}
+      → f ≡ Nowhere
+      → f ≡ lowest (waits marks) (x .states)
+      → Reaching (designOf image) marks
+      → old ≡ replicate {A = ℕ} statesMax 0
+      → marks ≡ filledTo (markOf (reached (designOf image))) (x .states) old
+  unfolding markOf
+  reaching-whole {old} {marks} e h so fresh =
+      filled-is (markOf (reached (designOf image))) (x .states) old marks (reaching-same so fresh) (reaching-ends e h so .entry) (λ k l. behind k l (ℕ-discrete (getD marks k 0) 0))
+    where
+      behind : (k : ℕ) → x .states ≤ k → Dec (getD marks k 0 ≡ 0) → getD marks k 0 ≡ getD old k 0
+      behind k l (yes z) = z ∙ sym (fresh-zero statesMax k fresh)
+      behind k l (no z) =
+          let count = states-count (here .records .describes) in
+          let some : 0 < length (designOf image .states) = omega (arith, here .records .describes .states, here .records .describes .directory .sections States) in
+          let below = reached-state (designOf image) (here .structure) some (so .only k z) in
+          absurd (omega arith)

@@ -8,17 +8,18 @@ use mathlib.Core.List.{List, [], _∷_, _++_, List·Memᴰ, List·Memᴰ·head, 
 use native.Mathlib.Omega.{arith}
 use native.Mathlib.Numerals.{add-one}
 use native.Mathlib.Decide.{ℕ-discrete}
-use lib.ListN.{length, getD, set, replicate, length-set, length-replicate, getD-replicate}
+use lib.ListN.{length, getD, set, replicate, length-set, length-replicate}
 use lib.Seq.{getD-set-same, getD-set-other}
 use borrow.Author.Tests.{eq-eqb, eqb-true}
 use Rattle.model.specs.Limits.{commandsMax, expressionsMax}
-use Rattle.model.specs.Indices.{joinBelow}
+use Rattle.model.specs.Indices.{joinBelow, filledTo}
 use Rattle.model.specs.Values.{oneOrZero}
 use Rattle.model.specs.Image.{Design as Table, States, designOf}
 use Rattle.model.specs.Nodes.{commandOf, partsOf, valuesOf, operandsOf}
 use Rattle.model.specs.Rules.{StructureKeeps}
 use Rattle.model.proofs.Laws.Booleans.{decide, not-true, not-false}
 use Rattle.model.proofs.Laws.Among.{among-join, join-cases}
+use Rattle.model.proofs.Laws.Indices.{filled-is}
 use Rattle.model.proofs.Laws.Kinds.{expressionKinds}
 use Rattle.design.specs.declared.Design.{Design}
 use Rattle.design.specs.Records.{stateIn, nodeIn}
@@ -32,9 +33,9 @@ use Rattle.pruning_model.specs.Reached.{reached}
 use Rattle.pruning_model.specs.Pruned.{commandStays, expressionStays}
 use Rattle.pruning_model.proofs.Reached.{reached-state, reached-iff}
 use Rattle.pruning_model.proofs.Nodes.{IsBody, IsValue, CommandStays, ExpressionStays, body-stays, part-stays, command-used, value-stays, operand-stays, expression-used}
-use Rattle.pruning_steps.specs.Marks.{Marked, isMarked}
+use Rattle.pruning_steps.specs.Marks.{markOf, Marked, isMarked}
 use Rattle.pruning_steps.specs.Staying.{markAll, givenBy}
-use Rattle.pruning_steps.proofs.NumberingRules.{marked-says}
+use Rattle.pruning_steps.proofs.NumberingRules.{marked-says, fresh-zero}
 
 -- ---- a table with the numbers of a list marked
 length-marks : (t us : List ℕ) → length (markAll t us) ≡ length t
@@ -195,9 +196,17 @@ pub record Closed (stays first : ℕ → Bool) (gives parts : ℕ → List ℕ) 
 pub record Downward (stays first : ℕ → Bool) (gives parts : ℕ → List ℕ) (owners count : ℕ) (old : List ℕ) (n : ℕ) (now : List ℕ) : Type 0 where
   pub same : length now ≡ length old
   pub long : count ≤ length now
-  pub entry : (k : ℕ) → k < count → (getD now k 0 ≡ 0) ⊎ ((getD now k 0 ≡ 1) × (stays k ≡ true))
+  pub entry : (k : ℕ) → (getD now k 0 ≡ 0) ⊎ ((getD now k 0 ≡ 1) × (k < count) × (stays k ≡ true))
   pub given : (s k : ℕ) → s < owners → first s ≡ true → List·Memᴰ k (gives s) → getD now k 0 ≡ 1
   pub part : (m k : ℕ) → n ≤ m → m < count → stays m ≡ true → List·Memᴰ k (parts m) → getD now k 0 ≡ 1
+
+-- a table that comes from the marks of a loop is as long as the one that was lent
+pub downward-long :
+    (lent us : List ℕ) {stays first : ℕ → Bool} {gives parts : ℕ → List ℕ} {owners count n : ℕ} {old now : List ℕ}
+    → Downward stays first gives parts owners count old n now
+    → old ≡ markAll lent us
+    → length now ≡ length lent
+downward-long lent us so is = so .same ∙ ap length is ∙ length-marks lent us
 
 module _ {stays first : ℕ → Bool} {gives parts : ℕ → List ℕ} {owners count : ℕ} (closed : Closed stays first gives parts owners count) where
   pub downward-begins :
@@ -211,7 +220,7 @@ module _ {stays first : ℕ → Bool} {gives parts : ℕ → List ℕ} {owners c
       record {
         same = refl;
         long = long;
-        entry = λ k l. rw is (entered k l (marks-cases us old k));
+        entry = λ k. rw is (entered k (marks-cases us old k));
         given = λ s k l h m.
             rw is (marks-among old k (inside k (closed .given s k l h m .0)) (among-join (givenBy table gives) owners s l (among-given (marked-says marked s l ∙ h) m)));
         part = λ m k l b. absurd (omega arith);
@@ -226,15 +235,13 @@ module _ {stays first : ℕ → Bool} {gives parts : ℕ → List ℕ} {owners c
       inside : (k : ℕ) → k < count → k < length old
       inside k l = omega (arith, ap length fresh, length-replicate {A = ℕ} most 0)
 
-      zero-at : (k : ℕ) → k < count → getD old k 0 ≡ 0
-      zero-at k l = rw fresh (getD-replicate {A = ℕ} most k 0 0 (omega arith))
-
-      entered : (k : ℕ) → k < count → List·Memᴰ k us ⊎ (getD (markAll old us) k 0 ≡ getD old k 0) → (getD (markAll old us) k 0 ≡ 0) ⊎ ((getD (markAll old us) k 0 ≡ 1) × (stays k ≡ true))
-      entered k l (inl m) =
+      entered : (k : ℕ) → List·Memᴰ k us ⊎ (getD (markAll old us) k 0 ≡ getD old k 0) → (getD (markAll old us) k 0 ≡ 0) ⊎ ((getD (markAll old us) k 0 ≡ 1) × (k < count) × (stays k ≡ true))
+      entered k (inl m) =
           let (s, below, h) = join-cases (givenBy table gives) k owners m in
           let (mark, by) = given-cases (isMarked table s) k (gives s) h in
-          inr (marks-among old k (inside k l) m, closed .given s k below (sym (marked-says marked s below) ∙ mark) by .1)
-      entered k l (inr e) = inl (e ∙ zero-at k l)
+          let (l, keeps) = closed .given s k below (sym (marked-says marked s below) ∙ mark) by in
+          inr (marks-among old k (inside k l) m, l, keeps)
+      entered k (inr e) = inl (e ∙ fresh-zero most k fresh)
 
   module _ {old now : List ℕ} {n : ℕ} (so : Downward stays first gives parts owners count old n now) where
     -- what stays, and has all that stays above it behind it, is marked
@@ -251,15 +258,15 @@ module _ {stays first : ℕ → Bool} {gives parts : ℕ → List ℕ} {owners c
     marked-stays k l h =
         ⊎-elim
         (λ (e : getD now k 0 ≡ 0). absurd (omega (arith, eqb-true (getD now k 0) 1 h)))
-        (λ (e : (getD now k 0 ≡ 1) × (stays k ≡ true)). e .1)
-        (so .entry k l)
+        (λ (e : (getD now k 0 ≡ 1) × (k < count) × (stays k ≡ true)). e .2)
+        (so .entry k)
 
     pub downward-more : {after : List ℕ} → 0 < n → n ≤ count → after ≡ markAll now (givenBy now parts (n - 1)) → Downward stays first gives parts owners count old (n - 1) after
     downward-more {after} pos low is =
         record {
           same = ap length is ∙ length-marks now us ∙ so .same;
           long = omega (arith, ap length is, length-marks now us, so .long);
-          entry = λ k l. rw is (entered k l (marks-cases us now k));
+          entry = λ k. rw is (entered k (marks-cases us now k));
           given = λ s k l h m. rw is (marks-kept us now k (inside k (closed .given s k l h m .0)) (so .given s k l h m));
           part = λ m k l b h by. rw is (parted m k l b h by (ℕ-discrete m (n - 1)));
         }
@@ -270,11 +277,13 @@ module _ {stays first : ℕ → Bool} {gives parts : ℕ → List ℕ} {owners c
         inside : (k : ℕ) → k < count → k < length now
         inside k l = omega (arith, so .long)
 
-        entered : (k : ℕ) → k < count → List·Memᴰ k us ⊎ (getD (markAll now us) k 0 ≡ getD now k 0) → (getD (markAll now us) k 0 ≡ 0) ⊎ ((getD (markAll now us) k 0 ≡ 1) × (stays k ≡ true))
-        entered k l (inl m) =
+        entered : (k : ℕ) → List·Memᴰ k us ⊎ (getD (markAll now us) k 0 ≡ getD now k 0) → (getD (markAll now us) k 0 ≡ 0) ⊎ ((getD (markAll now us) k 0 ≡ 1) × (k < count) × (stays k ≡ true))
+        entered k (inl m) =
             let (mark, by) = given-cases (isMarked now (n - 1)) k (parts (n - 1)) m in
-            inr (marks-among now k (inside k l) m, closed .part (n - 1) k (omega arith) (marked-stays (n - 1) (omega arith) mark) by .1)
-        entered k l (inr e) = rw e (so .entry k l)
+            let (lower, keeps) = closed .part (n - 1) k (omega arith) (marked-stays (n - 1) (omega arith) mark) by in
+            let l : k < count = omega arith in
+            inr (marks-among now k (inside k l) m, l, keeps)
+        entered k (inr e) = rw e (so .entry k)
 
         parted : (m k : ℕ) → n - 1 ≤ m → m < count → stays m ≡ true → List·Memᴰ k (parts m) → Dec (m ≡ n - 1) → getD (markAll now us) k 0 ≡ 1
         parted m k l b h by (yes e) =
@@ -286,20 +295,37 @@ module _ {stays first : ℕ → Bool} {gives parts : ℕ → List ℕ} {owners c
             marks-kept us now k (inside k (omega arith)) (so .part m k (omega arith) b h by)
 
     pub downward-done : n ≤ 0 → Marked stays count now
-    downward-done end = record { long = so .long; entry = λ k l. entered k l (so .entry k l) (decide (stays k)) }
+    downward-done end = record { long = so .long; entry = λ k l. entered k l (so .entry k) (decide (stays k)) }
       where
-        entered : (k : ℕ) → k < count → (getD now k 0 ≡ 0) ⊎ ((getD now k 0 ≡ 1) × (stays k ≡ true)) → (stays k ≡ true) ⊎ (stays k ≡ false) → getD now k 0 ≡ oneOrZero (stays k)
+        entered : (k : ℕ) → k < count → (getD now k 0 ≡ 0) ⊎ ((getD now k 0 ≡ 1) × (k < count) × (stays k ≡ true)) → (stays k ≡ true) ⊎ (stays k ≡ false) → getD now k 0 ≡ oneOrZero (stays k)
         entered k l (inl e) (inl h) = absurd (omega (arith, settled k (omega arith) l h))
         entered k l (inl e) (inr h) = rw h e
-        entered k l (inr (e, h)) q = rw h e
+        entered k l (inr (e, b, h)) q = rw h e
 
--- a table that comes from the marks of a loop is as long as the one that was lent
-pub downward-long :
-    (lent us : List ℕ) {stays first : ℕ → Bool} {gives parts : ℕ → List ℕ} {owners count n : ℕ} {old now : List ℕ}
-    → Downward stays first gives parts owners count old n now
-    → old ≡ markAll lent us
-    → length now ≡ length lent
-downward-long lent us so is = so .same ∙ ap length is ∙ length-marks lent us
+    -- nothing behind them is marked
+    nothing-behind : (k : ℕ) → count ≤ k → getD now k 0 ≡ 0
+    nothing-behind k l =
+        ⊎-elim
+        (λ (e : getD now k 0 ≡ 0). e)
+        (λ (e : (getD now k 0 ≡ 1) × (k < count) × (stays k ≡ true)). absurd (omega (arith, e .1)))
+        (so .entry k)
+
+    pub downward-whole :
+        (lent us : List ℕ) (most : ℕ)
+        → n ≤ 0
+        → old ≡ markAll lent us
+        → lent ≡ replicate most 0
+        → now ≡ filledTo (markOf stays) count lent
+    unfolding markOf
+    downward-whole lent us most end is fresh =
+        filled-is
+        (markOf stays)
+        count
+        lent
+        now
+        (downward-long lent us so is)
+        (downward-done end .entry)
+        (λ k l. nothing-behind k l ∙ sym (fresh-zero most k fresh))
 
 -- ---- commands and expressions
 module _ (d : Table) (keeps : StructureKeeps d) (some : 0 < length (d .states)) where

@@ -8,6 +8,10 @@ use lib.ListN.{length, getD}
 use Rattle.model.specs.Values.{oneOrZero}
 use Rattle.pruning_model.specs.Pruned.{closedUp}
 
+-- the mark of a number that stays, and of one that goes
+unfoldable pub markOf : (ℕ → Bool) → ℕ → ℕ
+markOf stays k = oneOrZero (stays k)
+
 -- a table has 1 for each of n numbers that stays, and 0 for each that goes
 pub record Marked (stays : ℕ → Bool) (n : ℕ) (marks : List ℕ) : Type 0 where
   pub long : n ≤ length marks

@@ -5,14 +5,14 @@ use model::Found;
 ghost use Prim.Native.Nat.{_≤_, _<_};
 ghost use mathlib.Core.Path.{_≡_};
 ghost use lib.ListN.{length, replicate, set};
-ghost use Rattle.model.specs.Indices.{lowest};
+ghost use Rattle.model.specs.Indices.{lowest, filledTo};
 ghost use Rattle.model.specs.Limits.{statesMax};
 ghost use Rattle.model.specs.Image.{designOf};
 ghost use Rattle.model.specs.Trees.{cmdOf};
 ghost use Rattle.design.specs.Kept.{Structured};
 ghost use Rattle.design.specs.Resets.{Defaults};
 ghost use Rattle.pruning_model.specs.Reached.{leadsTo, successors, reached};
-ghost use Rattle.pruning_steps.specs.Marks.{Marked};
+ghost use Rattle.pruning_steps.specs.Marks.{markOf, Marked};
 ghost use Rattle.pruning_steps.specs.Reaching.{found, foundAll, waits, Finding};
 
 // A state that was gone through, and one that waits; 0 is one that was not found.
@@ -87,7 +87,8 @@ fn go_through(image: &[u8], design: Design, defaults: &[u8], s: usize, marks: &m
 // The states that are reached are marked.
 pub fn reached_states(image: &[u8], design: Design, marks: &mut [u8])
     requires { ⌜ Structured (now image) design × (now marks ≡ replicate statesMax 0) ⌝ }
-    ensures { λ _. ⌜ Marked (reached (designOf (now (image .entry)))) (design .states) (now (marks .exit)) ⌝ }
+    ensures { λ _. ⌜ (now (marks .exit) ≡ filledTo (markOf (reached (designOf (now (image .entry))))) (design .states) (now (marks .entry)))
+        × Marked (reached (designOf (now (image .entry)))) (design .states) (now (marks .exit)) ⌝ }
 {
     let mut defaults = [0u8; Design::STATES];
     design::reset::default_targets(image, design, &mut defaults);

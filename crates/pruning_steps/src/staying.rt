@@ -6,14 +6,14 @@ ghost use mathlib.Core.Path.{_≡_};
 ghost use mathlib.Core.List.{[], _∷_};
 ghost use lib.ListN.{length, replicate};
 ghost use Rattle.model.specs.Limits.{commandsMax, expressionsMax};
-ghost use Rattle.model.specs.Indices.{joinBelow};
+ghost use Rattle.model.specs.Indices.{joinBelow, filledTo};
 ghost use Rattle.model.specs.Image.{designOf};
 ghost use Rattle.model.specs.Nodes.{commandOf, partsOf, valuesOf, operandsOf};
 ghost use Rattle.design.specs.Kept.{RecordsKept, Structured};
 ghost use Rattle.design.specs.RecordsAt.{CommandAt, ExpressionAt};
 ghost use Rattle.pruning_model.specs.Reached.{reached as reachedIn};
 ghost use Rattle.pruning_model.specs.Pruned.{commandStays, expressionStays};
-ghost use Rattle.pruning_steps.specs.Marks.{Marked};
+ghost use Rattle.pruning_steps.specs.Marks.{markOf, Marked};
 ghost use Rattle.pruning_steps.specs.Staying.{markAll, givenBy};
 
 // Two nodes stay.
@@ -77,7 +77,8 @@ fn mark_parts(image: &[u8], design: Design, n: usize, marks: &mut [u8])
 // The commands that stay are marked.
 pub fn staying_commands(image: &[u8], design: Design, reached: &[u8], marks: &mut [u8])
     requires { ⌜ Structured (now image) design × Marked (reachedIn (designOf (now image))) (design .states) (now reached) × (now marks ≡ replicate commandsMax 0) ⌝ }
-    ensures { λ _. ⌜ Marked (commandStays (designOf (now (image .entry)))) (design .commands) (now (marks .exit)) ⌝ }
+    ensures { λ _. ⌜ (now (marks .exit) ≡ filledTo (markOf (commandStays (designOf (now (image .entry))))) (design .commands) (now (marks .entry)))
+        × Marked (commandStays (designOf (now (image .entry)))) (design .commands) (now (marks .exit)) ⌝ }
 {
     mark_bodies(image, design, reached, marks);
     let mut n = design.commands;
@@ -141,7 +142,8 @@ fn mark_operands(image: &[u8], design: Design, n: usize, marks: &mut [u8])
 // The expressions that stay are marked.
 pub fn staying_expressions(image: &[u8], design: Design, commands: &[u8], marks: &mut [u8])
     requires { ⌜ Structured (now image) design × Marked (commandStays (designOf (now image))) (design .commands) (now commands) × (now marks ≡ replicate expressionsMax 0) ⌝ }
-    ensures { λ _. ⌜ Marked (expressionStays (designOf (now (image .entry)))) (design .expressions) (now (marks .exit)) ⌝ }
+    ensures { λ _. ⌜ (now (marks .exit) ≡ filledTo (markOf (expressionStays (designOf (now (image .entry))))) (design .expressions) (now (marks .entry)))
+        × Marked (expressionStays (designOf (now (image .entry)))) (design .expressions) (now (marks .exit)) ⌝ }
 {
     mark_values(image, design, commands, marks);
     let mut n = design.expressions;

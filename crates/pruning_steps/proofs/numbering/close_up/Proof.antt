@@ -4,7 +4,7 @@ use Rattle.design.specs.Resets.{Filled}
 use Rattle.design.proofs.ResetRules.{filled-none, filled-within}
 use Rattle.pruning_model.specs.Pruned.{closedUp}
 use Rattle.pruning_steps.specs.Marks.{isMarked}
-use Rattle.pruning_steps.proofs.NumberingRules.{closed-begins, closed-next, closed-fits, closed-whole, numbered-whole}
+use Rattle.pruning_steps.proofs.NumberingRules.{closed-begins, closed-next, closed-fits, closed-whole, numbers-filled, numbered-whole}
 use borrow.Author.Needs.{needs}
 use Rattle.pruning_steps.proofs.numbering.close_up.Statement.{statement}
 use Rattle.pruning_steps.proofs.numbering.close_up.Tie as tie
@@ -46,7 +46,7 @@ same-length : tie.Need-same-length Inv-loop μ-loop
 same-length c = search needs
 
 returns : tie.Need-returns Inv-loop μ-loop
-returns c = search (closed-whole, numbered-whole, needs)
+returns c = search (closed-whole, numbers-filled, numbered-whole, needs)
 
 pub close-up-spec : {M : Type 1} → statement M
 close-up-spec =

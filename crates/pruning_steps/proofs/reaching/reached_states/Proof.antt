@@ -1,7 +1,7 @@
 use Rattle.model.specs.Image.{designOf}
 use Rattle.design.specs.Resets.{Defaults}
 use Rattle.design.proofs.ResetRules.{states-few, fresh-defaults}
-use Rattle.pruning_steps.proofs.ReachingRules.{Reaching, undone, root-inside, reaching-same, reaching-begins, reaching-long, waiting-state, reaching-more, reaching-less, reaching-ends}
+use Rattle.pruning_steps.proofs.ReachingRules.{Reaching, undone, root-inside, reaching-same, reaching-begins, reaching-long, waiting-state, reaching-more, reaching-less, reaching-ends, reaching-whole}
 use borrow.Author.Needs.{needs}
 use Rattle.pruning_steps.proofs.reaching.reached_states.Statement.{statement}
 use Rattle.pruning_steps.proofs.reaching.reached_states.Tie as tie
@@ -49,7 +49,7 @@ same-length : tie.Need-same-length Inv-loop μ-loop
 same-length c = search (reaching-same, needs)
 
 returns : tie.Need-returns Inv-loop μ-loop
-returns c = search (reaching-ends, needs)
+returns c = (search (reaching-whole, needs), search (reaching-ends, needs))
 
 pub reached-states-spec : {M : Type 1} → statement M
 reached-states-spec =

@@ -1,6 +1,6 @@
 use Prim.Native.Nat.{_≤_}
 use Rattle.design.proofs.Laws.{commands-most}
-use Rattle.pruning_steps.proofs.StayingRules.{CommandsDown, downward-begins, downward-more, downward-done, downward-long, commands-are, fresh-commands, command-met}
+use Rattle.pruning_steps.proofs.StayingRules.{CommandsDown, downward-begins, downward-more, downward-done, downward-whole, downward-long, commands-are, fresh-commands, command-met}
 use borrow.Author.Needs.{needs}
 use Rattle.pruning_steps.proofs.staying.staying_commands.Statement.{statement}
 use Rattle.pruning_steps.proofs.staying.staying_commands.Tie as tie
@@ -33,7 +33,7 @@ same-length : tie.Need-same-length Inv-loop μ-loop
 same-length c = search (downward-long, needs)
 
 returns : tie.Need-returns Inv-loop μ-loop
-returns c = search (downward-done, commands-are, needs)
+returns c = (search (downward-whole, commands-are, needs), search (downward-done, commands-are, needs))
 
 pub staying-commands-spec : {M : Type 1} → statement M
 staying-commands-spec =

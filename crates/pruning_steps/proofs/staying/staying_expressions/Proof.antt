@@ -1,6 +1,6 @@
 use Prim.Native.Nat.{_≤_}
 use Rattle.design.proofs.Laws.{expressions-most}
-use Rattle.pruning_steps.proofs.StayingRules.{ExpressionsDown, downward-begins, downward-more, downward-done, downward-long, expressions-are, fresh-expressions, expression-met}
+use Rattle.pruning_steps.proofs.StayingRules.{ExpressionsDown, downward-begins, downward-more, downward-done, downward-whole, downward-long, expressions-are, fresh-expressions, expression-met}
 use borrow.Author.Needs.{needs}
 use Rattle.pruning_steps.proofs.staying.staying_expressions.Statement.{statement}
 use Rattle.pruning_steps.proofs.staying.staying_expressions.Tie as tie
@@ -33,7 +33,7 @@ same-length : tie.Need-same-length Inv-loop μ-loop
 same-length c = search (downward-long, needs)
 
 returns : tie.Need-returns Inv-loop μ-loop
-returns c = search (downward-done, expressions-are, needs)
+returns c = (search (downward-whole, expressions-are, needs), search (downward-done, expressions-are, needs))
 
 pub staying-expressions-spec : {M : Type 1} → statement M
 staying-expressions-spec =
