@@ -6,21 +6,20 @@ use mathlib.Core.Logic.{_⊎_, inl, inr}
 use mathlib.Core.Bool.{Bool, true, false, _&&_, _||_, cond}
 use mathlib.Core.List.{List, [], _∷_}
 use native.Mathlib.Omega.{arith}
-use native.Mathlib.Decide.{ℕ-discrete}
-use native.Mathlib.Numerals.{add-one}
+use native.Mathlib.Decide.{ℕ-discrete, decLt}
 use native.Mathlib.Nat.{lt-of-lt-of-le}
 use lib.Pow.{pow-mono}
-use lib.Dec.{leb, eqb}
+use lib.Dec.{leb, ltb, eqb}
 use lib.ListN.{length, getD, set, length-set}
 use lib.Seq.{getD-set-same, getD-set-other}
-use borrow.Author.Tests.{leb-true, le-leb, eqb-true, eq-eqb}
+use borrow.Author.Tests.{lt-ltb, le-ltb, leb-true, le-leb, eqb-true, eq-eqb, ne-eqb}
 use Rattle.model.specs.Limits.{parametersMax, parameterLabel}
 use Rattle.model.specs.Image.{Labels, Design as Table, designOf}
 use Rattle.model.specs.Lattice.{flowsTo}
 use Rattle.model.specs.States.{parent}
 use Rattle.model.specs.Parameters.{scopeOf, lowerBound, upperBound}
-use Rattle.model.proofs.Laws.Booleans.{and-first, and-second, and-both, or-second, false-unless-true}
-use Rattle.model.proofs.Laws.Indices.{extend, nothing-below-zero}
+use Rattle.model.proofs.Laws.Booleans.{and-first, and-second, and-both, or-second, false-unless-true, cond-true, cond-false}
+use Rattle.model.proofs.Laws.Indices.{length-filled, filled-before}
 use Rattle.model.proofs.Laws.Bounds.{BoundsKept, least-label, least-parameter, most-label, most-parameter}
 use Rattle.model.proofs.Laws.Plain.{plain-scope}
 use Rattle.model.specs.Parameters.{boundedFlow, leastLabel, mostLabel}
@@ -29,8 +28,9 @@ use Rattle.design.specs.Records.{rowIn}
 use Rattle.design.specs.Kept.{RecordsKept, ParametersKept}
 use Rattle.design.specs.Scopes.{inheritedScope, LabelByte, Scopes, NoParameters}
 use Rattle.design.proofs.Laws.{labels-count, labels-most, states-count, row-in}
+use Rattle.design.proofs.ResetRules.{Filled, filled-none, filled-within, filled-to, filled-whole}
 use Rattle.design.proofs.BoundRules.{scopes-short, parameter-number, labels-few, bounds-of, pair-in-scope}
-use Rattle.checker_flow.specs.Masks.{MaskOf, Masks, Rows, widened, Widened, withOwn, OwnPut, LowerOf, UpperOf}
+use Rattle.checker_flow.specs.Masks.{MaskOf, Masks, Rows, widened, withRows, withOwn, lowerInScope, upperInScope, scopeMasks}
 use Rattle.checker_flow.proofs.MaskRules.{mask-one, low-bit}
 
 -- ---- bounded flows
@@ -106,14 +106,31 @@ module _ {x f g m : ℕ} (small : x < 65536) (one : f < 2) (other : g < 2) where
 bit-below : (n : ℕ) → n % 2 < 2
 bit-below n = omega arith
 
--- ---- rows
--- the masks of the labels below i
-pub record WidenedSo (d : Table) (first second i : ℕ) (masks : List ℕ) : Type 0 where
-  pub long : length masks ≡ 18
-  pub entry : (l : ℕ) → l < i → getD masks l 0 ≡ widened (getD (d .rows) l 0) first second
+-- ---- bounds in scope
+module _ (d : Table) (s : ℕ) where
+  lower-some : {i : ℕ} → i < length (scopeOf d s) → lowerInScope d s i ≡ lowerBound d (getD (scopeOf d s) i 0)
+  unfolding lowerInScope
+  lower-some {i} l = cond-true (ltb i (length (scopeOf d s))) _ _ (lt-ltb i (length (scopeOf d s)) l)
 
-pub rows-none : (d : Table) (first second : ℕ) {masks : List ℕ} → length masks ≡ 18 → WidenedSo d first second 0 masks
-rows-none d first second long = record { long = long; entry = λ l h. absurd (nothing-below-zero h) }
+  lower-none : (i : ℕ) → length (scopeOf d s) ≤ i → lowerInScope d s i ≡ 0
+  unfolding lowerInScope
+  lower-none i l = cond-false (ltb i (length (scopeOf d s))) _ _ (le-ltb i (length (scopeOf d s)) l)
+
+  upper-some : {i : ℕ} → i < length (scopeOf d s) → upperInScope d s i ≡ upperBound d (getD (scopeOf d s) i 0)
+  unfolding upperInScope
+  upper-some {i} l = cond-true (ltb i (length (scopeOf d s))) _ _ (lt-ltb i (length (scopeOf d s)) l)
+
+  upper-none : (i : ℕ) → length (scopeOf d s) ≤ i → upperInScope d s i ≡ 0
+  unfolding upperInScope
+  upper-none i l = cond-false (ltb i (length (scopeOf d s))) _ _ (le-ltb i (length (scopeOf d s)) l)
+
+-- ---- rows
+-- the masks of the labels below i are put
+pub record RowsSo (d : Table) (first second i : ℕ) (old masks : List ℕ) : Type 0 where
+  pub filled : Filled (λ l. widened (getD (d .rows) l 0) first second) old i masks
+
+pub rows-none : (d : Table) (first second : ℕ) {old : List ℕ} → RowsSo d first second 0 old old
+rows-none d first second = record { filled = filled-none }
 
 module _ {image : List ℕ} {x : Design} (known : RecordsKept image x) where
   row-small : (l : ℕ) → l < length (designOf image .rows) → getD (designOf image .rows) l 0 < 65536
@@ -128,165 +145,221 @@ module _ {image : List ℕ} {x : Design} (known : RecordsKept image x) where
   pub labels-sixteen : x .labels ≤ 16
   labels-sixteen = labels-most (known .describes)
 
-  -- one label further
-  module _ {first second i : ℕ} {masks : List ℕ} (so : WidenedSo (designOf image) first second i masks) where
-    pub rows-more : {row v : ℕ} → i < x .labels → row ≡ rowIn image i → v ≡ widened row first second → WidenedSo (designOf image) first second (i + 1) (set masks i v)
-    rows-more {row} {v} l e h =
+  module _ {first second i : ℕ} {old masks : List ℕ} (so : RowsSo (designOf image) first second i old masks) where
+    -- one label further
+    pub rows-more : {row v : ℕ} → i < x .labels → row ≡ rowIn image i → v ≡ widened row first second → length old ≡ 18 → RowsSo (designOf image) first second (i + 1) old (set masks i v)
+    rows-more l e h long =
         let most = labels-most (known .describes) in
-        let long = so .long in
-        let same = length-set masks i v in
+        record { filled = filled-within (so .filled) (omega arith) l (h ∙ ap (λ (row : ℕ). widened row first second) (e ∙ row-in (known .describes) l)) }
+
+    pub rows-inside : i < x .labels → length old ≡ 18 → i < length masks
+    rows-inside l long = let most = labels-most (known .describes) in let same = so .filled .long in omega arith
+
+    pub rows-all : i ≤ x .labels → x .labels ≤ i → masks ≡ withRows (designOf image) first second old
+    unfolding withRows
+    rows-all l h = let count = labels-count (known .describes) in filled-whole (filled-to (so .filled) (omega arith) (omega arith))
+
+  -- ---- bounds
+  module _ {s : ℕ} (parameters : ParametersKept (designOf image)) (state : s < x .states) where
+    pub lower-label : (i : ℕ) → lowerInScope (designOf image) s i < length (designOf image .rows)
+    unfolding lowerInScope
+    lower-label i = go (decLt i (length (scopeOf (designOf image) s)))
+      where
+        go : Dec (i < length (scopeOf (designOf image) s)) → lowerInScope (designOf image) s i < length (designOf image .rows)
+        go (yes l) = rw (lower-some (designOf image) s l) (pair-in-scope (known .describes) (known .lattice) (known .states) parameters state i l .lower-label)
+        go (no l) = rw (lower-none (designOf image) s i (omega arith)) label-some
+
+    pub upper-label : (i : ℕ) → upperInScope (designOf image) s i < length (designOf image .rows)
+    unfolding upperInScope
+    upper-label i = go (decLt i (length (scopeOf (designOf image) s)))
+      where
+        go : Dec (i < length (scopeOf (designOf image) s)) → upperInScope (designOf image) s i < length (designOf image .rows)
+        go (yes l) = rw (upper-some (designOf image) s l) (pair-in-scope (known .describes) (known .lattice) (known .states) parameters state i l .upper-label)
+        go (no l) = rw (upper-none (designOf image) s i (omega arith)) label-some
+
+  pub lower-small : {b : ℕ} (s i : ℕ) → b ≡ lowerInScope (designOf image) s i → ParametersKept (designOf image) → s < x .states → b < 16
+  lower-small s i e parameters state = label-small (rw e (lower-label parameters state i))
+
+  pub upper-small : {b : ℕ} (s i : ℕ) → b ≡ upperInScope (designOf image) s i → ParametersKept (designOf image) → s < x .states → b < 16
+  upper-small s i e parameters state = label-small (rw e (upper-label parameters state i))
+
+  -- ---- the rows of the labels
+  module _ (first second : ℕ) (old : List ℕ) {masks : List ℕ} (is : masks ≡ withRows (designOf image) first second old) (long : length old ≡ 18) where
+    rows-long : length masks ≡ 18
+    unfolding withRows
+    rows-long = ap length is ∙ length-filled (λ l. widened (getD (designOf image .rows) l 0) first second) (length (designOf image .rows)) old ∙ long
+
+    rows-entry : (l : ℕ) → l < length (designOf image .rows) → getD masks l 0 ≡ widened (getD (designOf image .rows) l 0) first second
+    unfolding withRows
+    rows-entry l h =
+        let low = label-small h in
+        ap (λ (t : List ℕ). getD t l 0) is ∙ filled-before (λ l. widened (getD (designOf image .rows) l 0) first second) (length (designOf image .rows)) old l h (omega arith)
+
+    pub rows-kept : Rows (designOf image) masks
+    rows-kept =
         record {
-          long = omega arith;
-          entry = λ k b. extend {P = λ k. getD (set masks i v) k 0 ≡ widened (getD (designOf image .rows) k 0) first second} i (λ k j. getD-set-other masks i k v 0 (λ z. omega arith) ∙ so .entry k j) (getD-set-same masks i v 0 (omega arith) ∙ h ∙ ap (λ (row : ℕ). widened row first second) (e ∙ row-in (known .describes) l)) k (rw (add-one i) at b);
+          long = rows-long;
+          small = λ l h. split-small (row-small l h) (bit-below _) (bit-below _) (rows-entry l h);
+          row = λ l h. split-low (row-small l h) (bit-below _) (bit-below _) (rows-entry l h);
         }
 
-    pub rows-inside : i < x .labels → i < length masks
-    rows-inside l = let most = labels-most (known .describes) in let long = so .long in omega arith
+  -- ---- the table of a state that has parameters in scope
+  module _ {s : ℕ} (old : List ℕ) (parameters : ParametersKept (designOf image)) (state : s < x .states) (long : length old ≡ 18) where
+    abbrev d : Table
+    d = designOf image
 
-    pub rows-all : x .labels ≤ i → Widened (designOf image) first second masks
-    rows-all l = let count = labels-count (known .describes) in record { long = so .long; entry = λ k h. so .entry k (omega arith) }
+    abbrev row : ℕ → ℕ
+    row l = getD (d .rows) l 0
 
-  module _ {first second : ℕ} {masks : List ℕ} (wide : Widened (designOf image) first second masks) where
-    pub widened-rows : Rows (designOf image) masks
-    widened-rows =
+    abbrev first : ℕ
+    first = lowerInScope d s 0
+
+    abbrev second : ℕ
+    second = lowerInScope d s 1
+
+    abbrev fu : ℕ
+    fu = upperInScope d s 0
+
+    abbrev su : ℕ
+    su = upperInScope d s 1
+
+    abbrev masks : List ℕ
+    masks = withRows d first second old
+
+    abbrev own : List ℕ
+    own = withOwn masks fu su
+
+    masks-long : length masks ≡ 18
+    masks-long = rows-long first second old refl long
+
+    entry : (l : ℕ) → l < length (d .rows) → getD masks l 0 ≡ widened (row l) first second
+    entry = rows-entry first second old refl long
+
+    fu-below : fu < length (d .rows)
+    fu-below = upper-label parameters state 0
+
+    su-below : su < length (d .rows)
+    su-below = upper-label parameters state 1
+
+    below : s < length (d .states)
+    below = let count = states-count (known .describes) in omega arith
+
+    short : length (scopeOf d s) ≤ parametersMax
+    short = scopes-short parameters .short s below
+
+    own-long : length own ≡ length masks
+    unfolding withOwn
+    own-long = length-set (set masks 16 _) 17 _ ∙ length-set masks 16 _
+
+    at-label : (l : ℕ) → l < length (d .rows) → getD own l 0 ≡ row l + 65536 * (row l / 2 ^ first % 2) + 131072 * (row l / 2 ^ second % 2)
+    unfolding withOwn
+    at-label l h =
+        let low = label-small h in
+        getD-set-other (set masks 16 _) 17 l _ 0 (λ e. omega arith) ∙ getD-set-other masks 16 l _ 0 (λ e. omega arith) ∙ entry l h
+
+    at-first : getD own 16 0 ≡ row fu + 65536 * 1 + 131072 * (row fu / 2 ^ second % 2)
+    unfolding withOwn
+    at-first =
+        let room = masks-long in
+        with-first
+        (row-small fu fu-below)
+        (bit-below (row fu / 2 ^ first))
+        (bit-below (row fu / 2 ^ second))
+        (entry fu fu-below)
+        (getD-set-other (set masks 16 _) 17 16 _ 0 (λ e. omega arith) ∙ getD-set-same masks 16 _ 0 (omega arith))
+
+    at-second : getD own 17 0 ≡ row su + 65536 * (row su / 2 ^ first % 2) + 131072 * 1
+    unfolding withOwn
+    at-second =
+        let room = masks-long in
+        let same = length-set masks 16 (getD masks fu 0 % 65536 + 65536 + 131072 * (getD masks fu 0 / 131072 % 2)) in
+        with-second
+        (row-small su su-below)
+        (bit-below (row su / 2 ^ first))
+        (bit-below (row su / 2 ^ second))
+        (entry su su-below)
+        (getD-set-same (set masks 16 _) 17 _ 0 (omega arith))
+
+    own-rows : Rows d own
+    own-rows =
         record {
-          long = wide .long;
-          small = λ l h. split-small (row-small l h) (bit-below _) (bit-below _) (wide .entry l h);
-          row = λ l h. split-low (row-small l h) (bit-below _) (bit-below _) (wide .entry l h);
+          long = let room = masks-long in let same = own-long in omega arith;
+          small = λ l h. split-small (row-small l h) (bit-below _) (bit-below _) (at-label l h);
+          row = λ l h. split-low (row-small l h) (bit-below _) (bit-below _) (at-label l h);
         }
 
-    -- ---- the table of a state that has parameters in scope
-    module _ {s fu su : ℕ} (parameters : ParametersKept (designOf image)) (state : s < x .states) (lower : LowerOf (designOf image) s 0 first) (lower′ : LowerOf (designOf image) s 1 second) (upper : UpperOf (designOf image) s 0 fu) (upper′ : UpperOf (designOf image) s 1 su) where
-      abbrev d : Table
-      d = designOf image
+    -- the flow of a label byte to a parameter in scope
+    to-first : (b u : ℕ) → mostLabel d s b ≡ u → (b ≡ 16 → ⊥) → 0 < length (scopeOf d s) → eqb (row u / 2 ^ first % 2) 1 ≡ boundedFlow d s b 16
+    unfolding flowsTo
+    to-first b u most differ inside = sym (bounded-other d s b 16 (λ l. differ) ∙ rw (most, least-parameter d s 16 (omega arith), ← (lower-some d s inside)))
 
-      abbrev row : ℕ → ℕ
-      row l = getD (d .rows) l 0
+    to-second : (b u : ℕ) → mostLabel d s b ≡ u → (b ≡ 17 → ⊥) → 1 < length (scopeOf d s) → eqb (row u / 2 ^ second % 2) 1 ≡ boundedFlow d s b 17
+    unfolding flowsTo
+    to-second b u most differ inside = sym (bounded-other d s b 17 (λ l. differ) ∙ rw (most, least-parameter d s 17 (omega arith), ← (lower-some d s inside)))
 
-      abbrev own : List ℕ
-      own = withOwn masks fu su
+    own-masks : Masks d s own
+    own-masks =
+        record {
+          short = short;
+          entry = λ l byte. go l byte (byte .is);
+        }
+      where
+        kept : BoundsKept d s
+        kept = bounds-of (known .describes) (known .lattice) (known .states) parameters state
 
-      below : s < length (d .states)
-      below = let count = states-count (known .describes) in omega arith
+        first-one : (g n : ℕ) → row fu < 65536 → n ≡ row fu + 65536 * 1 + 131072 * g → g < 2 → eqb (n / 65536 % 2) 1 ≡ true
+        first-one g n small e l = eq-eqb (n / 65536 % 2) 1 (split-first {f = 1} small (omega arith) l e)
 
-      short : length (scopeOf d s) ≤ parametersMax
-      short = scopes-short parameters .short s below
+        second-one : (f n : ℕ) → row su < 65536 → n ≡ row su + 65536 * f + 131072 * 1 → f < 2 → eqb (n / 131072 % 2) 1 ≡ true
+        second-one f n small e l = eq-eqb (n / 131072 % 2) 1 (split-second {g = 1} small l (omega arith) e)
 
-      own-long : length own ≡ length masks
-      own-long = length-set (set masks 16 _) 17 _ ∙ length-set masks 16 _
+        parameter : (l : ℕ) → LabelByte d s l → parameterLabel ≤ l → l - parameterLabel < length (scopeOf d s) → Dec (l ≡ 16) → MaskOf d s (l ∷ []) (getD own l 0)
+        parameter l byte high inside (yes e) =
+            let some : 0 < length (scopeOf d s) = omega arith in
+            let most : mostLabel d s 16 ≡ fu = most-parameter d s 16 (omega arith) ∙ sym (upper-some d s some) in
+            let small = row-small fu fu-below in
+            rw e
+            (mask-made
+            kept
+            short
+            (rw e at byte)
+            most
+            (split-small {f = 1} small (omega arith) (bit-below (row fu / 2 ^ second)) at-first)
+            (split-low {f = 1} small (omega arith) (bit-below (row fu / 2 ^ second)) at-first)
+            (λ h. first-one (row fu / 2 ^ second % 2) (getD own 16 0) small at-first (bit-below (row fu / 2 ^ second)) ∙ sym (bounded-itself d s 16 (omega arith)))
+            (λ h. ap (λ (n : ℕ). eqb n 1) (split-second {f = 1} small (omega arith) (bit-below (row fu / 2 ^ second)) at-first) ∙ to-second 16 fu most (λ z. omega arith) h))
+        parameter l byte high inside (no e) =
+            let few = short in
+            let is : l ≡ 17 = omega (arith, e) in
+            let some : 1 < length (scopeOf d s) = omega (arith, e) in
+            let most : mostLabel d s 17 ≡ su = most-parameter d s 17 (omega arith) ∙ sym (upper-some d s some) in
+            let small = row-small su su-below in
+            rw is
+            (mask-made
+            kept
+            short
+            (rw is at byte)
+            most
+            (split-small {g = 1} small (bit-below (row su / 2 ^ first)) (omega arith) at-second)
+            (split-low {g = 1} small (bit-below (row su / 2 ^ first)) (omega arith) at-second)
+            (λ h. ap (λ (n : ℕ). eqb n 1) (split-first {g = 1} small (bit-below (row su / 2 ^ first)) (omega arith) at-second) ∙ to-first 17 su most (λ z. omega arith) h)
+            (λ h. second-one (row su / 2 ^ first % 2) (getD own 17 0) small at-second (bit-below (row su / 2 ^ first)) ∙ sym (bounded-itself d s 17 (omega arith))))
 
-      at-label : (l : ℕ) → l < length (d .rows) → getD own l 0 ≡ row l + 65536 * (row l / 2 ^ first % 2) + 131072 * (row l / 2 ^ second % 2)
-      at-label l h =
-          let low = label-small h in
-          getD-set-other (set masks 16 _) 17 l _ 0 (λ e. omega arith) ∙ getD-set-other masks 16 l _ 0 (λ e. omega arith) ∙ wide .entry l h
-
-      at-first : getD own 16 0 ≡ row fu + 65536 * 1 + 131072 * (row fu / 2 ^ second % 2)
-      at-first =
-          let long = wide .long in
-          with-first
-          (row-small fu (upper .below))
-          (bit-below (row fu / 2 ^ first))
-          (bit-below (row fu / 2 ^ second))
-          (wide .entry fu (upper .below))
-          (getD-set-other (set masks 16 _) 17 16 _ 0 (λ e. omega arith) ∙ getD-set-same masks 16 _ 0 (omega arith))
-
-      at-second : getD own 17 0 ≡ row su + 65536 * (row su / 2 ^ first % 2) + 131072 * 1
-      at-second =
-          let long = wide .long in
-          let same = length-set masks 16 (getD masks fu 0 % 65536 + 65536 + 131072 * (getD masks fu 0 / 131072 % 2)) in
-          with-second
-          (row-small su (upper′ .below))
-          (bit-below (row su / 2 ^ first))
-          (bit-below (row su / 2 ^ second))
-          (wide .entry su (upper′ .below))
-          (getD-set-same (set masks 16 _) 17 _ 0 (omega arith))
-
-      own-rows : Rows (designOf image) (withOwn masks fu su)
-      own-rows =
-          record {
-            long = let long = wide .long in let same = own-long in omega arith;
-            small = λ l h. split-small (row-small l h) (bit-below _) (bit-below _) (at-label l h);
-            row = λ l h. split-low (row-small l h) (bit-below _) (bit-below _) (at-label l h);
-          }
-
-      -- the flow of a label byte to a parameter in scope
-      to-first : (b u : ℕ) → mostLabel d s b ≡ u → (b ≡ 16 → ⊥) → 0 < length (scopeOf d s) → eqb (row u / 2 ^ first % 2) 1 ≡ boundedFlow d s b 16
-      unfolding flowsTo
-      to-first b u most differ inside = sym (bounded-other d s b 16 (λ l. differ) ∙ rw (most, least-parameter d s 16 (omega arith), ← (lower .is inside)))
-
-      to-second : (b u : ℕ) → mostLabel d s b ≡ u → (b ≡ 17 → ⊥) → 1 < length (scopeOf d s) → eqb (row u / 2 ^ second % 2) 1 ≡ boundedFlow d s b 17
-      unfolding flowsTo
-      to-second b u most differ inside = sym (bounded-other d s b 17 (λ l. differ) ∙ rw (most, least-parameter d s 17 (omega arith), ← (lower′ .is inside)))
-
-      own-masks : Masks (designOf image) s (withOwn masks fu su)
-      own-masks =
-          record {
-            short = short;
-            entry = λ l byte. go l byte (byte .is);
-          }
-        where
-          kept : BoundsKept d s
-          kept = bounds-of (known .describes) (known .lattice) (known .states) parameters state
-
-          first-one : (g n : ℕ) → row fu < 65536 → n ≡ row fu + 65536 * 1 + 131072 * g → g < 2 → eqb (n / 65536 % 2) 1 ≡ true
-          first-one g n small e l = eq-eqb (n / 65536 % 2) 1 (split-first {f = 1} small (omega arith) l e)
-
-          second-one : (f n : ℕ) → row su < 65536 → n ≡ row su + 65536 * f + 131072 * 1 → f < 2 → eqb (n / 131072 % 2) 1 ≡ true
-          second-one f n small e l = eq-eqb (n / 131072 % 2) 1 (split-second {g = 1} small l (omega arith) e)
-
-          parameter : (l : ℕ) → LabelByte d s l → parameterLabel ≤ l → l - parameterLabel < length (scopeOf d s) → Dec (l ≡ 16) → MaskOf d s (l ∷ []) (getD own l 0)
-          parameter l byte high inside (yes e) =
-              let some : 0 < length (scopeOf d s) = omega arith in
-              let most : mostLabel d s 16 ≡ fu = most-parameter d s 16 (omega arith) ∙ sym (upper .is some) in
-              let small = row-small fu (upper .below) in
-              rw e
-              (mask-made
-              kept
-              short
-              (rw e at byte)
-              most
-              (split-small {f = 1} small (omega arith) (bit-below (row fu / 2 ^ second)) at-first)
-              (split-low {f = 1} small (omega arith) (bit-below (row fu / 2 ^ second)) at-first)
-              (λ h. first-one (row fu / 2 ^ second % 2) (getD own 16 0) small at-first (bit-below (row fu / 2 ^ second)) ∙ sym (bounded-itself d s 16 (omega arith)))
-              (λ h. ap (λ (n : ℕ). eqb n 1) (split-second {f = 1} small (omega arith) (bit-below (row fu / 2 ^ second)) at-first) ∙ to-second 16 fu most (λ z. omega arith) h))
-          parameter l byte high inside (no e) =
-              let few = short in
-              let is : l ≡ 17 = omega (arith, e) in
-              let some : 1 < length (scopeOf d s) = omega (arith, e) in
-              let most : mostLabel d s 17 ≡ su = most-parameter d s 17 (omega arith) ∙ sym (upper′ .is some) in
-              let small = row-small su (upper′ .below) in
-              rw is
-              (mask-made
-              kept
-              short
-              (rw is at byte)
-              most
-              (split-small {g = 1} small (bit-below (row su / 2 ^ first)) (omega arith) at-second)
-              (split-low {g = 1} small (bit-below (row su / 2 ^ first)) (omega arith) at-second)
-              (λ h. ap (λ (n : ℕ). eqb n 1) (split-first {g = 1} small (bit-below (row su / 2 ^ first)) (omega arith) at-second) ∙ to-first 17 su most (λ z. omega arith) h)
-              (λ h. second-one (row su / 2 ^ first % 2) (getD own 17 0) small at-second (bit-below (row su / 2 ^ first)) ∙ sym (bounded-itself d s 17 (omega arith))))
-
-          go : (l : ℕ) → LabelByte d s l → (l < length (d .rows)) ⊎ ((parameterLabel ≤ l) × (l - parameterLabel < length (scopeOf d s))) → MaskOf d s (l ∷ []) (getD own l 0)
-          go l byte (inl h) =
-              let low = label-small h in
-              let small = row-small l h in
-              let most = most-label d s l low in
-              mask-made
-              kept
-              short
-              byte
-              most
-              (split-small small (bit-below (row l / 2 ^ first)) (bit-below (row l / 2 ^ second)) (at-label l h))
-              (split-low small (bit-below (row l / 2 ^ first)) (bit-below (row l / 2 ^ second)) (at-label l h))
-              (λ k. ap (λ (n : ℕ). eqb n 1) (split-first small (bit-below (row l / 2 ^ first)) (bit-below (row l / 2 ^ second)) (at-label l h)) ∙ to-first l l most (λ z. omega arith) k)
-              (λ k. ap (λ (n : ℕ). eqb n 1) (split-second small (bit-below (row l / 2 ^ first)) (bit-below (row l / 2 ^ second)) (at-label l h)) ∙ to-second l l most (λ z. omega arith) k)
-          go l byte (inr (high, inside)) = parameter l byte high inside (ℕ-discrete l 16)
-
-      pub put-rows : {after : List ℕ} → OwnPut masks fu su after → Rows (designOf image) after
-      put-rows put = rw (put .is) own-rows
-
-      pub put-masks : {after : List ℕ} → OwnPut masks fu su after → Masks (designOf image) s after
-      put-masks put = rw (put .is) own-masks
+        go : (l : ℕ) → LabelByte d s l → (l < length (d .rows)) ⊎ ((parameterLabel ≤ l) × (l - parameterLabel < length (scopeOf d s))) → MaskOf d s (l ∷ []) (getD own l 0)
+        go l byte (inl h) =
+            let low = label-small h in
+            let small = row-small l h in
+            let most = most-label d s l low in
+            mask-made
+            kept
+            short
+            byte
+            most
+            (split-small small (bit-below (row l / 2 ^ first)) (bit-below (row l / 2 ^ second)) (at-label l h))
+            (split-low small (bit-below (row l / 2 ^ first)) (bit-below (row l / 2 ^ second)) (at-label l h))
+            (λ k. ap (λ (n : ℕ). eqb n 1) (split-first small (bit-below (row l / 2 ^ first)) (bit-below (row l / 2 ^ second)) (at-label l h)) ∙ to-first l l most (λ z. omega arith) k)
+            (λ k. ap (λ (n : ℕ). eqb n 1) (split-second small (bit-below (row l / 2 ^ first)) (bit-below (row l / 2 ^ second)) (at-label l h)) ∙ to-second l l most (λ z. omega arith) k)
+        go l byte (inr (high, inside)) = parameter l byte high inside (ℕ-discrete l 16)
 
   -- ---- the table of a state that has none
   pub rows-masks : {s : ℕ} {masks : List ℕ} → Rows (designOf image) masks → ParametersKept (designOf image) → s < x .states → length (scopeOf (designOf image) s) ≡ 0 → Masks (designOf image) s masks
@@ -321,8 +394,11 @@ module _ {image : List ℕ} {x : Design} (known : RecordsKept image x) where
     pub scope-parameter-inside : {i : ℕ} → i < 2 → 3 * s + 1 + i < length scopes
     scope-parameter-inside h = let long = table .long in let below = state-below in omega arith
 
-    pub scope-none : {c : ℕ} → c ≡ 0 → c ≡ getD scopes (3 * s) 0 → length (scopeOf (designOf image) s) ≡ 0
-    scope-none z e = sym (table .count s state-below) ∙ sym e ∙ z
+    scope-count : getD scopes (3 * s) 0 ≡ length (scopeOf (designOf image) s)
+    scope-count = table .count s state-below
+
+    scope-none : {c : ℕ} → c ≡ 0 → c ≡ getD scopes (3 * s) 0 → length (scopeOf (designOf image) s) ≡ 0
+    scope-none z e = sym scope-count ∙ sym e ∙ z
 
     parameter-entry : (i : ℕ) → i < 2 → getD scopes (3 * s + 1 + i) 0 ≡ getD (scopeOf (designOf image) s) i 0
     parameter-entry zero h = let place : 3 * s + 1 + 0 ≡ 3 * s + 1 = omega arith in rw place (table .first s state-below)
@@ -333,38 +409,73 @@ module _ {image : List ℕ} {x : Design} (known : RecordsKept image x) where
       some-in-scope : i < c → i < length (scopeOf (designOf image) s)
       some-in-scope l = let is = table .count s state-below in omega arith
 
-      pub lower-none : c ≤ i → LowerOf (designOf image) s i 0
-      lower-none l = record { below = label-some; is = λ k. let is = table .count s state-below in absurd (omega arith) }
+      pub lower-zero : c ≤ i → 0 ≡ lowerInScope (designOf image) s i
+      lower-zero l = let is = table .count s state-below in sym (lower-none (designOf image) s i (omega arith))
 
-      pub upper-none : c ≤ i → UpperOf (designOf image) s i 0
-      upper-none l = record { below = label-some; is = λ k. let is = table .count s state-below in absurd (omega arith) }
+      pub upper-zero : c ≤ i → 0 ≡ upperInScope (designOf image) s i
+      upper-zero l = let is = table .count s state-below in sym (upper-none (designOf image) s i (omega arith))
 
-      module _ {v : ℕ} (parameters : ParametersKept (designOf image)) (entry : v ≡ getD scopes (3 * s + 1 + i) 0) (l : i < c) where
+      module _ {v : ℕ} (entry : v ≡ getD scopes (3 * s + 1 + i) 0) (l : i < c) where
         is-parameter : v ≡ getD (scopeOf (designOf image) s) i 0
         is-parameter = entry ∙ parameter-entry i h
 
-        pub parameter-below : v < 2 * x .states
-        parameter-below =
+        pub parameter-below : ParametersKept (designOf image) → v < 2 * x .states
+        parameter-below parameters =
             let states = states-count (known .describes) in
             let is = is-parameter in
             let number = parameter-number (known .states) parameters i state-below (some-in-scope l) in
             omega arith
 
-        pub lower-some : {b : ℕ} → b ≡ lowerBound (designOf image) v → LowerOf (designOf image) s i b
-        lower-some e =
-            let same = e ∙ ap (lowerBound (designOf image)) is-parameter in
-            record { below = rw same (pair-in-scope (known .describes) (known .lattice) (known .states) parameters state i (some-in-scope l) .lower-label); is = λ k. same }
+        pub lower-bound-is : {b : ℕ} → b ≡ lowerBound (designOf image) v → b ≡ lowerInScope (designOf image) s i
+        lower-bound-is e = e ∙ ap (lowerBound (designOf image)) is-parameter ∙ sym (lower-some (designOf image) s (some-in-scope l))
 
-        pub upper-some : {b : ℕ} → b ≡ upperBound (designOf image) v → UpperOf (designOf image) s i b
-        upper-some e =
-            let same = e ∙ ap (upperBound (designOf image)) is-parameter in
-            record { below = rw same (pair-in-scope (known .describes) (known .lattice) (known .states) parameters state i (some-in-scope l) .upper-label); is = λ k. same }
+        pub upper-bound-is : {b : ℕ} → b ≡ upperBound (designOf image) v → b ≡ upperInScope (designOf image) s i
+        upper-bound-is e = e ∙ ap (upperBound (designOf image)) is-parameter ∙ sym (upper-some (designOf image) s (some-in-scope l))
 
-  pub lower-small : {s i b : ℕ} → LowerOf (designOf image) s i b → b < 16
-  lower-small low = let below = low .below in let few = labels-few (known .describes) in omega arith
+-- ---- the whole of it, where the passes have come to each part
+module _ (d : Table) (s : ℕ) (old : List ℕ) where
+  scope-empty : length (scopeOf d s) ≡ 0 → scopeMasks d s old ≡ old
+  unfolding scopeMasks
+  scope-empty none = cond-true (eqb (length (scopeOf d s)) 0) _ _ (eq-eqb (length (scopeOf d s)) 0 none)
 
-  pub upper-small : {s i b : ℕ} → UpperOf (designOf image) s i b → b < 16
-  upper-small low = let below = low .below in let few = labels-few (known .describes) in omega arith
+  scope-some : (length (scopeOf d s) ≡ 0 → ⊥) → scopeMasks d s old ≡ withOwn (withRows d (lowerInScope d s 0) (lowerInScope d s 1) old) (upperInScope d s 0) (upperInScope d s 1)
+  unfolding scopeMasks
+  scope-some some = cond-false (eqb (length (scopeOf d s)) 0) _ _ (ne-eqb (length (scopeOf d s)) 0 some)
+
+pub masks-stay : {image scopes : List ℕ} {x : Design} {s c : ℕ} (old : List ℕ) → c ≡ 0 → c ≡ getD scopes (3 * s) 0 → Scopes (designOf image) scopes → RecordsKept image x → s < x .states → old ≡ scopeMasks (designOf image) s old
+masks-stay {image} {s = s} old z count table known state = sym (scope-empty (designOf image) s old (scope-none known table state z count))
+
+pub masks-made :
+    {image scopes : List ℕ} {x : Design} {s c first second fu su : ℕ} {rows after : List ℕ} (old : List ℕ)
+    → after ≡ withOwn rows fu su
+    → rows ≡ withRows (designOf image) first second old
+    → first ≡ lowerInScope (designOf image) s 0
+    → second ≡ lowerInScope (designOf image) s 1
+    → fu ≡ upperInScope (designOf image) s 0
+    → su ≡ upperInScope (designOf image) s 1
+    → (c ≡ 0 → ⊥)
+    → c ≡ getD scopes (3 * s) 0
+    → Scopes (designOf image) scopes
+    → RecordsKept image x
+    → s < x .states
+    → after ≡ scopeMasks (designOf image) s old
+masks-made {image} {s = s} old h g a b e f z count table known state =
+    h ∙ rw (g, a, b, e, f) (sym (scope-some (designOf image) s old (λ none. z (count ∙ scope-count known table state ∙ none))))
+
+module _ {image : List ℕ} {x : Design} {s : ℕ} (old : List ℕ) {after : List ℕ} (is : after ≡ scopeMasks (designOf image) s old) (rows : Rows (designOf image) old) (known : RecordsKept image x) (parameters : ParametersKept (designOf image)) (state : s < x .states) where
+  pub scoped-rows : Rows (designOf image) after
+  scoped-rows = go (ℕ-discrete (length (scopeOf (designOf image) s)) 0)
+    where
+      go : Dec (length (scopeOf (designOf image) s) ≡ 0) → Rows (designOf image) after
+      go (yes none) = rw (is, scope-empty (designOf image) s old none) rows
+      go (no some) = rw (is, scope-some (designOf image) s old some) (own-rows known old parameters state (rows .long))
+
+  pub scoped-masks : Masks (designOf image) s after
+  scoped-masks = go (ℕ-discrete (length (scopeOf (designOf image) s)) 0)
+    where
+      go : Dec (length (scopeOf (designOf image) s) ≡ 0) → Masks (designOf image) s after
+      go (yes none) = rw (is, scope-empty (designOf image) s old none) (rows-masks known rows parameters state none)
+      go (no some) = rw (is, scope-some (designOf image) s old some) (own-masks known old parameters state (rows .long))
 
 -- ---- where the label bytes of own parameters begin
 pub own-above : (d : Table) (s : ℕ) {n : ℕ} → n ≡ length (inheritedScope d s) → 16 + n ≡ 16 + length (inheritedScope d s)
@@ -378,4 +489,4 @@ own-plain {d} s plain = go (eqb s 0)
     go true = refl
     go false = rw (plain-scope d (plain .none) (parent d s)) refl
 
-pub ruleset bounds-laws = (scope-inside, scope-parameter-inside, lower-none, upper-none, parameter-below, lower-some, upper-some)
+pub ruleset bounds-laws = (scope-inside, scope-parameter-inside, lower-zero, upper-zero, parameter-below, lower-bound-is, upper-bound-is)

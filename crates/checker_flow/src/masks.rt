@@ -13,17 +13,17 @@ ghost use Rattle.model.specs.Limits.{parametersMax};
 ghost use Rattle.model.specs.Image.{designOf};
 ghost use Rattle.design.specs.Kept.{RecordsKept, ParametersKept};
 ghost use Rattle.design.specs.Scopes.{Scopes};
-ghost use Rattle.checker_flow.specs.Masks.{masksLength, widened, Widened, OwnPut, Rows, Masks, LowerOf, UpperOf};
+ghost use Rattle.checker_flow.specs.Masks.{masksLength, widened, withRows, withOwn, lowerInScope, upperInScope, scopeMasks};
 
 // One entry for each label and each parameter in scope.
 pub const MASKS: usize = Design::LABELS + Design::PARAMETERS;
-// A mask has a bit for each label byte, of 16 labels and then two parameters: those of the parameters, and
-// all of them.
-const FIRST: usize = 65536;
+// A mask has a bit for each label byte, those of the labels and then those of two parameters: the two bits
+// of the parameters, and all bits.
+const FIRST: usize = 1 << Design::LABELS;
 
-const SECOND: usize = 131072;
+const SECOND: usize = 2 * FIRST;
 
-pub const ALL: usize = 262143;
+pub const ALL: usize = 2 * SECOND - 1;
 
 // Bit l of a row, as a number.
 fn flag(row: usize, l: usize) -> usize
@@ -44,7 +44,7 @@ fn widen(row: usize, first: usize, second: usize) -> usize
 // The mask of each label, where the parameters in scope have these lower bounds.
 fn put_rows(image: &[u8], design: Design, first: usize, second: usize, masks: &mut [usize])
     requires { ⌜ RecordsKept (now image) design × (first < 16) × (second < 16) × (length (now masks) ≡ masksLength) ⌝ }
-    ensures { λ _. ⌜ Widened (designOf (now (image .entry))) first second (now (masks .exit)) ⌝ }
+    ensures { λ _. ⌜ now (masks .exit) ≡ withRows (designOf (now (image .entry))) first second (now (masks .entry)) ⌝ }
 {
     let mut l = 0;
     while l < design.labels {
@@ -57,7 +57,7 @@ fn put_rows(image: &[u8], design: Design, first: usize, second: usize, masks: &m
 // The mask of each label, where no parameter is in scope.
 pub fn label_rows(image: &[u8], design: Design, masks: &mut [usize])
     requires { ⌜ RecordsKept (now image) design × (length (now masks) ≡ masksLength) ⌝ }
-    ensures { λ _. ⌜ Rows (designOf (now (image .entry))) (now (masks .exit)) ⌝ }
+    ensures { λ _. ⌜ now (masks .exit) ≡ withRows (designOf (now (image .entry))) 0 0 (now (masks .entry)) ⌝ }
 {
     put_rows(image, design, 0, 0, masks);
 }
@@ -65,7 +65,7 @@ pub fn label_rows(image: &[u8], design: Design, masks: &mut [usize])
 // The lower bound of parameter i in scope of state s; 0 where there is none.
 fn lower_in_scope(image: &[u8], design: Design, scopes: &[u8], s: usize, i: usize) -> usize
     requires { ⌜ RecordsKept (now image) design × ParametersKept (designOf (now image)) × Scopes (designOf (now image)) (now scopes) × (s < design .states) × (i < parametersMax) ⌝ }
-    ensures { λ l. ⌜ LowerOf (designOf (now (image .entry))) s i l ⌝ }
+    ensures { λ l. ⌜ l ≡ lowerInScope (designOf (now (image .entry))) s i ⌝ }
 {
     if wide(scopes[SCOPE_LENGTH * s]) <= i {
         return 0;
@@ -77,7 +77,7 @@ fn lower_in_scope(image: &[u8], design: Design, scopes: &[u8], s: usize, i: usiz
 // The upper bound of parameter i in scope of state s; 0 where there is none.
 fn upper_in_scope(image: &[u8], design: Design, scopes: &[u8], s: usize, i: usize) -> usize
     requires { ⌜ RecordsKept (now image) design × ParametersKept (designOf (now image)) × Scopes (designOf (now image)) (now scopes) × (s < design .states) × (i < parametersMax) ⌝ }
-    ensures { λ l. ⌜ UpperOf (designOf (now (image .entry))) s i l ⌝ }
+    ensures { λ l. ⌜ l ≡ upperInScope (designOf (now (image .entry))) s i ⌝ }
 {
     if wide(scopes[SCOPE_LENGTH * s]) <= i {
         return 0;
@@ -89,7 +89,7 @@ fn upper_in_scope(image: &[u8], design: Design, scopes: &[u8], s: usize, i: usiz
 // The masks of the parameters: each is that of its upper bound, and flows to itself.
 fn put_own(masks: &mut [usize], first: usize, second: usize)
     requires { ⌜ (length (now masks) ≡ masksLength) × (first < 16) × (second < 16) ⌝ }
-    ensures { λ _. ⌜ OwnPut (now (masks .entry)) first second (now (masks .exit)) ⌝ }
+    ensures { λ _. ⌜ now (masks .exit) ≡ withOwn (now (masks .entry)) first second ⌝ }
 {
     let one = masks[first];
     let other = masks[second];
@@ -99,8 +99,8 @@ fn put_own(masks: &mut [usize], first: usize, second: usize)
 
 // The table of state s, from that of another state.
 pub fn scope_masks(image: &[u8], design: Design, scopes: &[u8], masks: &mut [usize], s: usize)
-    requires { ⌜ RecordsKept (now image) design × ParametersKept (designOf (now image)) × Scopes (designOf (now image)) (now scopes) × Rows (designOf (now image)) (now masks) × (s < design .states) ⌝ }
-    ensures { λ _. ⌜ Rows (designOf (now (image .entry))) (now (masks .exit)) × Masks (designOf (now (image .entry))) s (now (masks .exit)) ⌝ }
+    requires { ⌜ RecordsKept (now image) design × ParametersKept (designOf (now image)) × Scopes (designOf (now image)) (now scopes) × (length (now masks) ≡ masksLength) × (s < design .states) ⌝ }
+    ensures { λ _. ⌜ now (masks .exit) ≡ scopeMasks (designOf (now (image .entry))) s (now (masks .entry)) ⌝ }
 {
     if scopes[SCOPE_LENGTH * s] == 0 {
         return;

@@ -3,7 +3,7 @@ use borrow.Author.Needs.{needs}
 use Rattle.model.specs.Image.{designOf}
 use Rattle.checker_flow.specs.Masks.{Rows}
 use Rattle.checker_flow.proofs.FlowKinds.{NoneSo, scopes-below, faults-laws}
-use Rattle.checker_flow.proofs.TableRules.{own-above}
+use Rattle.checker_flow.proofs.TableRules.{rows-kept, scoped-rows, scoped-masks, own-above}
 use Rattle.checker_flow.proofs.flow.faults.Statement.{statement}
 use Rattle.checker_flow.proofs.flow.faults.Tie as tie
 
@@ -20,7 +20,7 @@ label-rows-requires : tie.Need-label-rows-requires Inv-loop μ-loop
 label-rows-requires c κs = search needs
 
 loop-holds : tie.Need-loop-holds Inv-loop μ-loop
-loop-holds c = search (faults-laws, needs)
+loop-holds c = (search (faults-laws, needs), search needs, search (rows-kept, needs))
 
 slice-aggregate-scope-masks : tie.Need-slice-aggregate-scope-masks Inv-loop μ-loop
 slice-aggregate-scope-masks c = search needs
@@ -35,7 +35,7 @@ add-own-from : tie.Need-add-own-from Inv-loop μ-loop
 add-own-from c = search needs
 
 state-flow-requires : tie.Need-state-flow-requires Inv-loop μ-loop
-state-flow-requires c κs = search (own-above, needs)
+state-flow-requires c κs = (search needs, search needs, search needs, search needs, scoped-masks _ (c .before .before .before .scope-masks .ensures) (search needs) (c .before .before .before .before .before .before .before .before .before .before .before .before .before .before .pre .0) (search needs) (search needs), search needs, search (own-above, needs))
 
 answer-requires : tie.Need-answer-requires Inv-loop μ-loop
 answer-requires c κs = search needs
@@ -50,7 +50,7 @@ loop-less : tie.Need-loop-less Inv-loop μ-loop
 loop-less c = search needs
 
 loop-again : tie.Need-loop-again Inv-loop μ-loop
-loop-again c = search (faults-laws, needs)
+loop-again c = (search (faults-laws, needs), search needs, search (scoped-rows, needs))
 
 returns-2 : tie.Need-returns-2 Inv-loop μ-loop
 returns-2 c = search (faults-laws, needs)

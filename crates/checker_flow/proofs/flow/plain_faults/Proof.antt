@@ -3,7 +3,7 @@ use borrow.Author.Needs.{needs}
 use Rattle.model.specs.Image.{designOf}
 use Rattle.checker_flow.specs.Masks.{Rows}
 use Rattle.checker_flow.proofs.FlowKinds.{NoneSo, faults-laws}
-use Rattle.checker_flow.proofs.TableRules.{plain-masks, own-plain}
+use Rattle.checker_flow.proofs.TableRules.{rows-kept, plain-masks, own-plain}
 use Rattle.checker_flow.proofs.flow.plain_faults.Statement.{statement}
 use Rattle.checker_flow.proofs.flow.plain_faults.Tie as tie
 
@@ -20,7 +20,7 @@ label-rows-requires : tie.Need-label-rows-requires Inv-loop μ-loop
 label-rows-requires c κs = search needs
 
 loop-holds : tie.Need-loop-holds Inv-loop μ-loop
-loop-holds c = search (faults-laws, needs)
+loop-holds c = (search (faults-laws, needs), search needs, search (rows-kept, needs))
 
 state-flow-requires : tie.Need-state-flow-requires Inv-loop μ-loop
 state-flow-requires c κs = search (plain-masks, own-plain, needs)

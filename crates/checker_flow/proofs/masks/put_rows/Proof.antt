@@ -3,13 +3,13 @@ use mathlib.Core.Path.{_≡_}
 use lib.ListN.{length}
 use Rattle.model.specs.Image.{designOf}
 use Rattle.design.proofs.Laws.{row-inside}
-use Rattle.checker_flow.proofs.TableRules.{WidenedSo, labels-sixteen, rows-none, rows-inside, rows-more, rows-all}
+use Rattle.checker_flow.proofs.TableRules.{RowsSo, labels-sixteen, rows-none, rows-inside, rows-more, rows-all}
 use borrow.Author.Needs.{needs}
 use Rattle.checker_flow.proofs.masks.put_rows.Statement.{statement}
 use Rattle.checker_flow.proofs.masks.put_rows.Tie as tie
 
 abbrev Inv-loop : tie.InvT-loop
-Inv-loop image design first second masks₀ l₀ masks l = WidenedSo (designOf image) first second l masks × (l ≤ design .labels) × (design .labels ≤ 16) × (length masks ≡ length masks₀)
+Inv-loop image design first second masks₀ l₀ masks l = RowsSo (designOf image) first second l masks₀ masks × (l ≤ design .labels) × (design .labels ≤ 16) × (length masks ≡ length masks₀)
 
 abbrev μ-loop : tie.MeasureT-loop
 μ-loop image design first second masks₀ l₀ masks l = design .labels - l

@@ -1,4 +1,5 @@
-use Rattle.checker_flow.proofs.TableRules.{scope-inside, scope-none, rows-masks, lower-small, upper-small, put-rows, put-masks}
+use mathlib.Core.Path.{refl}
+use Rattle.checker_flow.proofs.TableRules.{scope-inside, lower-small, upper-small, masks-stay, masks-made}
 use borrow.Author.Needs.{needs}
 use Rattle.checker_flow.proofs.masks.scope_masks.Statement.{statement}
 use Rattle.checker_flow.proofs.masks.scope_masks.Tie as tie
@@ -10,7 +11,7 @@ shared-slice-read-if1 : tie.Need-shared-slice-read-if1
 shared-slice-read-if1 c = search (scope-inside, needs)
 
 returns : tie.Need-returns
-returns c = (search needs, search (scope-none, rows-masks, needs))
+returns c = search (masks-stay, needs)
 
 lower-in-scope-requires : tie.Need-lower-in-scope-requires
 lower-in-scope-requires c κs = search needs
@@ -25,16 +26,33 @@ upper-in-scope-requires-2 : tie.Need-upper-in-scope-requires-2
 upper-in-scope-requires-2 c κs = search needs
 
 put-rows-requires : tie.Need-put-rows-requires
-put-rows-requires c κs = search (lower-small, needs)
+put-rows-requires c κs = (search needs, search (lower-small, needs), search (lower-small, needs), search needs)
 
 put-own-requires : tie.Need-put-own-requires
-put-own-requires c κs = search (lower-small, upper-small, needs)
+put-own-requires c κs = (search needs, search (upper-small, needs), search (upper-small, needs))
 
 same-length : tie.Need-same-length
 same-length c = search needs
 
 returns-2 : tie.Need-returns-2
-returns-2 c = (search (put-rows, needs), search (put-masks, needs))
+returns-2 c =
+    let own = c .before .before in
+    let rows = own .before .before .before .before in
+    let tested = rows .before .before .before .before .before .before in
+    let start = tested .before .before .before .before .before in
+    masks-made
+    _
+    (own .put-own .ensures)
+    (rows .put-rows .ensures)
+    (search needs)
+    (search needs)
+    (search needs)
+    (search needs)
+    (tested .if1 .left)
+    refl
+    (start .pre .2)
+    (start .pre .0)
+    (start .pre .4)
 
 pub scope-masks-spec : {M : Type 1} → statement M
 scope-masks-spec =
