@@ -1,46 +1,36 @@
--- What the flow pass finds at a command of each kind, from what it finds at the parts.
-use Prim.Native.Nat.{ℕ, zero, suc, _+_, _/_, _%_, _^_, _≤_, _<_}
+-- What the flow pass gives at a command of each kind, from what it gives at the parts.
+use Prim.Native.Nat.{ℕ, zero, suc, _+_, _≤_, _<_}
 use mathlib.Core.Path.{_≡_, refl, sym, _∙_, ap}
 use mathlib.Core.Bool.{Bool, true}
-use mathlib.Core.List.{List, [], _∷_, _++_}
+use mathlib.Core.List.{List}
 use native.Mathlib.Omega.{arith}
-use native.Mathlib.Numerals.{add-one}
 use lib.Bits.{bitAnd}
-use lib.Dec.{eqb}
 use lib.ListN.{length, getD}
-use Rattle.model.specs.declared.Refusal.{Refusal}
-use Rattle.model.specs.declared.Answer.{Answer}
-use Rattle.model.specs.declared.Answer.the-variants.{Accepted}
 use Rattle.model.specs.Limits.{registersMax, commandsMax, parameterLabel}
-use Rattle.model.specs.Indices.{joinBelow}
 use Rattle.model.specs.Image.{Design as Table, State, Node, designOf, stateAt, commandAt}
 use Rattle.model.specs.Lattice.{stateLabel}
-use Rattle.model.specs.Kinds.{skips, sequences, falls, goes, branches, commandKind}
+use Rattle.model.specs.Kinds.{skips, assigns, sequences, falls, goes, branches, commandKind}
 use Rattle.model.specs.States.{siblingOrSelf}
 use Rattle.model.specs.Scopes.{argumentsKept}
-use Rattle.model.specs.Trees.{sequence, goto, branch, exprOf, cmdOf, bodyOf}
+use Rattle.model.specs.Trees.{skip, sequence, goto, branch, exprOf, cmdOf, bodyOf}
 use Rattle.model.specs.Labelling.{relabelled}
-use Rattle.model.specs.Flow.{refusedUnless, labelsRead, namedLabel, fallFlows, gotoFlows, flowFaults, stateFlowFaults, firstOf, flowAnswer, flowRefusal}
-use Rattle.model.specs.Verdict.{_before_}
+use Rattle.model.specs.Flow.{namedLabel}
 use Rattle.model.specs.Rules.{CommandHolds, Scoped, Shaped}
-use Rattle.model.proofs.Laws.Firsts.{AreRefusals, first-append, first-stays, refusals-join}
-use Rattle.model.proofs.Exact.Flows.{flow-faults, state-flow-faults}
-use Rattle.model.proofs.Laws.Trees.{cmd-skip, cmd-sequence, cmd-fall, cmd-goto, cmd-branch}
-use Rattle.model.proofs.Laws.Labelling.{relabelled-body}
+use Rattle.model.proofs.Laws.Trees.{cmd-skip, cmd-assign, cmd-sequence, cmd-fall, cmd-goto, cmd-branch}
 use Rattle.design.specs.declared.Design.{Design}
 use Rattle.design.specs.Records.{nodeIn, stateIn, stateEnd}
 use Rattle.design.specs.Kept.{RecordsKept, ParametersKept}
 use Rattle.design.specs.Labels.{LabelsKept}
 use Rattle.design.specs.Scopes.{inheritedScope, LabelByte, ScopesBelow, Scopes}
-use Rattle.design.proofs.Laws.{states-count, expressions-count, state-inside, state-in, registers-few, commands-few}
-use Rattle.design.proofs.FieldRules.{body-is, body-below, command-at, command-place-inside, command-below, same-command, command-kind-is, command-kind-of, item-is, a-is, b-is, c-is, command-holds, named-state, condition, sequence-a-below, sequence-b-below, branch-b-below, branch-c-below, lower-command, expression-at}
+use Rattle.design.proofs.Laws.{states-count, expressions-count, state-inside, state-in, registers-few}
+use Rattle.design.proofs.FieldRules.{body-is, body-below, command-at, command-place-inside, same-command, command-kind-is, command-kind-of, item-is, a-is, b-is, c-is, command-holds, named-state, condition, sequence-a-below, sequence-b-below, branch-b-below, branch-c-below, lower-command, expression-at}
 use Rattle.design.proofs.BoundRules.{state-label-byte, labels-few}
 use Rattle.checker_bodies.specs.Places.{placeUnless}
-use Rattle.checker_flow.specs.Masks.{MaskOf, Masks}
-use Rattle.checker_flow.specs.Flows.{BodiesKept, CommandScoped, Named, Entered, labelIn, ReadsMask, FirstFault, AssignFault, Gathering, Assigning, Flowing, Going, answerAmong, FirstAt}
-use Rattle.checker_flow.proofs.MaskRules.{flows-each-relabelled, mask-both, byte-small, named-entered}
+use Rattle.checker_flow.specs.Masks.{Masks}
+use Rattle.checker_flow.specs.Flows.{BodiesKept, CommandScoped, Named, Entered, labelIn, maskRead, hasBit, firstPlace, assignPlace, flowPlace, Gathering, Assigning, Flowing, Going}
+use Rattle.checker_flow.proofs.MaskRules.{byte-small, named-entered}
 use Rattle.checker_flow.proofs.GotoRules.{first-named, second-named, label-plain, label-first, label-second, named-label-byte}
-use Rattle.checker_flow.proofs.FlowRules.{answer-at, answer-none, first-charged, first-found, first-passed}
+use Rattle.checker_flow.proofs.FlowRules.{place-stops, place-goes-on}
 
 -- a kind that is no assignment, sequence, fall, goto or if is a skip
 skip-kind : (d : Table) (n k : ℕ) (x : Node) → (k ≡ 1 → ⊥) → (k ≡ 2 → ⊥) → (k ≡ 3 → ⊥) → (k ≡ 4 → ⊥) → (k ≡ 5 → ⊥) → CommandHolds d n (commandKind k) x → commandKind k ≡ skips
@@ -138,7 +128,7 @@ module _ {image labels : List ℕ} {statesAt place own n : ℕ} (going : Going i
         ∙ sym
         (label-second y (going .s) (commandAt y n .item) (commandAt y n .a) (commandAt y n .b) (going .known .states) (going .parameters) (labels-few (going .known .describes)) (going-count (going .s) (going .state)) going-named goto-sibling goto-arguments labels few (going .labelling) (omega (arith, differ)))
 
-  goes-byte : LabelByte y (going .s) (namedLabel (relabelled y labels) (commandAt y n .item) (commandAt y n .a) (commandAt y n .b))
+  pub goes-byte : LabelByte y (going .s) (namedLabel (relabelled y labels) (commandAt y n .item) (commandAt y n .a) (commandAt y n .b))
   goes-byte =
       named-label-byte y (going .s) (commandAt y n .item) (commandAt y n .a) (commandAt y n .b) (going .known .states) (going .parameters) (labels-few (going .known .describes)) (going-count (going .s) (going .state)) going-named goto-sibling goto-arguments labels few (going .labelling)
 
@@ -168,7 +158,7 @@ module _ {image labels masks : List ℕ} {statesAt place expressionsAt s own n :
 
   -- the tree of a sequence, and of an if
   module _ {k a b : ℕ} (kind : k ≡ 2) (byte : k ≡ nodeIn image place n .kind) (first : a ≡ nodeIn image place n .a) (second : b ≡ nodeIn image place n .b) where
-    sequence-tree : cmdOf d n ≡ sequence n (cmdOf d a) (cmdOf d b)
+    pub sequence-tree : cmdOf d n ≡ sequence n (cmdOf d a) (cmdOf d b)
     unfolding commandKind
     sequence-tree =
         let here = flowing .command in
@@ -177,17 +167,17 @@ module _ {image labels masks : List ℕ} {statesAt place expressionsAt s own n :
     sequence-shaped : Shaped d s (sequence n (cmdOf d a) (cmdOf d b))
     sequence-shaped = rw sequence-tree at (flowing .scoped .shaped)
 
-    sequence-scoped : Scoped d s (sequence n (cmdOf d a) (cmdOf d b))
+    pub sequence-scoped : Scoped d s (sequence n (cmdOf d a) (cmdOf d b))
     sequence-scoped = rw sequence-tree at (flowing .scoped .scoped)
 
-    sequence-first : Flowing image labels masks statesAt place expressionsAt s own a
+    pub sequence-first : Flowing image labels masks statesAt place expressionsAt s own a
     sequence-first = lower-flowing a (sequence-a-below (flowing .command) kind byte first) (record { shaped = sequence-shaped .1; scoped = sequence-scoped .0 })
 
-    sequence-second : Flowing image labels masks statesAt place expressionsAt s own b
+    pub sequence-second : Flowing image labels masks statesAt place expressionsAt s own b
     sequence-second = lower-flowing b (sequence-b-below (flowing .command) kind byte second) (record { shaped = sequence-shaped .2; scoped = sequence-scoped .1 })
 
   module _ {k e b c : ℕ} (kind : k ≡ 5) (byte : k ≡ nodeIn image place n .kind) (test : e ≡ nodeIn image place n .a) (first : b ≡ nodeIn image place n .b) (second : c ≡ nodeIn image place n .c) where
-    branch-tree : cmdOf d n ≡ branch n (exprOf d e) (cmdOf d b) (cmdOf d c)
+    pub branch-tree : cmdOf d n ≡ branch n (exprOf d e) (cmdOf d b) (cmdOf d c)
     unfolding commandKind
     branch-tree =
         let here = flowing .command in
@@ -196,13 +186,13 @@ module _ {image labels masks : List ℕ} {statesAt place expressionsAt s own n :
     branch-shaped : Shaped d s (branch n (exprOf d e) (cmdOf d b) (cmdOf d c))
     branch-shaped = rw branch-tree at (flowing .scoped .shaped)
 
-    branch-scoped : Scoped d s (branch n (exprOf d e) (cmdOf d b) (cmdOf d c))
+    pub branch-scoped : Scoped d s (branch n (exprOf d e) (cmdOf d b) (cmdOf d c))
     branch-scoped = rw branch-tree at (flowing .scoped .scoped)
 
-    branch-first : Flowing image labels masks statesAt place expressionsAt s own b
+    pub branch-first : Flowing image labels masks statesAt place expressionsAt s own b
     branch-first = lower-flowing b (branch-b-below (flowing .command) kind byte first) (record { shaped = branch-shaped .1; scoped = branch-scoped .1 })
 
-    branch-second : Flowing image labels masks statesAt place expressionsAt s own c
+    pub branch-second : Flowing image labels masks statesAt place expressionsAt s own c
     branch-second = lower-flowing c (branch-c-below (flowing .command) kind byte second) (record { shaped = branch-shaped .2; scoped = branch-scoped .2 })
 
   pub sequence-a-flowing : {k a : ℕ} → k ≡ 2 → k ≡ nodeIn image place n .kind → a ≡ nodeIn image place n .a → Flowing image labels masks statesAt place expressionsAt s own a
@@ -265,7 +255,7 @@ module _ {image labels masks : List ℕ} {statesAt place expressionsAt s own n :
   own-label : {l : ℕ} → l ≡ stateIn image statesAt s .label → l ≡ stateLabel d s
   own-label e = let same : stateIn image statesAt s ≡ stateAt d s = rw (flowing .states-begin) (state-in (flowing .known .describes) (flowing .state)) in e ∙ ap (λ (y : State). y .label) same
 
-  own-byte : LabelByte d s (stateLabel d s)
+  pub own-byte : LabelByte (designOf image) s (stateLabel (designOf image) s)
   own-byte = state-label-byte (flowing .known .states) (flowing .parameters) s state-below
 
   small-byte : {l : ℕ} → LabelByte d s l → l < 64
@@ -282,29 +272,24 @@ module _ {image labels masks : List ℕ} {statesAt place expressionsAt s own n :
       → l < 64
   named-small q p e = let small = small-byte (goes-byte (going-goto q p)) in omega arith
 
-  -- ---- what the pass finds
-  few-commands : length (designOf image .commands) ≤ commandsMax
-  few-commands = commands-few (flowing .known .describes)
-
-  charged : {r : Refusal} (b : Bool) → flowRefusal (commandKind (commandAt (designOf image) n .kind)) ≡ r → FirstAt (designOf image) (placeUnless b n) (refusedUnless b r n)
-  charged b e = first-charged (designOf image) b (command-below (flowing .command)) few-commands e
-
-  pub flow-assign : {k context p : ℕ} → k ≡ 1 → k ≡ nodeIn image place n .kind → AssignFault (designOf image) labels masks context n p → FirstFault (designOf image) labels s context n p
-  flow-assign q e fault = fault .fault s (flowing .table) (flowing .scoped)
+  -- ---- what the pass gives
+  pub flow-assign : {k p : ℕ} (context : ℕ) → k ≡ 1 → k ≡ nodeIn image place n .kind
+      → p ≡ assignPlace labels masks context n (commandAt (designOf image) n .item) (exprOf (designOf image) (commandAt (designOf image) n .a))
+      → p ≡ flowPlace (designOf image) labels masks s context (cmdOf (designOf image) n)
+  unfolding commandKind flowPlace
+  flow-assign context q e given = given ∙ sym (ap (flowPlace d labels masks s context) (cmd-assign d n (command-kind-of (flowing .command) assigns q e refl)))
 
   -- a sequence: the first part's, unless it has none
   module _ {k a b : ℕ} (kind : k ≡ 2) (byte : k ≡ nodeIn image place n .kind) (first : a ≡ nodeIn image place n .a) (second : b ≡ nodeIn image place n .b) where
-    sequence-faults : (from : List ℕ) → flowFaults under s from (cmdOf d n) ≡ flowFaults under s from (cmdOf d a) ++ flowFaults under s from (cmdOf d b)
-    unfolding flowFaults
-    sequence-faults from = rw (sequence-tree kind byte first second)
+    sequence-place : (context : ℕ) → firstPlace (flowPlace d labels masks s context (cmdOf d a)) (flowPlace d labels masks s context (cmdOf d b)) ≡ flowPlace d labels masks s context (cmdOf d n)
+    unfolding flowPlace
+    sequence-place context = sym (ap (flowPlace d labels masks s context) (sequence-tree kind byte first second))
 
-    pub sequence-stops : {context p : ℕ} → p < commandsMax → FirstFault (designOf image) labels s context a p → FirstFault (designOf image) labels s context n p
-    sequence-stops {p = p} l found =
-        record { first = λ from mask. rw (sequence-faults from) (first-found d p _ (flow-faults under s from (cmdOf d a) .refusals) (found .first from mask) l) }
+    pub sequence-stops : {p : ℕ} (context : ℕ) → p < commandsMax → p ≡ flowPlace (designOf image) labels masks s context (cmdOf (designOf image) a) → p ≡ flowPlace (designOf image) labels masks s context (cmdOf (designOf image) n)
+    sequence-stops context l found = found ∙ sym (place-stops (flowPlace d labels masks s context (cmdOf d b)) (rw found at l)) ∙ sequence-place context
 
-    pub sequence-goes-on : {context q : ℕ} (p : ℕ) → commandsMax ≤ p → FirstFault (designOf image) labels s context a p → FirstFault (designOf image) labels s context b q → FirstFault (designOf image) labels s context n q
-    sequence-goes-on p l found further =
-        record { first = λ from mask. rw (sequence-faults from) (first-passed d p _ (flow-faults under s from (cmdOf d a) .refusals) (found .first from mask) l few-commands (further .first from mask)) }
+    pub sequence-goes-on : {p q : ℕ} (context : ℕ) → commandsMax ≤ p → p ≡ flowPlace (designOf image) labels masks s context (cmdOf (designOf image) a) → q ≡ flowPlace (designOf image) labels masks s context (cmdOf (designOf image) b) → q ≡ flowPlace (designOf image) labels masks s context (cmdOf (designOf image) n)
+    sequence-goes-on context l found further = further ∙ sym (place-goes-on (flowPlace d labels masks s context (cmdOf d b)) (rw found at l)) ∙ sequence-place context
 
   -- an if: the first branch's, unless it has none
   module _
@@ -314,70 +299,54 @@ module _ {image labels masks : List ℕ} {statesAt place expressionsAt s own n :
       (test : e ≡ nodeIn image place n .a)
       (first : b ≡ nodeIn image place n .b)
       (second : c ≡ nodeIn image place n .c)
-      (read : ReadsMask (designOf image) labels masks e m)
+      (read : m ≡ maskRead labels masks (exprOf (designOf image) e))
     where
-      abbrev inside : List ℕ → List ℕ
-      inside from = from ++ labelsRead under (exprOf d e)
+      branch-place : (context : ℕ) → firstPlace (flowPlace d labels masks s (bitAnd context m) (cmdOf d b)) (flowPlace d labels masks s (bitAnd context m) (cmdOf d c)) ≡ flowPlace d labels masks s context (cmdOf d n)
+      unfolding flowPlace
+      branch-place context =
+          ap (λ (m : ℕ). firstPlace (flowPlace d labels masks s (bitAnd context m) (cmdOf d b)) (flowPlace d labels masks s (bitAnd context m) (cmdOf d c))) read
+          ∙ sym (ap (flowPlace d labels masks s context) (branch-tree kind byte test first second))
 
-      inner : {context : ℕ} {from : List ℕ} → MaskOf d s from context → MaskOf d s (inside from) (bitAnd context m)
-      inner mask = mask-both mask (read .mask-of s (flowing .table) (branch-scoped kind byte test first second .0))
+      pub branch-stops : {p : ℕ} (context : ℕ) → p < commandsMax → p ≡ flowPlace (designOf image) labels masks s (bitAnd context m) (cmdOf (designOf image) b) → p ≡ flowPlace (designOf image) labels masks s context (cmdOf (designOf image) n)
+      branch-stops context l found = found ∙ sym (place-stops (flowPlace d labels masks s (bitAnd context m) (cmdOf d c)) (rw found at l)) ∙ branch-place context
 
-      branch-faults : (from : List ℕ) → flowFaults under s from (cmdOf d n) ≡ flowFaults under s (inside from) (cmdOf d b) ++ flowFaults under s (inside from) (cmdOf d c)
-      unfolding flowFaults
-      branch-faults from = rw (branch-tree kind byte test first second)
-
-      pub branch-stops : {context p : ℕ} → p < commandsMax → FirstFault (designOf image) labels s (bitAnd context m) b p → FirstFault (designOf image) labels s context n p
-      branch-stops {p = p} l found =
-          record { first = λ from mask. rw (branch-faults from) (first-found d p _ (flow-faults under s (inside from) (cmdOf d b) .refusals) (found .first (inside from) (inner mask)) l) }
-
-      pub branch-goes-on : {context q : ℕ} (p : ℕ) → commandsMax ≤ p → FirstFault (designOf image) labels s (bitAnd context m) b p → FirstFault (designOf image) labels s (bitAnd context m) c q → FirstFault (designOf image) labels s context n q
-      branch-goes-on p l found further =
-          record {
-            first = λ from mask.
-                rw (branch-faults from) (first-passed d p _ (flow-faults under s (inside from) (cmdOf d b) .refusals) (found .first (inside from) (inner mask)) l few-commands (further .first (inside from) (inner mask)));
-          }
+      pub branch-goes-on : {p q : ℕ} (context : ℕ) → commandsMax ≤ p → p ≡ flowPlace (designOf image) labels masks s (bitAnd context m) (cmdOf (designOf image) b) → q ≡ flowPlace (designOf image) labels masks s (bitAnd context m) (cmdOf (designOf image) c) → q ≡ flowPlace (designOf image) labels masks s context (cmdOf (designOf image) n)
+      branch-goes-on context l found further = further ∙ sym (place-goes-on (flowPlace d labels masks s (bitAnd context m) (cmdOf d c)) (rw found at l)) ∙ branch-place context
 
   pub flow-fall :
-      {k r l context : ℕ} {b : Bool}
+      {k r l : ℕ} {b : Bool} (context : ℕ)
       → k ≡ 3
       → k ≡ nodeIn image place n .kind
       → l ≡ stateIn image statesAt s .label
-      → b ≡ eqb (context / 2 ^ l % 2) 1
+      → b ≡ hasBit context l
       → r ≡ placeUnless b n
-      → FirstFault (designOf image) labels s context n r
-  unfolding commandKind flowFaults flowRefusal
-  flow-fall {b = b} f e fl fb fr =
-      record {
-        first = λ from mask.
-            let kind = command-kind-of (flowing .command) falls f e refl in
-            let same : b ≡ fallFlows under s from = fb ∙ rw (own-label fl) (mask .bits (stateLabel d s) own-byte) ∙ sym (flows-each-relabelled d s labels from (stateLabel d s)) in
-            rw (fr, cmd-fall d n kind, ← same) (charged b (ap flowRefusal kind));
-      }
+      → r ≡ flowPlace (designOf image) labels masks s context (cmdOf (designOf image) n)
+  unfolding commandKind flowPlace
+  flow-fall context f e fl fb fr =
+      fr
+      ∙ ap (λ (b : Bool). placeUnless b n) (fb ∙ ap (hasBit context) (own-label fl))
+      ∙ sym (ap (flowPlace d labels masks s context) (cmd-fall d n (command-kind-of (flowing .command) falls f e refl)))
 
   pub flow-goto :
-      {k r l context : ℕ} {b : Bool}
+      {k r l : ℕ} {b : Bool} (context : ℕ)
       → k ≡ 4
       → k ≡ nodeIn image place n .kind
       → l ≡ namedLabel (relabelled (designOf image) labels) (commandAt (designOf image) n .item) (commandAt (designOf image) n .a) (commandAt (designOf image) n .b)
-      → b ≡ eqb (context / 2 ^ l % 2) 1
+      → b ≡ hasBit context l
       → r ≡ placeUnless b n
-      → FirstFault (designOf image) labels s context n r
-  unfolding commandKind flowFaults flowRefusal
-  flow-goto {b = b} f e fl fb fr =
-      record {
-        first = λ from mask.
-            let kind = command-kind-of (flowing .command) goes f e refl in
-            let same : b ≡ gotoFlows under s from (commandAt d n .item) (commandAt d n .a) (commandAt d n .b) = fb ∙ rw fl (mask .bits (namedLabel under (commandAt d n .item) (commandAt d n .a) (commandAt d n .b)) (goes-byte (going-goto f e))) ∙ sym (flows-each-relabelled d s labels from _) in
-            rw (fr, cmd-goto d n kind, ← same) (charged b (ap flowRefusal kind));
-      }
+      → r ≡ flowPlace (designOf image) labels masks s context (cmdOf (designOf image) n)
+  unfolding commandKind flowPlace
+  flow-goto context f e fl fb fr =
+      fr
+      ∙ ap (λ (b : Bool). placeUnless b n) (fb ∙ ap (hasBit context) fl)
+      ∙ sym (ap (flowPlace d labels masks s context) (cmd-goto d n (command-kind-of (flowing .command) goes f e refl)))
 
-  pub flow-skip : {k : ℕ} (context : ℕ) → k ≡ nodeIn image place n .kind → (k ≡ 1 → ⊥) → (k ≡ 2 → ⊥) → (k ≡ 3 → ⊥) → (k ≡ 4 → ⊥) → (k ≡ 5 → ⊥) → FirstFault (designOf image) labels s context n commandsMax
-  unfolding flowFaults firstOf
-  flow-skip {k} context e a b c f g =
-      record {
-        first = λ from mask.
-            rw (cmd-skip d n (command-kind-of (flowing .command) skips refl e (skip-kind d n k (commandAt d n) a b c f g (command-holds (flowing .command) refl e)))) (record { says = answer-none d few-commands; command = λ h. absurd (omega arith) });
-      }
+  pub skip-tree : {k : ℕ} → k ≡ nodeIn image place n .kind → (k ≡ 1 → ⊥) → (k ≡ 2 → ⊥) → (k ≡ 3 → ⊥) → (k ≡ 4 → ⊥) → (k ≡ 5 → ⊥) → cmdOf (designOf image) n ≡ skip n
+  skip-tree {k} e a b c f g = cmd-skip d n (command-kind-of (flowing .command) skips refl e (skip-kind d n k (commandAt d n) a b c f g (command-holds (flowing .command) refl e)))
+
+  pub flow-skip : {k : ℕ} (context : ℕ) → k ≡ nodeIn image place n .kind → (k ≡ 1 → ⊥) → (k ≡ 2 → ⊥) → (k ≡ 3 → ⊥) → (k ≡ 4 → ⊥) → (k ≡ 5 → ⊥) → commandsMax ≡ flowPlace (designOf image) labels masks s context (cmdOf (designOf image) n)
+  unfolding flowPlace
+  flow-skip context e a b c f g = sym (ap (flowPlace d labels masks s context) (skip-tree e a b c f g))
 
 pub ruleset flow-laws = (command-place-inside, assigning, condition-gathering, going-goto, own-inside, own-small, named-small, flow-assign, sequence-stops, sequence-goes-on, branch-stops, branch-goes-on, flow-fall, flow-goto, flow-skip)
 
@@ -396,7 +365,7 @@ module _ {image : List ℕ} {x : Design} (known : RecordsKept image x) where
       record { long = table .long; count = λ q h. table .count q (omega arith); first = λ q h. table .first q (omega arith); second = λ q h. table .second q (omega arith) }
 
   module _ {s : ℕ} (parameters : ParametersKept (designOf image)) (l : s < x .states) where
-    label-stands : LabelByte (designOf image) s (stateLabel (designOf image) s)
+    pub label-stands : LabelByte (designOf image) s (stateLabel (designOf image) s)
     label-stands = state-label-byte (known .states) parameters s (state-count l)
 
     pub state-mask-inside : {masks : List ℕ} {k : ℕ} → Masks (designOf image) s masks → k ≡ stateIn image (x .«states_at») s .label → k < 18
@@ -405,7 +374,7 @@ module _ {image : List ℕ} {x : Design} (known : RecordsKept image x) where
         let is = state-label-is l e in
         omega arith
 
-    body-tree : {n : ℕ} → n ≡ stateIn image (x .«states_at») s .command → cmdOf (designOf image) n ≡ bodyOf (designOf image) s
+    pub body-tree : {n : ℕ} → n ≡ stateIn image (x .«states_at») s .command → cmdOf (designOf image) n ≡ bodyOf (designOf image) s
     unfolding bodyOf
     body-tree fn = ap (cmdOf (designOf image)) (body-is (known .describes) l fn)
 
@@ -433,63 +402,10 @@ module _ {image : List ℕ} {x : Design} (known : RecordsKept image x) where
         }
 
     pub state-flow-rule :
-        {labels masks : List ℕ} {k n context p : ℕ}
-        → Masks (designOf image) s masks
+        (labels masks : List ℕ) {k n context p : ℕ}
         → k ≡ stateIn image (x .«states_at») s .label
         → n ≡ stateIn image (x .«states_at») s .command
         → context ≡ getD masks k 0
-        → FirstFault (designOf image) labels s context n p
-        → FirstAt (designOf image) p (stateFlowFaults (relabelled (designOf image) labels) s)
-    unfolding stateFlowFaults
-    state-flow-rule {labels} {masks} {context = context} table fl fn fm fault =
-        let mask : MaskOf (designOf image) s (stateLabel (designOf image) s ∷ []) context = rw (fm, state-label-is l fl) (table .entry (stateLabel (designOf image) s) label-stands) in
-        rw (relabelled-body (designOf image) labels s, ← (body-tree fn)) (fault .first (stateLabel (designOf image) s ∷ []) mask)
-
--- the states before s have no fault
-pub record NoneSo (d : Table) (labels : List ℕ) (s : ℕ) : Type 0 where
-  pub is : firstOf (joinBelow (stateFlowFaults (relabelled d labels)) s) ≡ Accepted 0
-
-module _ (d : Table) (labels : List ℕ) where
-  abbrev faultsOf : ℕ → List Answer
-  faultsOf s = stateFlowFaults (relabelled d labels) s
-
-  refusals : (s : ℕ) → AreRefusals (faultsOf s)
-  refusals s = state-flow-faults (relabelled d labels) s .refusals
-
-  -- what the states before s and s itself have, where those before have none
-  one-further : (s : ℕ) → NoneSo d labels s → firstOf (joinBelow faultsOf (suc s)) ≡ firstOf (faultsOf s)
-  unfolding joinBelow _before_
-  one-further s so = first-append (faultsOf s) (refusals-join faultsOf s refusals) ∙ rw (so .is)
-
-pub none-yet : (d : Table) (labels : List ℕ) → NoneSo d labels 0
-unfolding joinBelow firstOf
-none-yet d labels = record { is = refl }
-
-module _ {image labels : List ℕ} {x : Design} {s : ℕ} (known : RecordsKept image x) (so : NoneSo (designOf image) labels s) where
-  pub none-more : (place : ℕ) → FirstAt (designOf image) place (stateFlowFaults (relabelled (designOf image) labels) s) → commandsMax ≤ place → NoneSo (designOf image) labels (s + 1)
-  none-more place here l =
-      let few = commands-few (known .describes) in
-      record { is = rw (add-one s) (one-further (designOf image) labels s so ∙ (sym (here .says) ∙ answer-none (designOf image) (omega arith))) }
-
-  pub some-here :
-      {place : ℕ} {a : Answer}
-      → FirstAt (designOf image) place (stateFlowFaults (relabelled (designOf image) labels) s)
-      → s < x .states
-      → place < commandsMax
-      → a ≡ answerAmong (designOf image) place
-      → a ≡ flowAnswer (relabelled (designOf image) labels)
-  unfolding flowAnswer
-  some-here here l m e =
-      let d = designOf image in
-      let count = states-count (known .describes) in
-      let refused = answer-at d (here .command m) in
-      e ∙ (refused ∙ sym (first-stays (faultsOf d labels) (refusals d labels) (one-further d labels s so ∙ (sym (here .says) ∙ refused)) (length (d .states)) (omega arith)))
-
-  pub none-of-all : s ≤ x .states → x .states ≤ s → Accepted 0 ≡ flowAnswer (relabelled (designOf image) labels)
-  unfolding flowAnswer
-  none-of-all l m =
-      let count = states-count (known .describes) in
-      let end : s ≡ length (designOf image .states) = omega arith in
-      sym (so .is) ∙ ap (λ (n : ℕ). firstOf (joinBelow (faultsOf (designOf image) labels) n)) end
-
-pub ruleset faults-laws = (none-yet, none-more, some-here, none-of-all)
+        → p ≡ flowPlace (designOf image) labels masks s context (cmdOf (designOf image) n)
+        → p ≡ flowPlace (designOf image) labels masks s (getD masks (stateLabel (designOf image) s) 0) (bodyOf (designOf image) s)
+    state-flow-rule labels masks fl fn fm given = given ∙ rw (fm, state-label-is l fl, body-tree fn) refl

@@ -1,41 +1,58 @@
--- What the flow pass finds at an expression and at an assignment: what a place says, the first of two lists of faults, and the labels that are read.
-use Prim.Native.Nat.{ℕ, zero, suc, _/_, _%_, _^_, _≤_, _<_}
-use mathlib.Core.Path.{_≡_, refl, sym, _∙_, ap}
+-- What a place says, the first of two lists of faults, and what the flow pass gives at an expression and at an assignment: the mask of an expression is one of the
+-- labels that it reads, by induction over node numbers.
+use Prim.Native.Nat.{ℕ, zero, suc, _≤_, _<_}
+use mathlib.Core.Path.{_≡_, refl, sym, _∙_, ap, ap₂}
 use mathlib.Core.Bool.{Bool, true, false}
 use mathlib.Core.List.{List, [], _∷_, _++_, map}
 use native.Mathlib.Omega.{arith}
+use native.Mathlib.Decide.{decLt}
 use lib.Bits.{bitAnd}
-use lib.Dec.{eqb}
+use lib.Dec.{ltb}
 use lib.ListN.{length, getD}
 use borrow.Author.Tests.{lt-ltb, le-ltb}
 use Rattle.model.specs.declared.Refusal.{Refusal}
 use Rattle.model.specs.declared.Refusal.the-variants.{AssignFlow, GotoFlow, FallFlow}
 use Rattle.model.specs.declared.Answer.{Answer}
 use Rattle.model.specs.declared.Answer.the-variants.{Accepted, Refused}
-use Rattle.model.specs.Image.{Design as Table, Node, designOf, commandAt, expressionAt}
+use Rattle.model.specs.Image.{Design as Table, Node, designOf, commandAt, expressionAt, constantOf}
 use Rattle.model.specs.Limits.{registersMax, commandsMax}
-use Rattle.model.specs.Kinds.{Operation, commandKind, expressionKind}
-use Rattle.model.specs.Trees.{Expr, constant, register, binary, assign, exprOf, cmdOf, registersRead}
+use Rattle.model.specs.Kinds.{Operation, ExpressionKind, constants, reads, operates, unknownExpression, commandKind, expressionKind}
+use Rattle.model.specs.Trees.{Expr, constant, register, binary, exprOf, registersRead}
 use Rattle.model.specs.Parameters.{labelByte}
 use Rattle.model.specs.Labelling.{relabelled}
-use Rattle.model.specs.Flow.{refusedUnless, labelsRead, flowsEach, assignFlows, flowFaults, firstOf, flowRefusal}
-use Rattle.model.specs.Rules.{RegisterByte, ReadsScoped, Scoped}
+use Rattle.model.specs.Flow.{refusedUnless, labelsRead, firstOf, flowRefusal}
+use Rattle.model.specs.Rules.{RegisterByte, ReadsScoped, ExpressionHolds}
 use Rattle.model.specs.Verdict.{_before_}
+use Rattle.model.proofs.Laws.Booleans.{cond-true, cond-false}
+use Rattle.model.proofs.Laws.Indices.{nothing-below-zero}
+use Rattle.model.proofs.Exact.Records.{expression-iff}
 use Rattle.model.proofs.Laws.Kinds.{expressionKinds, kind-constants, no-expression-kind}
 use Rattle.model.proofs.Laws.Firsts.{AreRefusals, first-append}
-use Rattle.model.proofs.Laws.Trees.{expr-constant, expr-register, expr-binary, cmd-assign}
+use Rattle.model.proofs.Laws.Trees.{expr-constant, expr-register, expr-binary}
 use Rattle.design.specs.declared.Design.{Design}
 use Rattle.design.specs.Records.{nodeIn}
 use Rattle.design.specs.Describes.{Describes}
-use Rattle.design.proofs.Laws.{commands-count, expressions-count, command-in, registers-few, commands-few}
-use Rattle.design.proofs.FieldRules.{command-below, same-command, item-is, a-is, assigned-byte, assigned-expression, expression-at, expression-place-inside, expression-kind-is, read-is, first-is, second-is, expression-holds, read-byte, operation, operand-a-below, operand-b-below, lower-expression}
+use Rattle.design.proofs.Laws.{commands-count, expressions-count, command-in, registers-few}
+use Rattle.design.proofs.FieldRules.{same-command, item-is, a-is, assigned-byte, assigned-expression, expression-at, expression-place-inside, expression-kind-is, read-is, first-is, second-is, expression-holds, read-byte, operation, operand-a-below, operand-b-below, lower-expression}
 use Rattle.design.proofs.BoundRules.{labels-few}
 use Rattle.checker_bodies.specs.Places.{placeUnless}
-use Rattle.checker_flow.specs.Masks.{MaskOf, Masks}
-use Rattle.checker_flow.specs.Flows.{Named, Entered, labelIn, ReadsMask, AssignFault, Gathering, Assigning, answerAmong, FirstAt}
-use Rattle.checker_flow.proofs.MaskRules.{flows-each-relabelled, mask-both, mask-none, named-byte, byte-entered, byte-label-small, label-is, label-byte}
+use Rattle.checker_flow.specs.Masks.{allBits, MaskOf, Masks}
+use Rattle.checker_flow.specs.Flows.{Named, Entered, labelIn, maskRead, hasBit, firstPlace, assignPlace, Gathering, Assigning, answerAmong}
+use Rattle.checker_flow.proofs.MaskRules.{mask-both, mask-none, named-byte, byte-entered, byte-label-small, label-is, label-byte}
 
 -- ---- what a place says
+-- a place that says the first of the faults; it is a command's number or past all that there may be
+pub record FirstAt (d : Table) (place : ℕ) (faults : List Answer) : Type 0 where
+  pub says : answerAmong d place ≡ firstOf faults
+  pub command : place < commandsMax → place < length (d .commands)
+
+-- the first of two places
+pub place-stops : {p : ℕ} (q : ℕ) → p < commandsMax → firstPlace p q ≡ p
+place-stops {p} q l = cond-true (ltb p commandsMax) p q (lt-ltb p commandsMax l)
+
+pub place-goes-on : {p : ℕ} (q : ℕ) → commandsMax ≤ p → firstPlace p q ≡ q
+place-goes-on {p} q l = cond-false (ltb p commandsMax) p q (le-ltb p commandsMax l)
+
 module _ (d : Table) where
   pub answer-at : {place : ℕ} → place < length (d .commands) → answerAmong d place ≡ Refused (flowRefusal (commandKind (commandAt d place .kind))) place
   unfolding answerAmong
@@ -52,19 +69,24 @@ module _ (d : Table) where
   first-charged true l m e = record { says = answer-none m; command = λ h. absurd (omega arith) }
   first-charged {n} false l m e = record { says = answer-at l ∙ ap (λ (r : Refusal). Refused r n) e; command = λ h. l }
 
-  -- the first of two lists of faults: that of the first list, unless there is none
-  module _ {xs : List Answer} (p : ℕ) (ys : List Answer) (refusals : AreRefusals xs) (first : FirstAt d p xs) where
-    pub first-found : p < commandsMax → FirstAt d p (xs ++ ys)
-    unfolding _before_
-    first-found l =
-        let refused = sym (first .says) ∙ answer-at (first .command l) in
-        record { says = answer-at (first .command l) ∙ sym (first-append ys refusals ∙ rw refused); command = first .command }
+  -- none
+  pub first-nowhere : length (d .commands) ≤ commandsMax → FirstAt d commandsMax []
+  unfolding firstOf
+  first-nowhere m = record { says = answer-none m; command = λ h. absurd (omega arith) }
 
-    pub first-passed : {q : ℕ} → commandsMax ≤ p → length (d .commands) ≤ commandsMax → FirstAt d q ys → FirstAt d q (xs ++ ys)
-    unfolding _before_
-    first-passed l m second =
-        let none = sym (first .says) ∙ answer-none (omega arith) in
-        record { says = second .says ∙ sym (first-append ys refusals ∙ rw none); command = second .command }
+  -- the first of two lists of faults: that of the first list, unless there is none
+  pub first-both : {xs ys : List Answer} {p q : ℕ} → length (d .commands) ≤ commandsMax → AreRefusals xs → FirstAt d p xs → FirstAt d q ys → FirstAt d (firstPlace p q) (xs ++ ys)
+  unfolding _before_
+  first-both {xs} {ys} {p} {q} m refusals first second = go (decLt p commandsMax)
+    where
+      go : Dec (p < commandsMax) → FirstAt d (firstPlace p q) (xs ++ ys)
+      go (yes l) =
+          let refused = sym (first .says) ∙ answer-at (first .command l) in
+          rw (place-stops q l) (record { says = answer-at (first .command l) ∙ sym (first-append ys refusals ∙ rw refused); command = first .command })
+      go (no l) =
+          let high : commandsMax ≤ p = omega (arith, l) in
+          let none = sym (first .says) ∙ answer-none (omega arith) in
+          rw (place-goes-on q high) (record { says = second .says ∙ sym (first-append ys refusals ∙ rw none); command = second .command })
 
 -- the refusal of a kind, by its number
 fall-otherwise : (k : ℕ) → (k ≡ 1 → ⊥) → (k ≡ 4 → ⊥) → FallFlow ≡ flowRefusal (commandKind k)
@@ -141,56 +163,77 @@ module _ {image labels : List ℕ} {place e : ℕ} (here : Gathering image label
   operand-b-gathering {b = b} u l other p f = lower-gathering b (operand-b-below (here .expression) u l other p f)
 
   -- ---- what is read
-  pub gathers-register : (masks : List ℕ) {k r m : ℕ} → k ≡ 1 → k ≡ nodeIn image place e .kind → r ≡ nodeIn image place e .item → m ≡ getD masks (labelIn labels r) 0 → ReadsMask (designOf image) labels masks e m
-  unfolding expressionKind
-  gathers-register masks {r = r} {m = m} q p f g =
-      record { mask-of = λ s table scoped. rw (tree, labels-register (relabelled d labels) e (expressionAt d e .item)) (found s table (rw tree at scoped)) }
-    where
-      tree : exprOf d e ≡ register e (expressionAt d e .item)
-      tree = expr-register d e (ap expressionKind (expression-kind-is (here .expression) p ∙ q))
-
-      item : r ≡ expressionAt d e .item
-      item = read-is (here .expression) f
-
-      found : (s : ℕ) → Masks d s masks → ReadsScoped d s (register e (expressionAt d e .item)) → MaskOf d s (labelByte (relabelled d labels) (expressionAt d e .item) ∷ []) m
-      found s table scoped =
-          let named : Named d s r = named-byte few (read-byte (here .expression) q p f) (rw item scoped) in
-          rw (← item, ← (label-is few (here .labelling) named), g) (table .entry (labelIn labels r) (label-byte few (here .labelling) named))
+  pub gathers-register : (masks : List ℕ) {k r m : ℕ} → k ≡ 1 → k ≡ nodeIn image place e .kind → r ≡ nodeIn image place e .item → m ≡ getD masks (labelIn labels r) 0 → m ≡ maskRead labels masks (exprOf (designOf image) e)
+  unfolding expressionKind maskRead
+  gathers-register masks q p f g =
+      let tree = expr-register d e (ap expressionKind (expression-kind-is (here .expression) p ∙ q)) in
+      g ∙ ap (λ (r : ℕ). getD masks (labelIn labels r) 0) (read-is (here .expression) f) ∙ sym (ap (maskRead labels masks) tree)
 
   pub gathers-operation :
-      {masks : List ℕ} {k a b m n : ℕ}
+      (masks : List ℕ) {k a b m n : ℕ}
       → k < expressionKinds
       → 1 ≤ k
       → (k ≡ 1 → ⊥)
       → k ≡ nodeIn image place e .kind
       → a ≡ nodeIn image place e .a
       → b ≡ nodeIn image place e .b
-      → ReadsMask (designOf image) labels masks a m
-      → ReadsMask (designOf image) labels masks b n
-      → ReadsMask (designOf image) labels masks e (bitAnd m n)
-  gathers-operation {a = a} {b = b} u l other p f g mask mask′ =
+      → m ≡ maskRead labels masks (exprOf (designOf image) a)
+      → n ≡ maskRead labels masks (exprOf (designOf image) b)
+      → bitAnd m n ≡ maskRead labels masks (exprOf (designOf image) e)
+  unfolding maskRead
+  gathers-operation masks {a = a} {b = b} u l other p f g first second =
       let o = operation (here .expression) u l other p in
-      let first : a ≡ expressionAt d e .a = first-is (here .expression) f in
-      let second : b ≡ expressionAt d e .b = second-is (here .expression) g in
-      let lower = rw first at (operand-a-below (here .expression) u l other p f) in
-      let lower′ = rw second at (operand-b-below (here .expression) u l other p g) in
-      let tree : exprOf d e ≡ binary (o .0) (exprOf d a) (exprOf d b) = rw (first, second) (expr-binary d e (o .1) lower lower′) in
-      record {
-        mask-of = λ s table scoped.
-            let parts : ReadsScoped d s (binary (o .0) (exprOf d a) (exprOf d b)) = rw tree at scoped in
-            rw (tree, labels-binary (relabelled d labels) (o .0) (exprOf d a) (exprOf d b)) (mask-both (mask .mask-of s table (parts .0)) (mask′ .mask-of s table (parts .1)));
-      }
+      let is : a ≡ expressionAt d e .a = first-is (here .expression) f in
+      let is′ : b ≡ expressionAt d e .b = second-is (here .expression) g in
+      let lower = rw is at (operand-a-below (here .expression) u l other p f) in
+      let lower′ = rw is′ at (operand-b-below (here .expression) u l other p g) in
+      let tree : exprOf d e ≡ binary (o .0) (exprOf d a) (exprOf d b) = rw (is, is′) (expr-binary d e (o .1) lower lower′) in
+      ap₂ bitAnd first second ∙ sym (ap (maskRead labels masks) tree)
 
-  pub gathers-low : (masks : List ℕ) {k : ℕ} → k < 1 → k ≡ nodeIn image place e .kind → ReadsMask (designOf image) labels masks e 262143
+  pub gathers-low : (masks : List ℕ) {k : ℕ} → k < 1 → k ≡ nodeIn image place e .kind → allBits ≡ maskRead labels masks (exprOf (designOf image) e)
+  unfolding maskRead
   gathers-low masks l p =
       let none = expression-kind-is (here .expression) p in
-      record { mask-of = λ s table scoped. rw (expr-constant d e (kind-constants (omega arith)), labels-constant (relabelled d labels) _) (mask-none (labels-few (here .known .describes)) (table .short)) }
+      sym (ap (maskRead labels masks) (expr-constant d e (kind-constants (omega arith))))
 
   -- no number from here on is a kind
-  pub gathers-high : (masks : List ℕ) {k : ℕ} → expressionKinds ≤ k → k ≡ nodeIn image place e .kind → ReadsMask (designOf image) labels masks e 262143
+  pub gathers-high : (masks : List ℕ) {k : ℕ} → expressionKinds ≤ k → k ≡ nodeIn image place e .kind → allBits ≡ maskRead labels masks (exprOf (designOf image) e)
   gathers-high masks l p = absurd (rw (no-expression-kind l) at (expression-holds (here .expression) p))
 
 pub ruleset reads-laws = (expression-place-inside, read-entered, read-label-inside, gathers-register, gathers-operation, gathers-low, gathers-high)
+
+-- that mask is a mask of the labels read, in each state in which the expression may stand
+abbrev Read : Table → List ℕ → List ℕ → ℕ → ℕ → Type 0
+Read y labels masks s e = ReadsScoped y s (exprOf y e) → MaskOf y s (labelsRead (relabelled y labels) (exprOf y e)) (maskRead labels masks (exprOf y e))
+
+module _ {image : List ℕ} (labels : List ℕ) {masks : List ℕ} {s : ℕ} (table : Masks (designOf image) s masks) where
+  read-one : (e : ℕ) {place : ℕ} → Gathering image labels place e → ((m : ℕ) → m < e → Read (designOf image) labels masks s m) → Read (designOf image) labels masks s e
+  unfolding maskRead
+  read-one e here below scoped = go (expressionKind (expressionAt (designOf image) e .kind)) refl (expression-iff (designOf image) e .0 (here .expression .kept))
+    where
+      few : length (designOf image .registers) ≤ registersMax
+      few = registers-few (here .known .describes)
+
+      go : (kind : ExpressionKind) → expressionKind (expressionAt (designOf image) e .kind) ≡ kind → ExpressionHolds (designOf image) e kind (expressionAt (designOf image) e) → MaskOf (designOf image) s (labelsRead (relabelled (designOf image) labels) (exprOf (designOf image) e)) (maskRead labels masks (exprOf (designOf image) e))
+      go constants is holds = rw (expr-constant (designOf image) e is, labels-constant (relabelled (designOf image) labels) (constantOf (expressionAt (designOf image) e))) (mask-none (labels-few (here .known .describes)) (table .short))
+      go reads is holds =
+          let r = expressionAt (designOf image) e .item in
+          let tree = expr-register (designOf image) e is in
+          let named : Named (designOf image) s r = named-byte few (holds .0) (rw tree at scoped) in
+          rw (tree, labels-register (relabelled (designOf image) labels) e r, ← (label-is few (here .labelling) named)) (table .entry (labelIn labels r) (label-byte few (here .labelling) named))
+      go (operates o) is holds =
+          let tree = expr-binary (designOf image) e is (holds .1) (holds .2) in
+          let parts : ReadsScoped (designOf image) s (binary o (exprOf (designOf image) (expressionAt (designOf image) e .a)) (exprOf (designOf image) (expressionAt (designOf image) e .b))) = rw tree at scoped in
+          rw (tree, labels-binary (relabelled (designOf image) labels) o (exprOf (designOf image) (expressionAt (designOf image) e .a)) (exprOf (designOf image) (expressionAt (designOf image) e .b))) (mask-both (below (expressionAt (designOf image) e .a) (holds .1) (parts .0)) (below (expressionAt (designOf image) e .b) (holds .2) (parts .1)))
+      go unknownExpression is holds = absurd holds
+
+  read-below : (f e : ℕ) {place : ℕ} → e < f → Gathering image labels place e → Read (designOf image) labels masks s e
+  read-below zero e l here = absurd (nothing-below-zero l)
+  read-below (suc f) e l here = read-one e here (λ m h. read-below f m (omega arith) (lower-gathering here m h))
+
+  pub read-is-mask : (e : ℕ) {place : ℕ} → Gathering image labels place e → ReadsScoped (designOf image) s (exprOf (designOf image) e)
+      → MaskOf (designOf image) s (labelsRead (relabelled (designOf image) labels) (exprOf (designOf image) e)) (maskRead labels masks (exprOf (designOf image) e))
+  read-is-mask e here = read-below (suc e) e (omega arith) here
 
 -- ---- an assignment
 module _ {image labels : List ℕ} {place expressionsAt n : ℕ} (a : Assigning image labels place expressionsAt n) where
@@ -225,32 +268,13 @@ module _ {image labels : List ℕ} {place expressionsAt n : ℕ} (a : Assigning 
       }
 
   pub assign-rule :
-      {masks : List ℕ} {r e l m context : ℕ} {b : Bool} {answer : ℕ}
+      (masks : List ℕ) (context : ℕ) {r e l m : ℕ} {b : Bool} {answer : ℕ}
       → r ≡ nodeIn image place n .item
       → e ≡ nodeIn image place n .a
-      → ReadsMask (designOf image) labels masks e m
+      → m ≡ maskRead labels masks (exprOf (designOf image) e)
       → l ≡ labelIn labels r
-      → b ≡ eqb (bitAnd context m / 2 ^ l % 2) 1
+      → b ≡ hasBit (bitAnd context m) l
       → answer ≡ placeUnless b n
-      → AssignFault (designOf image) labels masks context n answer
-  unfolding commandKind flowFaults flowRefusal
-  assign-rule {masks} {r} {e} {l} {m} {context} {b} {answer} fr fe read-mask fl fb fa =
-      record { fault = λ s table standing. record { first = λ from mask. judged s table (rw tree at (standing .scoped)) from mask } }
-    where
-      item : r ≡ commandAt y n .item
-      item = item-is (a .command) fr
-
-      expression : e ≡ commandAt y n .a
-      expression = a-is (a .command) fe
-
-      tree : cmdOf y n ≡ assign n r (exprOf y e)
-      tree = rw (item, expression) (cmd-assign y n (ap commandKind (a .kind)))
-
-      judged : (s : ℕ) → Masks y s masks → Scoped y s (assign n r (exprOf y e)) → (from : List ℕ) → MaskOf y s from context → FirstAt y answer (flowFaults (relabelled y labels) s from (cmdOf y n))
-      judged s table scoped from mask =
-          let named : Named y s r = named-byte assigned-few (written-byte fr) (scoped .0) in
-          let both = mask-both mask (read-mask .mask-of s table (scoped .1)) in
-          let bits = both .bits (labelIn labels r) (label-byte assigned-few (a .labelling) named) in
-          let same : b ≡ assignFlows (relabelled y labels) s from r (exprOf y e) = fb ∙ rw fl bits ∙ sym (flows-each-relabelled y s labels (from ++ labelsRead (relabelled y labels) (exprOf y e)) (labelIn labels r)) ∙ ap (flowsEach (relabelled y labels) s (from ++ labelsRead (relabelled y labels) (exprOf y e))) (label-is assigned-few (a .labelling) named) in
-          let charged = first-charged y b (command-below (a .command)) (commands-few (a .known .describes)) (ap (λ (k : ℕ). flowRefusal (commandKind k)) (a .kind)) in
-          rw (fa, tree, ← same) charged
+      → answer ≡ assignPlace labels masks context n (commandAt (designOf image) n .item) (exprOf (designOf image) (commandAt (designOf image) n .a))
+  unfolding assignPlace
+  assign-rule masks context fr fe read fl fb fa = fa ∙ rw (fb, fl, read, item-is (a .command) fr, a-is (a .command) fe) refl

@@ -1,27 +1,30 @@
--- What the pass for refusals 10 to 12 knows at a node, and what the place of a fault says.
-use Prim.Native.Nat.{ℕ, _+_, _-_, _<_, _≤_}
+-- What the pass for refusals 10 to 12 knows at a node, what it gives there, and what the place of a fault says.
+use Prim.Native.Nat.{ℕ, _+_, _-_, _/_, _%_, _^_, _<_, _≤_}
 use mathlib.Core.Path.{_≡_}
 use mathlib.Core.Logic.{_⊎_}
-use mathlib.Core.Bool.{cond}
+use mathlib.Core.Bool.{Bool, cond}
 use mathlib.Core.List.{List}
-use lib.Dec.{ltb}
+use lib.Bits.{bitAnd}
+use lib.Dec.{ltb, eqb}
 use lib.ListN.{length, getD}
 use Rattle.model.specs.declared.Answer.{Answer}
 use Rattle.model.specs.declared.Answer.the-variants.{Accepted, Refused}
 use Rattle.model.specs.Limits.{commandsMax, parameterRegister, parameterLabel}
 use Rattle.model.specs.Image.{Design as Table, designOf, commandAt}
 use Rattle.model.specs.Kinds.{commandKind}
-use Rattle.model.specs.Trees.{exprOf, cmdOf, bodyOf}
+use Rattle.model.specs.Lattice.{stateLabel}
+use Rattle.model.specs.Trees.{Expr, constant, register, binary, Cmd, skip, assign, sequence, fall, goto, branch, cmdOf, bodyOf}
 use Rattle.model.specs.Parameters.{scopeOf}
 use Rattle.model.specs.Labelling.{relabelled}
-use Rattle.model.specs.Flow.{labelsRead, flowFaults, flowRefusal, firstOf}
-use Rattle.model.specs.Rules.{ReadsScoped, Scoped, Shaped}
+use Rattle.model.specs.Flow.{namedLabel, flowRefusal}
+use Rattle.model.specs.Rules.{Scoped, Shaped}
 use Rattle.design.specs.declared.Design.{Design}
 use Rattle.design.specs.Kept.{RecordsKept, ParametersKept}
 use Rattle.design.specs.RecordsAt.{CommandAt, ExpressionAt}
 use Rattle.design.specs.Labels.{LabelsKept}
 use Rattle.design.specs.Scopes.{inheritedScope}
-use Rattle.checker_flow.specs.Masks.{MaskOf, Masks}
+use Rattle.checker_bodies.specs.Places.{placeUnless}
+use Rattle.checker_flow.specs.Masks.{allBits, Masks}
 
 -- ---- what the passes before have found of the bodies
 pub record BodiesKept (d : Table) : Type 0 where
@@ -51,22 +54,36 @@ labelIn labels r = cond (ltb r parameterRegister) (getD labels r 0) (parameterLa
 unfoldable pub answerAmong : Table → ℕ → Answer
 answerAmong d place = cond (ltb place (length (d .commands))) (Refused (flowRefusal (commandKind (commandAt d place .kind))) place) (Accepted 0)
 
--- a place that says the first of the faults; it is a command's number or past all that there may be
-pub record FirstAt (d : Table) (place : ℕ) (faults : List Answer) : Type 0 where
-  pub says : answerAmong d place ≡ firstOf faults
-  pub command : place < commandsMax → place < length (d .commands)
+-- ---- what the recursion gives
+-- the mask of what an expression reads, by a table of labels and a table of masks; what reads nothing flows everywhere
+module _ (labels masks : List ℕ) where
+  unfoldable pub maskRead : Expr → ℕ
+  maskRead (constant v) = allBits
+  maskRead (register n r) = getD masks (labelIn labels r) 0
+  maskRead (binary o p q) = bitAnd (maskRead p) (maskRead q)
 
--- a mask of the labels that expression e reads, in each state in which it may stand
-pub record ReadsMask (d : Table) (labels masks : List ℕ) (e mask : ℕ) : Type 0 where
-  pub mask-of : (s : ℕ) → Masks d s masks → ReadsScoped d s (exprOf d e) → MaskOf d s (labelsRead (relabelled d labels) (exprOf d e)) mask
+-- bit l of a mask
+abbrev pub hasBit : ℕ → ℕ → Bool
+hasBit mask l = eqb (mask / 2 ^ l % 2) 1
 
--- the place of the first fault of command n of state s, in a context
-pub record FirstFault (d : Table) (labels : List ℕ) (s context n place : ℕ) : Type 0 where
-  pub first : (from : List ℕ) → MaskOf d s from context → FirstAt d place (flowFaults (relabelled d labels) s from (cmdOf d n))
+-- the first of two places: the second counts where the first is none
+abbrev pub firstPlace : ℕ → ℕ → ℕ
+firstPlace p q = cond (ltb p commandsMax) p q
 
--- that of an assignment, in each state in which it may stand
-pub record AssignFault (d : Table) (labels masks : List ℕ) (context n place : ℕ) : Type 0 where
-  pub fault : (s : ℕ) → Masks d s masks → CommandScoped d s n → FirstFault d labels s context n place
+-- the place of assignment n, unless a context that is a mask and what it reads flow to what it writes
+unfoldable pub assignPlace : List ℕ → List ℕ → ℕ → ℕ → ℕ → Expr → ℕ
+assignPlace labels masks context n r e = placeUnless (hasBit (bitAnd context (maskRead labels masks e)) (labelIn labels r)) n
+
+-- the place of the first fault of a command of state s, in a context that is a mask
+module _ (d : Table) (labels masks : List ℕ) (s : ℕ) where
+  unfoldable pub flowPlace : ℕ → Cmd → ℕ
+  flowPlace context (skip n) = commandsMax
+  flowPlace context (assign n r e) = assignPlace labels masks context n r e
+  flowPlace context (sequence n p q) = firstPlace (flowPlace context p) (flowPlace context q)
+  flowPlace context (fall n) = placeUnless (hasBit context (stateLabel d s)) n
+  flowPlace context (goto n t a b) = placeUnless (hasBit context (namedLabel (relabelled d labels) t a b)) n
+  flowPlace context (branch n e p q) =
+      firstPlace (flowPlace (bitAnd context (maskRead labels masks e)) p) (flowPlace (bitAnd context (maskRead labels masks e)) q)
 
 -- ---- what is known where the recursion has the places of a design instead of the design, and tables of labels and of masks
 -- the labels that expression e reads are gathered

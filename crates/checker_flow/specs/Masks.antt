@@ -16,6 +16,10 @@ use Rattle.design.specs.Scopes.{LabelByte}
 abbrev pub masksLength : ℕ
 masksLength = 18
 
+-- a mask with the bit of every label byte
+abbrev pub allBits : ℕ
+allBits = 262143
+
 -- a context of label bytes in state s as a mask: bit l is set where the whole context flows to label byte l for each choice
 pub record MaskOf (d : Table) (s : ℕ) (context : List ℕ) (mask : ℕ) : Type 0 where
   pub small : mask < 262144

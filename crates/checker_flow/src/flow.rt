@@ -21,14 +21,16 @@ ghost use mathlib.Core.Path.{_≡_};
 ghost use lib.ListN.{length, getD};
 ghost use Rattle.model.specs.Limits.{parameterLabel};
 ghost use Rattle.model.specs.Image.{designOf, commandAt};
+ghost use Rattle.model.specs.Lattice.{stateLabel};
+ghost use Rattle.model.specs.Trees.{exprOf, cmdOf, bodyOf};
 ghost use Rattle.model.specs.Labelling.{relabelled};
-ghost use Rattle.model.specs.Flow.{namedLabel, stateFlowFaults, flowAnswer};
+ghost use Rattle.model.specs.Flow.{namedLabel, flowAnswer};
 ghost use Rattle.design.specs.Describes.{Describes};
 ghost use Rattle.design.specs.Kept.{RecordsKept, ParametersKept};
 ghost use Rattle.design.specs.Labels.{LabelsKept};
 ghost use Rattle.design.specs.Scopes.{inheritedScope, Scopes, NoParameters};
 ghost use Rattle.checker_flow.specs.Masks.{masksLength, Masks};
-ghost use Rattle.checker_flow.specs.Flows.{BodiesKept, Entered, labelIn, ReadsMask, FirstFault, AssignFault, Gathering, Assigning, Flowing, Going, answerAmong, FirstAt};
+ghost use Rattle.checker_flow.specs.Flows.{BodiesKept, Entered, labelIn, maskRead, assignPlace, flowPlace, Gathering, Assigning, Flowing, Going, answerAmong};
 
 // The label byte of what a register byte names: a parameter has one of its own.
 fn label_of(labels: &[u8], r: usize) -> usize
@@ -60,7 +62,7 @@ pub fn reads(
     e: usize,
 ) -> usize
     requires { ⌜ Gathering (now image) (now labels) «expressions_at» e ⌝ }
-    ensures { λ m. ⌜ ReadsMask (designOf (now (image .entry))) (now (labels .entry)) (now (masks .entry)) e m ⌝ }
+    ensures { λ m. ⌜ m ≡ maskRead (now (labels .entry)) (now (masks .entry)) (exprOf (designOf (now (image .entry))) e) ⌝ }
 {
     let kind = Design::kind(image, expressions_at, e);
     match kind {
@@ -90,7 +92,7 @@ fn assign_flow(
     n: usize,
 ) -> usize
     requires { ⌜ Assigning (now image) (now labels) «commands_at» «expressions_at» n ⌝ }
-    ensures { λ p. ⌜ AssignFault (designOf (now (image .entry))) (now (labels .entry)) (now (masks .entry)) context n p ⌝ }
+    ensures { λ p. ⌜ p ≡ assignPlace (now (labels .entry)) (now (masks .entry)) context n (commandAt (designOf (now (image .entry))) n .item) (exprOf (designOf (now (image .entry))) (commandAt (designOf (now (image .entry))) n .a)) ⌝ }
 {
     let r = Design::item(image, commands_at, n);
     let e = Design::part_a(image, commands_at, n);
@@ -139,7 +141,7 @@ fn flow(
     n: usize,
 ) -> usize
     requires { ⌜ Flowing (now image) (now labels) (now masks) «states_at» «commands_at» «expressions_at» s «own_from» n ⌝ }
-    ensures { λ p. ⌜ FirstFault (designOf (now (image .entry))) (now (labels .entry)) s context n p ⌝ }
+    ensures { λ p. ⌜ p ≡ flowPlace (designOf (now (image .entry))) (now (labels .entry)) (now (masks .entry)) s context (cmdOf (designOf (now (image .entry))) n) ⌝ }
 {
     let kind = Design::kind(image, commands_at, n);
     match kind {
@@ -241,7 +243,7 @@ fn state_flow(
     own_from: usize,
 ) -> usize
     requires { ⌜ RecordsKept (now image) design × ParametersKept (designOf (now image)) × LabelsKept (designOf (now image)) (now labels) × BodiesKept (designOf (now image)) × Masks (designOf (now image)) s (now masks) × (s < design .states) × («own_from» ≡ parameterLabel + length (inheritedScope (designOf (now image)) s)) ⌝ }
-    ensures { λ p. ⌜ FirstAt (designOf (now (image .entry))) p (stateFlowFaults (relabelled (designOf (now (image .entry))) (now (labels .entry))) s) ⌝ }
+    ensures { λ p. ⌜ p ≡ flowPlace (designOf (now (image .entry))) (now (labels .entry)) (now (masks .entry)) s (getD (now (masks .entry)) (stateLabel (designOf (now (image .entry))) s) 0) (bodyOf (designOf (now (image .entry))) s) ⌝ }
 {
     let at = design.states_at;
     let label = Design::state_label(image, at, s);

@@ -1,9 +1,12 @@
+-- What says that a place is the first fault is gathered by hand: it has more premises than a search follows.
 use Prim.Native.Nat.{_-_, _≤_}
 use borrow.Author.Needs.{needs}
 use Rattle.model.specs.Image.{designOf}
 use Rattle.checker_flow.specs.Masks.{Rows}
-use Rattle.checker_flow.proofs.FlowKinds.{NoneSo, scopes-below, faults-laws}
-use Rattle.checker_flow.proofs.TableRules.{rows-kept, scoped-rows, scoped-masks, own-above}
+use Rattle.checker_flow.proofs.FlowKinds.{scopes-below}
+use Rattle.checker_flow.proofs.FaultRules.{NoneSo, state-first, none-more, some-here, faults-laws}
+use Rattle.checker_flow.proofs.TableRules.{rows-kept}
+use Rattle.checker_flow.proofs.ScopeRules.{scoped-rows, scoped-masks, own-above}
 use Rattle.checker_flow.proofs.flow.faults.Statement.{statement}
 use Rattle.checker_flow.proofs.flow.faults.Tie as tie
 
@@ -41,7 +44,15 @@ answer-requires : tie.Need-answer-requires Inv-loop μ-loop
 answer-requires c κs = search needs
 
 returns : tie.Need-returns Inv-loop μ-loop
-returns c = search (faults-laws, needs)
+returns c =
+    let judged = c .before .before in
+    let start = judged .before .before .before .before .before .before .before .before .before .before .before .before .before .before .before in
+    let inv = judged .before .before .before .before .before .before .before .before .loop .inv in
+    let state = judged .before .before .before .before .before .before .if1 .taken in
+    let made = judged .before .before .before .before .scope-masks .ensures in
+    let table = scoped-masks _ made (inv .2) (start .pre .0) (start .pre .1) state in
+    let first = state-first _ _ (judged .state-flow .ensures) table (start .pre .0) (start .pre .1) (start .pre .3) (start .pre .4) state in
+    some-here (start .pre .0) (inv .0) first state (c .before .if2 .taken) (c .answer .ensures)
 
 add-s : tie.Need-add-s Inv-loop μ-loop
 add-s c = search needs
@@ -50,7 +61,15 @@ loop-less : tie.Need-loop-less Inv-loop μ-loop
 loop-less c = search needs
 
 loop-again : tie.Need-loop-again Inv-loop μ-loop
-loop-again c = (search (faults-laws, needs), search needs, search (scoped-rows, needs))
+loop-again c =
+    let judged = c .before in
+    let start = judged .before .before .before .before .before .before .before .before .before .before .before .before .before .before .before in
+    let inv = judged .before .before .before .before .before .before .before .before .loop .inv in
+    let state = judged .before .before .before .before .before .before .if1 .taken in
+    let made = judged .before .before .before .before .scope-masks .ensures in
+    let table = scoped-masks _ made (inv .2) (start .pre .0) (start .pre .1) state in
+    let first = state-first _ _ (judged .state-flow .ensures) table (start .pre .0) (start .pre .1) (start .pre .3) (start .pre .4) state in
+    (none-more (start .pre .0) (inv .0) _ first (c .if2 .left), search needs, scoped-rows _ made (inv .2) (start .pre .0) (start .pre .1) state)
 
 returns-2 : tie.Need-returns-2 Inv-loop μ-loop
 returns-2 c = search (faults-laws, needs)

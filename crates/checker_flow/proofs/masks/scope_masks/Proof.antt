@@ -1,5 +1,7 @@
+-- The table that was made is put together by hand: it has more premises than a search follows.
 use mathlib.Core.Path.{refl}
-use Rattle.checker_flow.proofs.TableRules.{scope-inside, lower-small, upper-small, masks-stay, masks-made}
+use Rattle.checker_flow.proofs.TableRules.{lower-small, upper-small}
+use Rattle.checker_flow.proofs.ScopeRules.{scope-inside, masks-stay, masks-made}
 use borrow.Author.Needs.{needs}
 use Rattle.checker_flow.proofs.masks.scope_masks.Statement.{statement}
 use Rattle.checker_flow.proofs.masks.scope_masks.Tie as tie

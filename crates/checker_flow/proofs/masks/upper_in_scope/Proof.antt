@@ -1,4 +1,4 @@
-use Rattle.checker_flow.proofs.TableRules.{bounds-laws}
+use Rattle.checker_flow.proofs.ScopeRules.{bounds-laws}
 use borrow.Author.Needs.{needs}
 use Rattle.checker_flow.proofs.masks.upper_in_scope.Statement.{statement}
 use Rattle.checker_flow.proofs.masks.upper_in_scope.Tie as tie
