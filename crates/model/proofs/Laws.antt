@@ -25,6 +25,7 @@ pub mod Among
 pub mod Broken
 pub mod Finds
 pub mod Faults
+pub mod Charged
 pub mod Kinds
 pub mod Signed
 pub mod Trees
