@@ -5,7 +5,7 @@ use mathlib.Core.Bool.{Bool, true, false, not, _&&_}
 use mathlib.Core.List.{List}
 use native.Mathlib.Omega.{arith}
 use lib.Dec.{leb}
-use lib.ListN.{length, replicate}
+use lib.ListN.{length}
 use borrow.Author.Tests.{leb-true}
 use mir.Syntax.{w64}
 use mir.Val.{Fits}
@@ -39,13 +39,13 @@ use Rattle.checker_nodes.specs.Tables.{countUses, CommandsPassed, ExpressionsPa
 use Rattle.checker_nodes.proofs.CountRules.{count-append}
 use Rattle.checker_nodes.proofs.UseRules.{command-uses-told, expression-uses-told}
 use Rattle.checker_nodes.proofs.DepthRules.{command-depths-told, expression-depths-told}
-use Rattle.design.specs.Resets.{withDefaults}
-use Rattle.design.proofs.ResetRules.{fresh-defaults, states-few}
+use Rattle.design.specs.Falls.{FallsTold}
+use Rattle.design.proofs.ResetRules.{states-few}
 use Rattle.checker_records.specs.ParameterTests.{ParametersPassed}
 use Rattle.checker_bodies.specs.Shapes.{ShapeKnown, ShapesPassed}
 use Rattle.checker_scopes.specs.Plain.{plainDesign}
 use Rattle.checker_scopes.proofs.PlainRules.{plain-ports, plain-parameters, plain-scopes}
-use Rattle.checker.specs.Stages.{fewNodes, ChildrenTold, fromChildren, fromScopes, fromParameters, fromPorts, fromShape, fromDepths, fromUses, fromNodes, fromStates, fromRegisters, fromLabels}
+use Rattle.checker.specs.Stages.{fewNodes, fromChildren, fromScopes, fromParameters, fromPorts, fromShape, fromDepths, fromUses, fromNodes, fromStates, fromRegisters, fromLabels}
 
 -- ---- a pass, and all that follow
 pub stage-refuses : (r : Refusal) (g : Found) (rest : Answer) {f : Found} {p : ℕ} → f ≡ g → f ≡ At p → Refused r p ≡ (refusedAt r g before rest)
@@ -166,8 +166,8 @@ pub shape-known : {image : List ℕ} {x : Design} → RecordsKept image x → Sh
 shape-known known = record { describes = known .describes; states = known .states; commands = known .commands }
 
 -- what is told for refusal 9
-pub children-told : {image defaults falls : List ℕ} {x : Design} {f : Found} → f ≡ Nowhere → ShapesPassed (designOf image) f falls → RecordsKept image x → defaults ≡ withDefaults (designOf image) (replicate {A = ℕ} 64 0) → ChildrenTold (designOf image) defaults falls
-children-told h passed known e = record { targets = fresh-defaults (known .describes) e; held = passed .falls }
+pub falls-told : {d : Table} {f : Found} {old falls : List ℕ} → f ≡ Nowhere → ShapesPassed d f old falls → FallsTold d falls
+falls-told h passed = passed .falls
 
 -- what is known and told once refusal 19 has found no state
 pub known-parameters : {d : Table} {f : Found} {old table : List ℕ} → f ≡ Nowhere → ParametersPassed d f old table → ParametersKept d

@@ -10,8 +10,7 @@ use lib.Dec.{eqb}
 use borrow.Author.Tests.{lt-ltb, eq-eqb, ne-eqb}
 use lib.ListN.{length, getD, set}
 use Rattle.model.specs.declared.Found.{Found}
-use Rattle.model.specs.declared.Found.the-variants.{Nowhere}
-use Rattle.model.specs.Indices.{lower, lowestOf, joinBelow}
+use Rattle.model.specs.Indices.{lowestOf, joinBelow}
 use Rattle.model.specs.Limits.{commandsMax}
 use Rattle.model.specs.Image.{Design as Table, Node, designOf, stateAt, commandAt}
 use Rattle.model.specs.States.{isChild, hasChild, siblingOrSelf, parent, defaultTarget}
@@ -21,19 +20,20 @@ use Rattle.model.specs.Trees.{Expr, Cmd, skip, assign, sequence, fall, goto, br
 use Rattle.model.specs.Shape.{transfers, chargedUnless, shapeFaults, stateShapeFaults, shapeFault}
 use Rattle.model.specs.Falls.{holdsFall}
 use Rattle.model.specs.Rules.{CommandHolds}
-use Rattle.model.proofs.Laws.Faults.{lowest-append}
+use Rattle.model.proofs.Laws.Charged.{Below, each-append, each-join, lowest-below, below-more, charged-below, Numbered, cmd-numbered, shape-below, state-shape-below}
+use Rattle.model.proofs.Exact.Records.{state-iff}
 use Rattle.model.proofs.Laws.Trees.{cmd-skip, cmd-assign, cmd-sequence, cmd-fall, cmd-goto, cmd-branch}
 use native.Mathlib.Numerals.{add-one}
 use Rattle.design.specs.declared.Design.{Design}
 use Rattle.design.specs.Records.{nodeIn, stateIn}
 use Rattle.design.specs.Kept.{StatesKept}
 use Rattle.design.specs.Resets.{Defaults, Filled}
-use Rattle.design.proofs.ResetRules.{filled-none, filled-within, alone, not-alone}
+use Rattle.design.proofs.ResetRules.{filled-none, filled-within, filled-whole, alone, not-alone}
 use Rattle.design.proofs.Laws.{states-count, commands-count, commands-few}
 use Rattle.design.proofs.FieldRules.{parent-is, body-is, body-below, command-at, command-place-inside, command-below, command-kind-of, item-is, a-is, b-is, c-is, command-holds, named-state, sequence-a-below, sequence-b-below, branch-b-below, branch-c-below, lower-command}
-use Rattle.checker_bodies.specs.Places.{placeUnless, foundAmong}
-use Rattle.checker_bodies.specs.Shapes.{Judged, judgedOf, sequencedOf, branchedOf, judgementOf, fallsIn, judgementMost, judgedAmong, sequencedAs, branchedAs, Judging, Going, ShapeKnown, StateShaped, ShapesPassed}
-use Rattle.checker_bodies.proofs.PlaceRules.{found-nowhere, found-lower, found-charged}
+use Rattle.checker_bodies.specs.Places.{placeUnless, placeOf, foundAmong}
+use Rattle.checker_bodies.specs.Shapes.{judgedOf, judgementOf, numberOf, bodyNumberOf, fallsIn, judgementMost, sequencedAs, branchedAs, Judging, Going, ShapeKnown, withFalls, ShapesPassed}
+use Rattle.checker_bodies.proofs.PlaceRules.{place-found, place-append, lowest-small, place-charged}
 
 -- ---- siblings
 and-known : {w : Bool} (a b c : Bool) → w ≡ true → (a && b && c) ≡ (a && (b && w && c))
@@ -103,58 +103,72 @@ mark-read : (b : Bool) → eqb (oneOrZero b) 1 ≡ b
 mark-read true = refl
 mark-read false = refl
 
-among-judgement : (commands : ℕ) (t f : Bool) (l : ℕ) → judgedAmong commands (judgementOf t f l) ≡ record { transfers = t; falls = f; lowest = foundAmong commands l }
-unfolding judgedAmong
-among-judgement commands t f l =
+-- at most four times no place, and three more
+judgement-small : {l r : ℕ} (t f : Bool) → r ≡ judgementOf t f l → l ≤ commandsMax → r ≤ judgementMost
+judgement-small t f e h = let first = mark-small t in let second = mark-small f in omega arith
+
+number-parts : (t f : Bool) (l : ℕ) → (eqb (judgementOf t f l % 2) 1 ≡ t) × (fallsIn (judgementOf t f l) ≡ f) × (judgementOf t f l / 4 ≡ l)
+number-parts t f l =
     let parts = parted (oneOrZero t) (oneOrZero f) l (mark-small t) (mark-small f) in
-    rw (parts .0, parts .1, parts .2, mark-read t, mark-read f)
+    (ap (λ (y : ℕ). eqb y 1) (parts .0) ∙ mark-read t, ap (λ (y : ℕ). eqb y 1) (parts .1) ∙ mark-read f, parts .2)
 
-module _ {commands n : ℕ} (below : n < commands) (few : commands ≤ commandsMax) where
-  -- the lowest of a command's own place and those of its parts
-  found-three : (b : Bool) (p q : ℕ) → foundAmong commands (min (placeUnless b n) (min p q)) ≡ lower (lowestOf (chargedUnless b n)) (lower (foundAmong commands p) (foundAmong commands q))
-  found-three b p q = found-lower commands (placeUnless b n) (min p q) ∙ rw (found-charged b below few, found-lower commands p q)
+-- ---- the numbers of commands, as trees
+module _ (d : Table) (s : ℕ) where
+  abbrev pub commandNumber : Cmd → ℕ
+  commandNumber c = numberOf (judgedOf d s c)
 
-  sequenced-among : (p q : ℕ) → judgedAmong commands (sequencedAs n p q) ≡ sequencedOf n (judgedAmong commands p) (judgedAmong commands q)
-  unfolding sequencedOf judgedAmong
-  sequenced-among p q =
-      among-judgement commands (eqb (q % 2) 1) (fallsIn p || fallsIn q) (min (placeUnless (not (eqb (p % 2) 1)) n) (min (p / 4) (q / 4)))
-      ∙ ap (λ (f : Found). record { transfers = eqb (q % 2) 1; falls = fallsIn p || fallsIn q; lowest = f }) (found-three (not (eqb (p % 2) 1)) (p / 4) (q / 4))
+  number-is : (c : Cmd) → commandNumber c ≡ judgementOf (transfers c) (holdsFall c) (placeOf (lowestOf (shapeFaults d s c)))
+  unfolding numberOf judgedOf
+  number-is c = refl
 
-  branched-among : (p q : ℕ) → judgedAmong commands (branchedAs n p q) ≡ branchedOf n (judgedAmong commands p) (judgedAmong commands q)
-  unfolding branchedOf judgedAmong
-  branched-among p q =
-      among-judgement commands (eqb (p % 2) 1 && eqb (q % 2) 1) (fallsIn p || fallsIn q) (min (placeUnless (Bool·beq (eqb (p % 2) 1) (eqb (q % 2) 1)) n) (min (p / 4) (q / 4)))
-      ∙ ap (λ (f : Found). record { transfers = eqb (p % 2) 1 && eqb (q % 2) 1; falls = fallsIn p || fallsIn q; lowest = f }) (found-three (Bool·beq (eqb (p % 2) 1) (eqb (q % 2) 1)) (p / 4) (q / 4))
+  number-reads : (c : Cmd) → (eqb (commandNumber c % 2) 1 ≡ transfers c) × (fallsIn (commandNumber c) ≡ holdsFall c) × (commandNumber c / 4 ≡ placeOf (lowestOf (shapeFaults d s c)))
+  number-reads c = rw (number-is c) (number-parts (transfers c) (holdsFall c) (placeOf (lowestOf (shapeFaults d s c))))
 
--- ---- what commands come to, as trees
-module _ (d : Table) (s n : ℕ) where
-  three : (xs ys zs : List ℕ) → lowestOf (xs ++ (ys ++ zs)) ≡ lower (lowestOf xs) (lower (lowestOf ys) (lowestOf zs))
-  three xs ys zs = lowest-append xs (ys ++ zs) ∙ ap (lower (lowestOf xs)) (lowest-append ys zs)
+  fall-number : (n : ℕ) → judgementOf true true (placeUnless (hasChild d s) n) ≡ commandNumber (fall n)
+  unfolding transfers holdsFall shapeFaults
+  fall-number n = ap (judgementOf true true) (place-charged commandsMax (hasChild d s) n) ∙ sym (number-is (fall n))
 
-  sequence-tree : (p q : Cmd) → sequencedOf n (judgedOf d s p) (judgedOf d s q) ≡ judgedOf d s (sequence n p q)
-  unfolding judgedOf sequencedOf transfers holdsFall shapeFaults
-  sequence-tree p q = sym (λ i. record { transfers = transfers q; falls = holdsFall p || holdsFall q; lowest = three (chargedUnless (not (transfers p)) n) (shapeFaults d s p) (shapeFaults d s q) i })
+  goto-number : (n t a b : ℕ) → judgementOf true false (placeUnless (siblingOrSelf d s t) n) ≡ commandNumber (goto n t a b)
+  unfolding transfers holdsFall shapeFaults
+  goto-number n t a b = ap (judgementOf true false) (place-charged commandsMax (siblingOrSelf d s t) n) ∙ sym (number-is (goto n t a b))
 
-  branch-tree : (e : Expr) (p q : Cmd) → branchedOf n (judgedOf d s p) (judgedOf d s q) ≡ judgedOf d s (branch n e p q)
-  unfolding judgedOf branchedOf transfers holdsFall shapeFaults
-  branch-tree e p q =
-      sym (λ i. record { transfers = transfers p && transfers q; falls = holdsFall p || holdsFall q; lowest = three (chargedUnless (Bool·beq (transfers p) (transfers q)) n) (shapeFaults d s p) (shapeFaults d s q) i })
+  skip-number : (n : ℕ) → judgementOf false false commandsMax ≡ commandNumber (skip n)
+  unfolding transfers holdsFall shapeFaults lowestOf
+  skip-number n = sym (number-is (skip n))
 
-  fall-tree : record { transfers = true; falls = true; lowest = lowestOf (chargedUnless (hasChild d s) n) } ≡ judgedOf d s (fall n)
-  unfolding judgedOf transfers holdsFall shapeFaults
-  fall-tree = refl
+  assign-number : (n r : ℕ) (e : Expr) → judgementOf false false commandsMax ≡ commandNumber (assign n r e)
+  unfolding transfers holdsFall shapeFaults lowestOf
+  assign-number n r e = sym (number-is (assign n r e))
 
-  goto-tree : (t a b : ℕ) → record { transfers = true; falls = false; lowest = lowestOf (chargedUnless (siblingOrSelf d s t) n) } ≡ judgedOf d s (goto n t a b)
-  unfolding judgedOf transfers holdsFall shapeFaults
-  goto-tree t a b = refl
+  -- where the design has no more commands than a design may have
+  module _ (few : length (d .commands) ≤ commandsMax) where
+    faults-below : (c : Cmd) → Numbered d c → Below commandsMax (shapeFaults d s c)
+    faults-below c h = below-more few (shape-below d s c h)
 
-  skip-tree : record { transfers = false; falls = false; lowest = Nowhere } ≡ judgedOf d s (skip n)
-  unfolding judgedOf transfers holdsFall shapeFaults lowestOf
-  skip-tree = refl
+    pub number-small : (c : Cmd) → Numbered d c → commandNumber c ≤ judgementMost
+    number-small c h =
+        let is = number-is c in
+        let least = lowest-small (shapeFaults d s c) (faults-below c h) in
+        judgement-small (transfers c) (holdsFall c) is least
 
-  assign-tree : (r : ℕ) (e : Expr) → record { transfers = false; falls = false; lowest = Nowhere } ≡ judgedOf d s (assign n r e)
-  unfolding judgedOf transfers holdsFall shapeFaults lowestOf
-  assign-tree r e = refl
+    -- a command's own place and those of its parts
+    places-three : {n : ℕ} (kept : Bool) (p q : Cmd) → n < length (d .commands) → Numbered d p → Numbered d q
+        → min (placeUnless kept n) (min (commandNumber p / 4) (commandNumber q / 4)) ≡ placeOf (lowestOf (chargedUnless kept n ++ (shapeFaults d s p ++ shapeFaults d s q)))
+    places-three {n} kept p q l h k =
+        let first = faults-below p h in
+        let second = faults-below q k in
+        rw (number-reads p .2, number-reads q .2, place-charged commandsMax kept n, place-append (shapeFaults d s p) (shapeFaults d s q) first second)
+        (place-append (chargedUnless kept n) (shapeFaults d s p ++ shapeFaults d s q) (charged-below kept n (omega arith)) (each-append first second))
+
+    sequence-number : {n : ℕ} (p q : Cmd) → n < length (d .commands) → Numbered d p → Numbered d q → sequencedAs n (commandNumber p) (commandNumber q) ≡ commandNumber (sequence n p q)
+    unfolding transfers holdsFall shapeFaults
+    sequence-number {n} p q l h k =
+        rw (number-reads p .0, number-reads p .1, number-reads q .0, number-reads q .1, places-three (not (transfers p)) p q l h k) (sym (number-is (sequence n p q)))
+
+    branch-number : {n : ℕ} (e : Expr) (p q : Cmd) → n < length (d .commands) → Numbered d p → Numbered d q → branchedAs n (commandNumber p) (commandNumber q) ≡ commandNumber (branch n e p q)
+    unfolding transfers holdsFall shapeFaults
+    branch-number {n} e p q l h k =
+        rw (number-reads p .0, number-reads p .1, number-reads q .0, number-reads q .1, places-three (Bool·beq (transfers p) (transfers q)) p q l h k) (sym (number-is (branch n e p q)))
 
 -- ---- a command by its kind
 -- a kind that is no sequence, fall, goto or if is a skip or an assignment
@@ -214,6 +228,10 @@ module _ {image : List ℕ} {states place s n : ℕ} {childed : Bool} (j : Judgi
   charged-small {f} true e = omega arith
   charged-small {f} false e = let below = command-below (j .command) in let most = few in omega arith
 
+  -- the number of a part
+  pub part-small : {p : ℕ} (a : ℕ) → p ≡ numberOf (judgedOf (designOf image) s (cmdOf (designOf image) a)) → p ≤ judgementMost
+  part-small a e = rw e (number-small (designOf image) s few (cmdOf (designOf image) a) (cmd-numbered (designOf image) a))
+
   pub judged-sequence :
       {k a b r : ℕ} (p q : ℕ)
       → k ≡ 2
@@ -221,18 +239,16 @@ module _ {image : List ℕ} {states place s n : ℕ} {childed : Bool} (j : Judgi
       → a ≡ nodeIn image place n .a
       → b ≡ nodeIn image place n .b
       → r ≡ sequencedAs n p q
-      → judgedAmong (length (designOf image .commands)) p ≡ judgedOf (designOf image) s (cmdOf (designOf image) a)
-      → judgedAmong (length (designOf image .commands)) q ≡ judgedOf (designOf image) s (cmdOf (designOf image) b)
-      → judgedAmong (length (designOf image .commands)) r ≡ judgedOf (designOf image) s (cmdOf (designOf image) n)
+      → p ≡ numberOf (judgedOf (designOf image) s (cmdOf (designOf image) a))
+      → q ≡ numberOf (judgedOf (designOf image) s (cmdOf (designOf image) b))
+      → r ≡ numberOf (judgedOf (designOf image) s (cmdOf (designOf image) n))
   unfolding commandKind
   judged-sequence {a = a} {b = b} p q f e ea eb er ep eq =
       let d = designOf image in
       let tree = cmd-sequence d n (command-kind-of (j .command) sequences f e refl) (command-holds (j .command) f e .1) (command-holds (j .command) f e .2) in
-      let first = a-is (j .command) ea in
-      let second = b-is (j .command) eb in
-      ap (judgedAmong (length (d .commands))) er
-      ∙ (sequenced-among (command-below (j .command)) few p q
-      ∙ rw (ep, eq, first, second, tree) (sequence-tree d s n (cmdOf d (commandAt d n .a)) (cmdOf d (commandAt d n .b))))
+      let first = cmdOf d (commandAt d n .a) in
+      let second = cmdOf d (commandAt d n .b) in
+      er ∙ rw (ep, eq, a-is (j .command) ea, b-is (j .command) eb, tree) (sequence-number d s few first second (command-below (j .command)) (cmd-numbered d (commandAt d n .a)) (cmd-numbered d (commandAt d n .b)))
 
   pub judged-branch :
       {k b c r : ℕ} (p q : ℕ)
@@ -241,69 +257,41 @@ module _ {image : List ℕ} {states place s n : ℕ} {childed : Bool} (j : Judgi
       → b ≡ nodeIn image place n .b
       → c ≡ nodeIn image place n .c
       → r ≡ branchedAs n p q
-      → judgedAmong (length (designOf image .commands)) p ≡ judgedOf (designOf image) s (cmdOf (designOf image) b)
-      → judgedAmong (length (designOf image .commands)) q ≡ judgedOf (designOf image) s (cmdOf (designOf image) c)
-      → judgedAmong (length (designOf image .commands)) r ≡ judgedOf (designOf image) s (cmdOf (designOf image) n)
+      → p ≡ numberOf (judgedOf (designOf image) s (cmdOf (designOf image) b))
+      → q ≡ numberOf (judgedOf (designOf image) s (cmdOf (designOf image) c))
+      → r ≡ numberOf (judgedOf (designOf image) s (cmdOf (designOf image) n))
   unfolding commandKind
   judged-branch {b = b} {c = c} p q f e eb ec er ep eq =
       let d = designOf image in
       let tree = cmd-branch d n (command-kind-of (j .command) branches f e refl) (command-holds (j .command) f e .2) (command-holds (j .command) f e .3) in
-      let first = b-is (j .command) eb in
-      let second = c-is (j .command) ec in
-      ap (judgedAmong (length (d .commands))) er
-      ∙ (branched-among (command-below (j .command)) few p q
-      ∙ rw (ep, eq, first, second, tree) (branch-tree d s n (exprOf d (commandAt d n .a)) (cmdOf d (commandAt d n .b)) (cmdOf d (commandAt d n .c))))
+      let first = cmdOf d (commandAt d n .b) in
+      let second = cmdOf d (commandAt d n .c) in
+      er
+      ∙ rw (ep, eq, b-is (j .command) eb, c-is (j .command) ec, tree)
+      (branch-number d s few (exprOf d (commandAt d n .a)) first second (command-below (j .command)) (cmd-numbered d (commandAt d n .b)) (cmd-numbered d (commandAt d n .c)))
 
-  -- a command that transfers by itself
-  transfer-among : {f r : ℕ} (held b : Bool) → f ≡ placeUnless b n → r ≡ judgementOf true held f → judgedAmong (length (designOf image .commands)) r ≡ record { transfers = true; falls = held; lowest = lowestOf (chargedUnless b n) }
-  transfer-among {f} held b g h =
-      let commands = length (designOf image .commands) in
-      ap (judgedAmong commands) h
-      ∙ (among-judgement commands true held f
-      ∙ ap (λ (y : Found). record { transfers = true; falls = held; lowest = y }) (ap (foundAmong commands) g ∙ found-charged b (command-below (j .command)) few))
-
-  pub judged-fall : {k f r : ℕ} → k ≡ 3 → k ≡ nodeIn image place n .kind → f ≡ placeUnless childed n → r ≡ judgementOf true true f
-      → judgedAmong (length (designOf image .commands)) r ≡ judgedOf (designOf image) s (cmdOf (designOf image) n)
+  pub judged-fall : {k f r : ℕ} → k ≡ 3 → k ≡ nodeIn image place n .kind → f ≡ placeUnless childed n → r ≡ judgementOf true true f → r ≡ numberOf (judgedOf (designOf image) s (cmdOf (designOf image) n))
   unfolding commandKind
-  judged-fall f e g h = transfer-among true childed g h ∙ rw (j .children, cmd-fall (designOf image) n (command-kind-of (j .command) falls f e refl)) (fall-tree (designOf image) s n)
+  judged-fall f e g h = h ∙ rw (g, j .children, cmd-fall (designOf image) n (command-kind-of (j .command) falls f e refl)) (fall-number (designOf image) s n)
 
   pub judged-goto : {k t f r : ℕ} {b : Bool} → k ≡ 4 → k ≡ nodeIn image place n .kind → t ≡ nodeIn image place n .item → b ≡ siblingOrSelf (designOf image) s t → f ≡ placeUnless b n → r ≡ judgementOf true false f
-      → judgedAmong (length (designOf image .commands)) r ≡ judgedOf (designOf image) s (cmdOf (designOf image) n)
+      → r ≡ numberOf (judgedOf (designOf image) s (cmdOf (designOf image) n))
   unfolding commandKind
   judged-goto {t = t} {b = b} f e et eb g h =
-      let named = item-is (j .command) et in
-      transfer-among false b g h ∙ rw (eb, named, cmd-goto (designOf image) n (command-kind-of (j .command) goes f e refl)) (goto-tree (designOf image) s n (commandAt (designOf image) n .item) (commandAt (designOf image) n .a) (commandAt (designOf image) n .b))
-
-  nowhere-among : {r : ℕ} → r ≡ judgementOf false false commandsMax → judgedAmong (length (designOf image .commands)) r ≡ record { transfers = false; falls = false; lowest = Nowhere }
-  nowhere-among h =
-      let commands = length (designOf image .commands) in
-      ap (judgedAmong commands) h
-      ∙ (among-judgement commands false false commandsMax ∙ ap (λ (y : Found). record { transfers = false; falls = false; lowest = y }) (found-nowhere few))
+      let x = commandAt (designOf image) n in
+      h
+      ∙ rw (g, eb, item-is (j .command) et, cmd-goto (designOf image) n (command-kind-of (j .command) goes f e refl))
+      (goto-number (designOf image) s n (x .item) (x .a) (x .b))
 
   pub judged-plain : {k r : ℕ} → k ≡ nodeIn image place n .kind → (k ≡ 2 → ⊥) → (k ≡ 3 → ⊥) → (k ≡ 4 → ⊥) → (k ≡ 5 → ⊥) → r ≡ judgementOf false false commandsMax
-      → judgedAmong (length (designOf image .commands)) r ≡ judgedOf (designOf image) s (cmdOf (designOf image) n)
+      → r ≡ numberOf (judgedOf (designOf image) s (cmdOf (designOf image) n))
   judged-plain {k} e a b c f g =
       let d = designOf image in
-      nowhere-among g
+      g
       ∙ ⊎-elim
-      (λ (h : commandKind k ≡ skips). rw (cmd-skip d n (command-kind-of (j .command) skips refl e h)) (skip-tree d s n))
-      (λ (h : commandKind k ≡ assigns). rw (cmd-assign d n (command-kind-of (j .command) assigns refl e h)) (assign-tree d s n (commandAt d n .item) (exprOf d (commandAt d n .a))))
+      (λ (h : commandKind k ≡ skips). rw (cmd-skip d n (command-kind-of (j .command) skips refl e h)) (skip-number d s n))
+      (λ (h : commandKind k ≡ assigns). rw (cmd-assign d n (command-kind-of (j .command) assigns refl e h)) (assign-number d s n (commandAt d n .item) (exprOf d (commandAt d n .a))))
       (plain-kind d n k (commandAt d n) a b c f (command-holds (j .command) refl e))
-
--- ---- the numbers stay small: at most four times no place, and three more
-pub judgement-small : {l r : ℕ} (t f : Bool) → r ≡ judgementOf t f l → l ≤ commandsMax → r ≤ judgementMost
-judgement-small t f e h = let first = mark-small t in let second = mark-small f in omega arith
-
--- the lowest place is no higher than that of a part
-pub parts-small : (own p q : ℕ) → p ≤ judgementMost → min own (min (p / 4) (q / 4)) ≤ commandsMax
-parts-small own p q l = omega arith
-
-pub sequenced-small : {r : ℕ} (n p q : ℕ) → r ≡ sequencedAs n p q → p ≤ judgementMost → r ≤ judgementMost
-sequenced-small n p q e l = judgement-small (eqb (q % 2) 1) (fallsIn p || fallsIn q) e (parts-small (placeUnless (not (eqb (p % 2) 1)) n) p q l)
-
-pub branched-small : {r : ℕ} (n p q : ℕ) → r ≡ branchedAs n p q → p ≤ judgementMost → r ≤ judgementMost
-branched-small n p q e l =
-    judgement-small (eqb (p % 2) 1 && eqb (q % 2) 1) (fallsIn p || fallsIn q) e (parts-small (placeUnless (Bool·beq (eqb (p % 2) 1) (eqb (q % 2) 1)) n) p q l)
 
 -- ---- children: a state is its own default target exactly where it has none
 own-default : (d : Table) → StatesKept d → (s : ℕ) → s < length (d .states) → not (eqb (defaultTarget d s) s) ≡ hasChild d s
@@ -333,46 +321,50 @@ module _ {image : List ℕ} {x : Design} (known : ShapeKnown image x) where
         states-begin = refl;
       }
 
+  command-low : (s : ℕ) → s < length (designOf image .states) → stateAt (designOf image) s .command < length (designOf image .commands)
+  command-low s l = state-iff (designOf image) s .0 (known .states .kept s l) .command
+
+  -- the faults of the states before s
+  faults-low : (s : ℕ) → s < length (designOf image .states) → Below commandsMax (stateShapeFaults (designOf image) s)
+  faults-low s l = below-more (commands-few (known .describes)) (state-shape-below (designOf image) s (command-low s l))
+
+  all-low : (n : ℕ) → n ≤ length (designOf image .states) → Below (length (designOf image .commands)) (joinBelow (stateShapeFaults (designOf image)) n)
+  all-low n l = each-join (stateShapeFaults (designOf image)) n (λ s b. state-shape-below (designOf image) s (command-low s (omega arith)))
+
   pub state-shape-rule :
       {s n own place least r : ℕ} {t f : Bool} (body : ℕ)
       → s < x .states
       → n ≡ stateIn image (x .«states_at») s .command
-      → judgedAmong (length (designOf image .commands)) body ≡ judgedOf (designOf image) s (cmdOf (designOf image) n)
+      → body ≡ numberOf (judgedOf (designOf image) s (cmdOf (designOf image) n))
       → t ≡ eqb (body % 2) 1
       → own ≡ placeUnless t n
       → place ≡ body / 4
       → least ≡ min own place
       → f ≡ fallsIn body
       → r ≡ judgementOf true f least
-      → StateShaped (designOf image) s r
-  unfolding stateShapeFaults bodyOf judgedOf judgedAmong
-  state-shape-rule {s} {n} {own} {place} {least} {r} {t} {f} body l e j transferring own-is place-is least-is f-is r-is =
+      → r ≡ bodyNumberOf (designOf image) s
+  unfolding bodyNumberOf stateShapeFaults bodyOf
+  state-shape-rule {s} {n} {own} {place} {least} {r} {t} {f} body l e j t-is own-is place-is least-is f-is r-is =
       let d = designOf image in
-      let commands = length (d .commands) in
-      let count = commands-count (known .describes) in
-      let node = body-below (known .describes) l e (known .states) in
-      let below : n < commands = omega arith in
       let same = body-is (known .describes) l e in
-      let read = among-judgement commands true f least in
-      let transfers-is : t ≡ transfers (cmdOf d n) = transferring ∙ ap (λ (y : Judged). y .transfers) j in
-      let first : foundAmong commands own ≡ lowestOf (chargedUnless (transfers (cmdOf d n)) n) = ap (foundAmong commands) own-is ∙ (found-charged t below (commands-few (known .describes)) ∙ ap (λ (y : Bool). lowestOf (chargedUnless y n)) transfers-is) in
-      let second : foundAmong commands place ≡ lowestOf (shapeFaults d s (cmdOf d n)) = ap (foundAmong commands) place-is ∙ ap (λ (y : Judged). y .lowest) j in
-      record {
-        lowest =
-            ap (λ (y : ℕ). foundAmong commands (y / 4)) r-is
-            ∙ (ap (λ (y : Judged). y .lowest) read
-            ∙ (ap (foundAmong commands) least-is
-            ∙ (found-lower commands own place
-            ∙ rw (first, second, same) (sym (lowest-append (chargedUnless (transfers (cmdOf d (stateAt d s .command))) (stateAt d s .command)) (shapeFaults d s (cmdOf d (stateAt d s .command))))))));
-        falls = ap fallsIn r-is ∙ (ap (λ (y : Judged). y .falls) read ∙ (f-is ∙ (ap (λ (y : Judged). y .falls) j ∙ ap (λ (m : ℕ). holdsFall (cmdOf d m)) same)));
-      }
+      let number : body ≡ commandNumber d s (cmdOf d (stateAt d s .command)) = j ∙ ap (λ (m : ℕ). commandNumber d s (cmdOf d m)) same in
+      let tree = cmdOf d (stateAt d s .command) in
+      let count = states-count (known .describes) in
+      let few = commands-few (known .describes) in
+      let low = command-low s (omega arith) in
+      let reads = number-reads d s tree in
+      r-is
+      ∙ rw (least-is, own-is, place-is, f-is, t-is, number, same, reads .0, reads .1, reads .2, place-charged commandsMax (transfers tree) (stateAt d s .command))
+      (ap (judgementOf true (holdsFall tree)) (place-append (chargedUnless (transfers tree) (stateAt d s .command)) (shapeFaults d s tree) (charged-below (transfers tree) (stateAt d s .command) (omega arith)) (below-more few (shape-below d s tree (cmd-numbered d (stateAt d s .command))))))
 
-  pub own-small : {place least : ℕ} (body own : ℕ) → place ≡ body / 4 → least ≡ min own place → body ≤ judgementMost → least ≤ commandsMax
-  own-small body own p e l = omega arith
+  pub own-small : {place least : ℕ} (n s body own : ℕ) → body ≡ numberOf (judgedOf (designOf image) s (cmdOf (designOf image) n)) → place ≡ body / 4 → least ≡ min own place → least ≤ commandsMax
+  own-small n s body own e p h =
+      let small : body ≤ judgementMost = rw e (number-small (designOf image) s (commands-few (known .describes)) (cmdOf (designOf image) n) (cmd-numbered (designOf image) n)) in
+      omega arith
 
 -- the lowest fault of the states before s, as a place, and the table of those that hold a fall
 pub record LowestSo (d : Table) (s lowest : ℕ) : Type 0 where
-  pub is : foundAmong (length (d .commands)) lowest ≡ lowestOf (joinBelow (stateShapeFaults d) s)
+  pub is : lowest ≡ placeOf (lowestOf (joinBelow (stateShapeFaults d) s))
 
 pub record FallsSo (d : Table) (old : List ℕ) (s : ℕ) (now : List ℕ) : Type 0 where
   pub filled : Filled (λ k. oneOrZero (holdsFall (bodyOf d k))) old s now
@@ -380,23 +372,30 @@ pub record FallsSo (d : Table) (old : List ℕ) (s : ℕ) (now : List ℕ) : Typ
 pub falls-none-yet : {d : Table} {old : List ℕ} → FallsSo d old 0 old
 falls-none-yet = record { filled = filled-none }
 
-pub lowest-none-yet : {image : List ℕ} {x : Design} → ShapeKnown image x → LowestSo (designOf image) 0 commandsMax
+pub lowest-none-yet : {d : Table} → LowestSo d 0 commandsMax
 unfolding joinBelow lowestOf
-lowest-none-yet known = record { is = found-nowhere (commands-few (known .describes)) }
+lowest-none-yet = record { is = refl }
 
-pub lowest-one-more : {d : Table} {s so r place : ℕ} (here : ℕ) → LowestSo d s so → StateShaped d s here → place ≡ here / 4 → r ≡ min so place → LowestSo d (s + 1) r
+-- what the number of a body says
+body-reads : (d : Table) (s : ℕ) → (fallsIn (bodyNumberOf d s) ≡ holdsFall (bodyOf d s)) × (bodyNumberOf d s / 4 ≡ placeOf (lowestOf (stateShapeFaults d s)))
+unfolding bodyNumberOf
+body-reads d s = let parts = number-parts true (holdsFall (bodyOf d s)) (placeOf (lowestOf (stateShapeFaults d s))) in (parts .1, parts .2)
+
+pub lowest-one-more : {image : List ℕ} {x : Design} {s so r place : ℕ} (here : ℕ) → ShapeKnown image x → LowestSo (designOf image) s so → s < x .states → here ≡ bodyNumberOf (designOf image) s → place ≡ here / 4 → r ≡ min so place → LowestSo (designOf image) (s + 1) r
 unfolding joinBelow
-lowest-one-more {d} {s} {so} {r} {place} here before shaped e h =
-    let commands = length (d .commands) in
+lowest-one-more {image} {x} {s} {so} {r} {place} here known before l shaped e h =
+    let d = designOf image in
+    let count = states-count (known .describes) in
+    let few = commands-few (known .describes) in
     record {
       is =
-          ap (foundAmong commands) h
-          ∙ (found-lower commands so place
-          ∙ rw (before .is, ap (foundAmong commands) e ∙ shaped .lowest, add-one s) (sym (lowest-append (joinBelow (stateShapeFaults d) s) (stateShapeFaults d s))));
+          h
+          ∙ rw (before .is, e, shaped, body-reads d s .1, add-one s)
+          (place-append (joinBelow (stateShapeFaults d) s) (stateShapeFaults d s) (below-more few (all-low known s (omega arith))) (faults-low known s (omega arith)));
     }
 
-pub falls-one-more : {d : Table} {old now : List ℕ} {m s v : ℕ} {f : Bool} (here : ℕ) → FallsSo d old s now → StateShaped d s here → m ≤ length old → s < m → f ≡ fallsIn here → v ≡ oneOrZero f → FallsSo d old (s + 1) (set now s v)
-falls-one-more here so shaped long l e h = record { filled = filled-within (so .filled) long l (h ∙ ap oneOrZero (e ∙ shaped .falls)) }
+pub falls-one-more : {d : Table} {old now : List ℕ} {m s v : ℕ} {f : Bool} (here : ℕ) → FallsSo d old s now → here ≡ bodyNumberOf d s → m ≤ length old → s < m → f ≡ fallsIn here → v ≡ oneOrZero f → FallsSo d old (s + 1) (set now s v)
+falls-one-more {d} {s = s} here so shaped long l e h = record { filled = filled-within (so .filled) long l (h ∙ ap oneOrZero (e ∙ ap fallsIn shaped ∙ body-reads d s .0)) }
 
 pub fall-inside : {d : Table} {old now : List ℕ} {m s : ℕ} → FallsSo d old s now → m ≤ length old → s < m → s < length now
 fall-inside so long l = let same = so .filled .long in omega arith
@@ -410,22 +409,26 @@ pub shapes-passed :
     → s ≤ x .states
     → x .states ≤ s
     → r ≡ foundAmong (x .commands) place
-    → ShapesPassed (designOf image) r now
-unfolding shapeFault
+    → ShapesPassed (designOf image) r old now
+unfolding shapeFault withFalls
 shapes-passed {image} {old} {now} {x} {s} {place} known so told long l m e =
     let count = states-count (known .describes) in
     let end : s ≡ length (designOf image .states) = omega arith in
+    let all = length (designOf image .states) in
     let same = told .filled .long in
+    let faults = joinBelow (stateShapeFaults (designOf image)) all in
+    let filled = rw end at (told .filled) in
     record {
       is =
           e
-          ∙ (ap (λ (n : ℕ). foundAmong n place) (commands-count (known .describes))
-          ∙ (so .is ∙ ap (λ (n : ℕ). lowestOf (joinBelow (stateShapeFaults (designOf image)) n)) end));
-      falls = record { long = omega arith; entry = λ k b. told .filled .done k (omega arith) };
+          ∙ rw (commands-count (known .describes), so .is, end)
+          (place-found (lowestOf faults) (commands-few (known .describes)) (lowest-below (length (designOf image .commands)) (all-low known all (omega arith))));
+      table-is = filled-whole filled;
+      falls = record { long = omega arith; entry = λ k b. filled .done k b };
     }
 
 -- what the recursion cites
-pub ruleset judge-laws = (command-place-inside, goto-going, charged-small, judged-sequence, judged-branch, judged-fall, judged-goto, judged-plain, judgement-small, sequenced-small, branched-small)
+pub ruleset judge-laws = (command-place-inside, goto-going, charged-small, part-small, judged-sequence, judged-branch, judged-fall, judged-goto, judged-plain)
 
 -- what the loop over the states cites
-pub ruleset shapes-laws = (lowest-none-yet, lowest-one-more, falls-none-yet, falls-one-more, fall-inside, shapes-passed)
+pub ruleset shapes-laws = (lowest-none-yet, falls-none-yet, fall-inside, shapes-passed)

@@ -5,6 +5,7 @@ use lib.Dec.{ltb}
 use Rattle.model.specs.declared.Found.{Found}
 use Rattle.model.specs.declared.Found.the-variants.{At, Nowhere}
 use Rattle.model.specs.Limits.{commandsMax}
+use Rattle.model.specs.States.{foundOr}
 
 abbrev pub placeUnless : Bool → ℕ → ℕ
 placeUnless kept n = cond kept commandsMax n
@@ -12,3 +13,7 @@ placeUnless kept n = cond kept commandsMax n
 -- what a place says, among so many commands
 abbrev pub foundAmong : ℕ → ℕ → Found
 foundAmong commands place = cond (ltb place commands) (At place) Nowhere
+
+-- what was found, as a place
+abbrev pub placeOf : Found → ℕ
+placeOf found = foundOr commandsMax found

@@ -6,20 +6,20 @@ use mathlib.Core.List.{List}
 use lib.Dec.{eqb}
 use lib.ListN.{length}
 use Rattle.model.specs.declared.Found.{Found}
-use Rattle.model.specs.Indices.{lower, lowestOf}
+use Rattle.model.specs.Indices.{lowestOf, filledTo}
 use Rattle.model.specs.Limits.{commandsMax}
 use Rattle.model.specs.Image.{designOf, Design as Table}
 use Rattle.model.specs.States.{hasChild}
 use Rattle.model.specs.Trees.{Cmd, bodyOf}
 use Rattle.model.specs.Values.{oneOrZero}
-use Rattle.model.specs.Shape.{transfers, chargedUnless, shapeFaults, stateShapeFaults, shapeFault}
+use Rattle.model.specs.Shape.{transfers, shapeFaults, stateShapeFaults, shapeFault}
 use Rattle.model.specs.Falls.{holdsFall}
 use Rattle.design.specs.declared.Design.{Design}
 use Rattle.design.specs.Describes.{Describes}
 use Rattle.design.specs.Falls.{FallsTold}
 use Rattle.design.specs.Kept.{StatesKept, CommandsKept}
 use Rattle.design.specs.RecordsAt.{StateAt, CommandAt}
-use Rattle.checker_bodies.specs.Places.{placeUnless, foundAmong}
+use Rattle.checker_bodies.specs.Places.{placeUnless, placeOf}
 
 -- what a command's shape comes to: whether it transfers, whether it holds a fall, and the lowest node that breaks a rule
 pub record Judged : Type 0 where
@@ -30,34 +30,20 @@ pub record Judged : Type 0 where
 unfoldable pub judgedOf : Table → ℕ → Cmd → Judged
 judgedOf d s c = record { transfers = transfers c; falls = holdsFall c; lowest = lowestOf (shapeFaults d s c) }
 
--- what a sequence comes to, and an if, from their parts
-unfoldable pub sequencedOf : ℕ → Judged → Judged → Judged
-sequencedOf n p q =
-    record {
-      transfers = q .transfers;
-      falls = p .falls || q .falls;
-      lowest = lower (lowestOf (chargedUnless (not (p .transfers)) n)) (lower (p .lowest) (q .lowest));
-    }
-
-unfoldable pub branchedOf : ℕ → Judged → Judged → Judged
-branchedOf n p q =
-    record {
-      transfers = p .transfers && q .transfers;
-      falls = p .falls || q .falls;
-      lowest = lower (lowestOf (chargedUnless (Bool·beq (p .transfers) (q .transfers)) n)) (lower (p .lowest) (q .lowest));
-    }
-
 -- the same as one number, as the code carries it: four times the lowest place, two more where the command holds a fall, and one more where it transfers
 abbrev pub judgementOf : Bool → Bool → ℕ → ℕ
 judgementOf transfers falls place = 4 * place + 2 * oneOrZero falls + oneOrZero transfers
 
+unfoldable pub numberOf : Judged → ℕ
+numberOf j = judgementOf (j .transfers) (j .falls) (placeOf (j .lowest))
+
+-- what the body of state s comes to, as a number; one that does not transfer is charged to its command, so that nothing is left to say of transferring
+unfoldable pub bodyNumberOf : Table → ℕ → ℕ
+bodyNumberOf d s = judgementOf true (holdsFall (bodyOf d s)) (placeOf (lowestOf (stateShapeFaults d s)))
+
 -- what a number says of falls
 abbrev pub fallsIn : ℕ → Bool
 fallsIn r = eqb (r / 2 % 2) 1
-
--- what a number says, among so many commands
-unfoldable pub judgedAmong : ℕ → ℕ → Judged
-judgedAmong commands r = record { transfers = eqb (r % 2) 1; falls = fallsIn r; lowest = foundAmong commands (r / 4) }
 
 -- the greatest such number: no place, and three more
 abbrev pub judgementMost : ℕ
@@ -93,12 +79,12 @@ pub record ShapeKnown (image : List ℕ) (x : Design) : Type 0 where
   pub states : StatesKept (designOf image)
   pub commands : CommandsKept (designOf image)
 
--- what the number of a state's body says
-pub record StateShaped (d : Table) (s r : ℕ) : Type 0 where
-  pub lowest : foundAmong (length (d .commands)) (r / 4) ≡ lowestOf (stateShapeFaults d s)
-  pub falls : fallsIn r ≡ holdsFall (bodyOf d s)
+-- a table with 1 at each state that holds a fall, and 0 at each that holds none; the bytes behind them stay
+unfoldable pub withFalls : Table → List ℕ → List ℕ
+withFalls d old = filledTo (λ s. oneOrZero (holdsFall (bodyOf d s))) (length (d .states)) old
 
 -- what the pass found, and the table that it filled
-pub record ShapesPassed (d : Table) (found : Found) (table : List ℕ) : Type 0 where
+pub record ShapesPassed (d : Table) (found : Found) (old table : List ℕ) : Type 0 where
   pub is : found ≡ shapeFault d
+  pub table-is : table ≡ withFalls d old
   pub falls : FallsTold d table

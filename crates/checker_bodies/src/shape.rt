@@ -19,7 +19,7 @@ ghost use Rattle.model.specs.Trees.{cmdOf};
 ghost use Rattle.model.specs.States.{siblingOrSelf};
 ghost use Rattle.model.specs.Values.{oneOrZero};
 ghost use Rattle.design.specs.Resets.{Defaults};
-ghost use Rattle.checker_bodies.specs.Shapes.{judgementOf, judgementMost, judgedAmong, sequencedAs, branchedAs, judgedOf, Going, Judging, ShapeKnown, StateShaped, ShapesPassed};
+ghost use Rattle.checker_bodies.specs.Shapes.{judgementOf, judgementMost, sequencedAs, branchedAs, judgedOf, numberOf, bodyNumberOf, Going, Judging, ShapeKnown, ShapesPassed};
 
 // 1 where something holds, and 0 where it does not.
 fn mark(holds: bool) -> u8
@@ -102,7 +102,7 @@ fn judge(
     n: usize,
 ) -> usize
     requires { ⌜ Judging (now image) «states_at» «commands_at» s n child ⌝ }
-    ensures { λ r. ⌜ (judgedAmong (length (designOf (now (image .entry)) .commands)) r ≡ judgedOf (designOf (now (image .entry))) s (cmdOf (designOf (now (image .entry))) n)) × (r ≤ judgementMost) ⌝ }
+    ensures { λ r. ⌜ r ≡ numberOf (judgedOf (designOf (now (image .entry))) s (cmdOf (designOf (now (image .entry))) n)) ⌝ }
 {
     let kind = Design::kind(image, commands_at, n);
     match kind {
@@ -142,7 +142,7 @@ fn has_child(defaults: &[u8], s: usize) -> bool
 // that nothing is left to say of transferring.
 fn state_shape(image: &[u8], design: Design, defaults: &[u8], s: usize) -> usize
     requires { ⌜ ShapeKnown (now image) design × Defaults (designOf (now image)) (now defaults) × (s < design .states) ⌝ }
-    ensures { λ r. ⌜ StateShaped (designOf (now (image .entry))) s r ⌝ }
+    ensures { λ r. ⌜ r ≡ bodyNumberOf (designOf (now (image .entry))) s ⌝ }
 {
     let at = design.states_at;
     let n = Design::state_command(image, at, s);
@@ -156,7 +156,7 @@ fn state_shape(image: &[u8], design: Design, defaults: &[u8], s: usize) -> usize
 // Refusal 8, at the lowest node; and which states hold a fall.
 pub fn shapes(image: &[u8], design: Design, defaults: &[u8], falls: &mut [u8]) -> Found
     requires { ⌜ ShapeKnown (now image) design × Defaults (designOf (now image)) (now defaults) × (design .states ≤ length (now falls)) ⌝ }
-    ensures { λ r. ⌜ ShapesPassed (designOf (now (image .entry))) r (now (falls .exit)) ⌝ }
+    ensures { λ r. ⌜ ShapesPassed (designOf (now (image .entry))) r (now (falls .entry)) (now (falls .exit)) ⌝ }
 {
     let mut place = NOWHERE;
     let mut s = 0;

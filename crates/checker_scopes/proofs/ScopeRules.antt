@@ -6,14 +6,16 @@ use mathlib.Core.Bool.{Bool, true, false}
 use mathlib.Core.List.{List, _++_}
 use native.Mathlib.Omega.{arith}
 use native.Mathlib.Numerals.{add-one}
+use native.Mathlib.Decide.{decLt}
 use mir.Syntax.{w64}
 use mir.Val.{Fits}
 use lib.Dec.{ltb}
 use lib.ListN.{length}
 use Rattle.model.specs.declared.Found.{Found}
 use Rattle.model.specs.declared.Found.the-variants.{Nowhere}
-use Rattle.model.specs.Indices.{lower, lowestOf, joinBelow}
-use Rattle.model.specs.Image.{Design as Table, Node, designOf, commandAt, expressionAt}
+use Rattle.model.specs.Limits.{expressionPlace, expressionsMax}
+use Rattle.model.specs.Indices.{lowestOf, joinBelow}
+use Rattle.model.specs.Image.{Design as Table, Node, designOf, commandAt, expressionAt, constantOf}
 use Rattle.model.specs.Kinds.{Operation, skips, assigns, sequences, falls, goes, branches, commandKind, expressionKind}
 use Rattle.model.specs.Trees.{Expr, constant, register, binary, Cmd, skip, assign, sequence, fall, goto, branch, exprOf, cmdOf, bodyOf}
 use Rattle.model.specs.Shape.{chargedUnless}
@@ -21,31 +23,34 @@ use Rattle.model.specs.Parameters.{scopeOf}
 use Rattle.model.specs.Scopes.{nameKept, argumentsKept, readFaults, scopeFaults, stateScopeFaults, scopeFault}
 use Rattle.model.specs.Rules.{CommandHolds}
 use Rattle.model.proofs.Laws.Equivalences.{same-tests, less-iff, or-iff}
-use Rattle.model.proofs.Laws.Faults.{lowest-append}
+use Rattle.model.proofs.Laws.Charged.{none, each-append, each-join, Below, lowest-below, charged-below, ReadNumbered, expr-numbered, cmd-numbered, scope-below, state-scope-below}
 use Rattle.model.proofs.Laws.Kinds.{expressionKinds, kind-constants, no-expression-kind}
 use Rattle.model.proofs.Laws.Trees.{expr-constant, expr-register, expr-binary, cmd-skip, cmd-assign, cmd-sequence, cmd-fall, cmd-goto, cmd-branch}
 use Rattle.design.specs.declared.Design.{Design}
+use Rattle.design.specs.Describes.{Describes}
 use Rattle.design.specs.Records.{nodeIn, stateIn, nodeEnd}
 use Rattle.design.specs.Kept.{ParametersKept, RecordsKept}
 use Rattle.design.specs.Scopes.{Scopes}
-use Rattle.design.proofs.Laws.{registers-count, states-count, expressions-count, commands-most, expressions-most}
+use Rattle.design.proofs.Laws.{registers-count, states-count, expressions-count, commands-most, expressions-most, commands-few}
 use Rattle.design.proofs.FieldRules.{body-is, body-below, command-at, command-place-inside, command-kind-of, item-is, a-is, b-is, c-is, command-holds, assigned-expression, named-state, condition, sequence-a-below, sequence-b-below, branch-b-below, branch-c-below, lower-command, expression-at, expression-place-inside, expression-kind-is, read-is, first-is, second-is, expression-holds, operation, operand-a-below, operand-b-below, lower-expression}
 use Rattle.checker_bodies.specs.Places.{foundAmong}
-use Rattle.checker_bodies.proofs.PlaceRules.{found-at, found-nowhere, found-lower, below-or-not}
-use Rattle.checker_scopes.specs.Scoping.{nodePlaces, nodeUnless, namesPast, ReadsAt, ScopedAt, StateScopedAt, Arguing, Counting, Reading, Scoping}
+use Rattle.checker_bodies.proofs.PlaceRules.{place-found, place-append, place-charged}
+use Rattle.checker_scopes.specs.Scoping.{nodePlaces, nodePlaceOf, nodeUnless, namesPast, Arguing, Counting, Reading, Scoping}
 
 -- ---- places of nodes
-no-node : foundAmong nodePlaces nodePlaces ≡ Nowhere
-no-node = found-nowhere {commands = nodePlaces} {place = nodePlaces} (omega arith)
+-- the lowest of expression e, past an end, and of command n of state s
+abbrev readPlace : Table → ℕ → ℕ → ℕ
+readPlace d end e = nodePlaceOf (lowestOf (namesPast end (exprOf d e)))
 
-node-charged : {place : ℕ} (b : Bool) → place < nodePlaces → foundAmong nodePlaces (nodeUnless b place) ≡ lowestOf (chargedUnless b place)
-unfolding lowestOf
-node-charged true l = no-node
-node-charged false l = found-at l
+abbrev commandPlace : Table → ℕ → ℕ → ℕ
+commandPlace d s n = nodePlaceOf (lowestOf (scopeFaults d s (cmdOf d n)))
 
 -- the lowest of two lists
-both-lowest : (p q : ℕ) (xs ys : List ℕ) → foundAmong nodePlaces p ≡ lowestOf xs → foundAmong nodePlaces q ≡ lowestOf ys → foundAmong nodePlaces (min p q) ≡ lowestOf (xs ++ ys)
-both-lowest p q xs ys e h = found-lower nodePlaces p q ∙ rw (e, h) (sym (lowest-append xs ys))
+both-lowest : {p q r : ℕ} (xs ys : List ℕ) → Below nodePlaces xs → Below nodePlaces ys → p ≡ nodePlaceOf (lowestOf xs) → q ≡ nodePlaceOf (lowestOf ys) → r ≡ min p q → r ≡ nodePlaceOf (lowestOf (xs ++ ys))
+both-lowest xs ys h k e f g = g ∙ rw (e, f) (place-append xs ys h k)
+
+expressions-few : {image : List ℕ} {x : Design} → Describes image x → length (designOf image .expressions) ≤ expressionsMax
+expressions-few d = let count = expressions-count d in let most = expressions-most d in omega arith
 
 -- ---- names of parameters
 -- those in scope have the bytes below the end
@@ -54,7 +59,11 @@ unfolding nameKept
 name-past d s r = same-tests (λ h. or-iff less-iff less-iff .1 (to (less-iff .0 h)), λ h. less-iff .1 (from (or-iff less-iff less-iff .0 h)))
   where
     to : r < 64 + length (scopeOf d s) → (r < 64) ⊎ (r - 64 < length (scopeOf d s))
-    to l = ⊎-elim (λ (a : r < 64). inl a) (λ (a : 64 ≤ r). inr (omega arith)) (below-or-not r 64)
+    to l = go (decLt r 64)
+      where
+        go : Dec (r < 64) → (r < 64) ⊎ (r - 64 < length (scopeOf d s))
+        go (yes a) = inl a
+        go (no a) = inr (omega arith)
 
     from : (r < 64) ⊎ (r - 64 < length (scopeOf d s)) → r < 64 + length (scopeOf d s)
     from (inl l) = omega arith
@@ -67,6 +76,12 @@ names-read d s (register n r) = rw (name-past d s r)
 names-read d s (binary o p q) = rw (names-read d s p, names-read d s q)
 
 -- ---- expressions
+names-below : (d : Table) (end : ℕ) → length (d .expressions) ≤ expressionsMax → (e : Expr) → ReadNumbered d e → Below nodePlaces (namesPast end e)
+unfolding namesPast
+names-below d end few (constant v) h = none
+names-below d end few (register n r) h = charged-below (ltb r end) (expressionPlace + n) (omega arith)
+names-below d end few (binary o p q) h = each-append (names-below d end few p (h .0)) (names-below d end few q (h .1))
+
 names-constant : (end v : ℕ) → lowestOf (namesPast end (constant v)) ≡ Nowhere
 unfolding namesPast lowestOf
 names-constant end v = refl
@@ -98,21 +113,15 @@ module _ {image : List ℕ} {place e : ℕ} (here : Reading image place e) where
   pub operand-b-reading : {k b : ℕ} → k < expressionKinds → 1 ≤ k → (k ≡ 1 → ⊥) → k ≡ nodeIn image place e .kind → b ≡ nodeIn image place e .b → Reading image place b
   operand-b-reading {b = b} u l other p f = lower-reading b (operand-b-below (here .expression) u l other p f)
 
-  pub reads-register : {k r end p : ℕ} → k ≡ 1 → k ≡ nodeIn image place e .kind → r ≡ nodeIn image place e .item → p ≡ nodeUnless (ltb r end) (1024 + e) → ReadsAt (designOf image) end e p
+  pub reads-register : {k r p : ℕ} (end : ℕ) → k ≡ 1 → k ≡ nodeIn image place e .kind → r ≡ nodeIn image place e .item → p ≡ nodeUnless (ltb r end) (1024 + e) → p ≡ readPlace (designOf image) end e
   unfolding expressionKind
-  reads-register {r = r} {end = end} q k f g =
+  reads-register {r = r} end q k f g =
       let d = designOf image in
-      let few = few-expressions in
       let tree = expr-register d e (ap expressionKind (expression-kind-is (here .expression) k ∙ q)) in
-      record {
-        says =
-            ap (foundAmong nodePlaces) g
-            ∙ node-charged (ltb r end) (omega arith)
-            ∙ rw (tree, names-register end e (expressionAt d e .item), read-is (here .expression) f);
-      }
+      g ∙ rw (read-is (here .expression) f, tree, names-register end e (expressionAt d e .item)) (place-charged nodePlaces (ltb (expressionAt d e .item) end) (1024 + e))
 
   pub reads-operation :
-      {k a b end r : ℕ} (p q : ℕ)
+      {k a b r : ℕ} (end p q : ℕ)
       → k < expressionKinds
       → 1 ≤ k
       → (k ≡ 1 → ⊥)
@@ -120,10 +129,10 @@ module _ {image : List ℕ} {place e : ℕ} (here : Reading image place e) where
       → a ≡ nodeIn image place e .a
       → b ≡ nodeIn image place e .b
       → r ≡ min p q
-      → ReadsAt (designOf image) end a p
-      → ReadsAt (designOf image) end b q
-      → ReadsAt (designOf image) end e r
-  reads-operation {a = a} {b = b} {end = end} p q u l other k f g h first second =
+      → p ≡ readPlace (designOf image) end a
+      → q ≡ readPlace (designOf image) end b
+      → r ≡ readPlace (designOf image) end e
+  reads-operation {a = a} {b = b} end p q u l other k f g h first second =
       let d = designOf image in
       let o = operation (here .expression) u l other k in
       let left : a ≡ expressionAt d e .a = first-is (here .expression) f in
@@ -131,22 +140,21 @@ module _ {image : List ℕ} {place e : ℕ} (here : Reading image place e) where
       let lower = rw left at (operand-a-below (here .expression) u l other k f) in
       let lower′ = rw right at (operand-b-below (here .expression) u l other k g) in
       let tree = expr-binary d e (o .1) lower lower′ in
-      record {
-        says =
-            ap (foundAmong nodePlaces) h
-            ∙ rw (tree, names-binary end (o .0) (exprOf d (expressionAt d e .a)) (exprOf d (expressionAt d e .b)))
-            (both-lowest p q (namesPast end (exprOf d (expressionAt d e .a))) (namesPast end (exprOf d (expressionAt d e .b))) (rw left at (first .says)) (rw right at (second .says)));
-      }
+      let part = expressionAt d e .a in
+      let part′ = expressionAt d e .b in
+      let few = expressions-few (here .expression .describes) in
+      rw (tree, names-binary end (o .0) (exprOf d part) (exprOf d part′))
+      (both-lowest (namesPast end (exprOf d part)) (namesPast end (exprOf d part′)) (names-below d end few (exprOf d part) (expr-numbered d part)) (names-below d end few (exprOf d part′) (expr-numbered d part′)) (rw left at first) (rw right at second) h)
 
-  pub reads-low : {k end : ℕ} → k < 1 → k ≡ nodeIn image place e .kind → ReadsAt (designOf image) end e 3072
-  reads-low {end = end} l k =
+  pub reads-low : {k : ℕ} (end : ℕ) → k < 1 → k ≡ nodeIn image place e .kind → 3072 ≡ readPlace (designOf image) end e
+  reads-low end l k =
       let d = designOf image in
       let none = expression-kind-is (here .expression) k in
-      record { says = no-node ∙ sym (rw (expr-constant d e (kind-constants (omega arith))) (names-constant end _)) }
+      rw (expr-constant d e (kind-constants (omega arith)), names-constant end (constantOf (expressionAt d e)))
 
   -- no number from here on is a kind
-  pub reads-high : {k end : ℕ} → expressionKinds ≤ k → k ≡ nodeIn image place e .kind → ReadsAt (designOf image) end e 3072
-  reads-high l k = absurd (rw (no-expression-kind l) at (expression-holds (here .expression) k))
+  pub reads-high : {k : ℕ} (end : ℕ) → expressionKinds ≤ k → k ≡ nodeIn image place e .kind → 3072 ≡ readPlace (designOf image) end e
+  reads-high end l k = absurd (rw (no-expression-kind l) at (expression-holds (here .expression) k))
 
 pub ruleset reads-laws = (reading-inside, read-place, reads-register, reads-operation, reads-low, reads-high)
 
@@ -188,16 +196,25 @@ plain-kind d n (suc (suc (suc (suc (suc zero))))) x a b c e h = absurd (e refl)
 plain-kind d n (suc (suc (suc (suc (suc (suc k)))))) x a b c e h = absurd h
 
 -- what was read, where so many are in scope of s
-read-lowest : {d : Table} (s : ℕ) {end e place : ℕ} → end ≡ 64 + length (scopeOf d s) → ReadsAt d end e place → foundAmong nodePlaces place ≡ lowestOf (readFaults d s (exprOf d e))
-read-lowest {d} s {end} {e} past read = read .says ∙ ap lowestOf (ap (λ (k : ℕ). namesPast k (exprOf d e)) past ∙ names-read d s (exprOf d e))
+read-lowest : {end place : ℕ} (d : Table) (s e : ℕ) → end ≡ 64 + length (scopeOf d s) → place ≡ readPlace d end e → place ≡ nodePlaceOf (lowestOf (readFaults d s (exprOf d e)))
+read-lowest d s e past read = read ∙ ap (λ (xs : List ℕ). nodePlaceOf (lowestOf xs)) (ap (λ (k : ℕ). namesPast k (exprOf d e)) past ∙ names-read d s (exprOf d e))
 
 -- ---- a command by its kind
 module _ {image scopes : List ℕ} {registersAt statesAt place expressionsAt s n : ℕ} (j : Scoping image scopes registersAt statesAt place expressionsAt s n) where
   pub scoping-inside : nodeEnd place n ≤ length image
   scoping-inside = command-place-inside (j .command)
 
-  few-commands : n < nodePlaces
-  few-commands = let node = j .command .node in let most = commands-most (j .command .describes) in omega arith
+  -- what it and its parts are charged with are places of nodes
+  own-below : (kept : Bool) → Below nodePlaces (chargedUnless kept n)
+  own-below kept = let node = j .command .node in let most = commands-most (j .command .describes) in charged-below kept n (omega arith)
+
+  part-below : (m : ℕ) → Below nodePlaces (scopeFaults (designOf image) s (cmdOf (designOf image) m))
+  part-below m = scope-below (designOf image) (commands-few (j .command .describes)) (expressions-few (j .command .describes)) s (cmdOf (designOf image) m) (cmd-numbered (designOf image) m)
+
+  value-below : (e : ℕ) → Below nodePlaces (readFaults (designOf image) s (exprOf (designOf image) e))
+  value-below e =
+      let d = designOf image in
+      rw (← names-read d s (exprOf d e)) (names-below d (64 + length (scopeOf d s)) (expressions-few (j .command .describes)) (exprOf d e) (expr-numbered d e))
 
   pub scoping-arguing : Arguing image scopes registersAt statesAt s
   scoping-arguing = j .arguing
@@ -242,27 +259,25 @@ module _ {image scopes : List ℕ} {registersAt statesAt place expressionsAt s n
 
   -- ---- what the command comes to
   pub scoped-assign :
-      {k r e own registers end x : ℕ} (read : ℕ)
+      {k r e own registers x : ℕ} (end read : ℕ)
       → k ≡ 1
       → k ≡ nodeIn image place n .kind
       → r ≡ nodeIn image place n .item
       → e ≡ nodeIn image place n .a
       → Counting image registers s end
       → own ≡ nodeUnless (ltb r end) n
-      → ReadsAt (designOf image) end e read
+      → read ≡ readPlace (designOf image) end e
       → x ≡ min own read
-      → ScopedAt (designOf image) s n x
+      → x ≡ commandPlace (designOf image) s n
   unfolding commandKind
-  scoped-assign {r = r} {e = e} {own = own} {end = end} read q k f g counted h reads x-is =
+  scoped-assign {r = r} {e = e} end read q k f g counted h reads x-is =
       let d = designOf image in
       let tree = cmd-assign d n (command-kind-of (j .command) assigns q k refl) in
-      let named : foundAmong nodePlaces own ≡ lowestOf (chargedUnless (nameKept d s r) n) = ap (foundAmong nodePlaces) h ∙ node-charged (ltb r end) few-commands ∙ ap (λ (b : Bool). lowestOf (chargedUnless b n)) (ap (ltb r) (counted .past) ∙ name-past d s r) in
-      record {
-        says =
-            ap (foundAmong nodePlaces) x-is
-            ∙ rw (tree, assign-tree d s n (commandAt d n .item) (exprOf d (commandAt d n .a)))
-            (both-lowest own read (chargedUnless (nameKept d s (commandAt d n .item)) n) (readFaults d s (exprOf d (commandAt d n .a))) (rw (item-is (j .command) f) at named) (rw (a-is (j .command) g) at (read-lowest s (counted .past) reads)));
-      }
+      let item = commandAt d n .item in
+      let value = commandAt d n .a in
+      let kept : ltb r end ≡ nameKept d s item = ap (ltb r) (counted .past) ∙ name-past d s r ∙ ap (nameKept d s) (item-is (j .command) f) in
+      rw (tree, assign-tree d s n item (exprOf d value))
+      (both-lowest (chargedUnless (nameKept d s item) n) (readFaults d s (exprOf d value)) (own-below (nameKept d s item)) (value-below value) (h ∙ rw kept (place-charged nodePlaces (nameKept d s item) n)) (read-lowest d s value (counted .past) (rw (a-is (j .command) g) at reads)) x-is)
 
   pub scoped-sequence :
       {k a b x : ℕ} (p q : ℕ)
@@ -271,19 +286,17 @@ module _ {image scopes : List ℕ} {registersAt statesAt place expressionsAt s n
       → a ≡ nodeIn image place n .a
       → b ≡ nodeIn image place n .b
       → x ≡ min p q
-      → ScopedAt (designOf image) s a p
-      → ScopedAt (designOf image) s b q
-      → ScopedAt (designOf image) s n x
+      → p ≡ commandPlace (designOf image) s a
+      → q ≡ commandPlace (designOf image) s b
+      → x ≡ commandPlace (designOf image) s n
   unfolding commandKind
   scoped-sequence p q f e ea eb ex first second =
       let d = designOf image in
       let tree = cmd-sequence d n (command-kind-of (j .command) sequences f e refl) (command-holds (j .command) f e .1) (command-holds (j .command) f e .2) in
-      record {
-        says =
-            ap (foundAmong nodePlaces) ex
-            ∙ rw (tree, sequence-tree d s n (cmdOf d (commandAt d n .a)) (cmdOf d (commandAt d n .b)))
-            (both-lowest p q (scopeFaults d s (cmdOf d (commandAt d n .a))) (scopeFaults d s (cmdOf d (commandAt d n .b))) (rw (a-is (j .command) ea) at (first .says)) (rw (b-is (j .command) eb) at (second .says)));
-      }
+      let part = commandAt d n .a in
+      let part′ = commandAt d n .b in
+      rw (tree, sequence-tree d s n (cmdOf d part) (cmdOf d part′))
+      (both-lowest (scopeFaults d s (cmdOf d part)) (scopeFaults d s (cmdOf d part′)) (part-below part) (part-below part′) (rw (a-is (j .command) ea) at first) (rw (b-is (j .command) eb) at second) ex)
 
   pub scoped-goto :
       {k t a b x : ℕ} {kept : Bool}
@@ -294,57 +307,48 @@ module _ {image scopes : List ℕ} {registersAt statesAt place expressionsAt s n
       → b ≡ nodeIn image place n .b
       → kept ≡ argumentsKept (designOf image) s t a b
       → x ≡ nodeUnless kept n
-      → ScopedAt (designOf image) s n x
+      → x ≡ commandPlace (designOf image) s n
   unfolding commandKind
   scoped-goto {t = t} {a = a} {b = b} {kept = kept} f e et ea eb ek ex =
       let d = designOf image in
+      let y = commandAt d n in
       let tree = cmd-goto d n (command-kind-of (j .command) goes f e refl) in
-      let told : lowestOf (chargedUnless kept n) ≡ lowestOf (chargedUnless (argumentsKept d s t a b) n) = ap (λ (y : Bool). lowestOf (chargedUnless y n)) ek in
-      record {
-        says =
-            ap (foundAmong nodePlaces) ex
-            ∙ node-charged kept few-commands
-            ∙ rw (tree, goto-tree d s n (commandAt d n .item) (commandAt d n .a) (commandAt d n .b), ← (item-is (j .command) et), ← (a-is (j .command) ea), ← (b-is (j .command) eb)) told;
-      }
+      ex
+      ∙ rw (ek, item-is (j .command) et, a-is (j .command) ea, b-is (j .command) eb, tree, goto-tree d s n (y .item) (y .a) (y .b))
+      (place-charged nodePlaces (argumentsKept d s (y .item) (y .a) (y .b)) n)
 
   pub scoped-branch :
-      {k e b c parts registers end x : ℕ} (read p q : ℕ)
+      {k e b c parts registers x : ℕ} (end read p q : ℕ)
       → k ≡ 5
       → x ≡ min read parts
       → parts ≡ min p q
-      → ReadsAt (designOf image) end e read
-      → ScopedAt (designOf image) s b p
-      → ScopedAt (designOf image) s c q
+      → read ≡ readPlace (designOf image) end e
+      → p ≡ commandPlace (designOf image) s b
+      → q ≡ commandPlace (designOf image) s c
       → e ≡ nodeIn image place n .a
       → b ≡ nodeIn image place n .b
       → c ≡ nodeIn image place n .c
       → k ≡ nodeIn image place n .kind
       → Counting image registers s end
-      → ScopedAt (designOf image) s n x
+      → x ≡ commandPlace (designOf image) s n
   unfolding commandKind
-  scoped-branch read p q f ex ep reads first second ee eb ec k counted =
+  scoped-branch end read p q f ex ep reads first second ee eb ec k counted =
       let d = designOf image in
       let tree = cmd-branch d n (command-kind-of (j .command) branches f k refl) (command-holds (j .command) f k .2) (command-holds (j .command) f k .3) in
-      let parts = both-lowest p q (scopeFaults d s (cmdOf d (commandAt d n .b))) (scopeFaults d s (cmdOf d (commandAt d n .c))) (rw (b-is (j .command) eb) at (first .says)) (rw (c-is (j .command) ec) at (second .says)) in
-      record {
-        says =
-            ap (foundAmong nodePlaces) (ex ∙ ap (min read) ep)
-            ∙ rw (tree, branch-tree d s n (exprOf d (commandAt d n .a)) (cmdOf d (commandAt d n .b)) (cmdOf d (commandAt d n .c)))
-            (both-lowest read (min p q) (readFaults d s (exprOf d (commandAt d n .a))) (scopeFaults d s (cmdOf d (commandAt d n .b)) ++ scopeFaults d s (cmdOf d (commandAt d n .c))) (rw (a-is (j .command) ee) at (read-lowest s (counted .past) reads)) parts);
-      }
+      let value = commandAt d n .a in
+      let part = commandAt d n .b in
+      let part′ = commandAt d n .c in
+      let both = both-lowest (scopeFaults d s (cmdOf d part)) (scopeFaults d s (cmdOf d part′)) (part-below part) (part-below part′) (rw (b-is (j .command) eb) at first) (rw (c-is (j .command) ec) at second) ep in
+      rw (tree, branch-tree d s n (exprOf d value) (cmdOf d part) (cmdOf d part′))
+      (both-lowest (readFaults d s (exprOf d value)) (scopeFaults d s (cmdOf d part) ++ scopeFaults d s (cmdOf d part′)) (value-below value) (each-append (part-below part) (part-below part′)) (read-lowest d s value (counted .past) (rw (a-is (j .command) ee) at reads)) both ex)
 
-  pub scoped-plain : {k : ℕ} → k ≡ nodeIn image place n .kind → (k ≡ 1 → ⊥) → (k ≡ 2 → ⊥) → (k ≡ 4 → ⊥) → (k ≡ 5 → ⊥) → ScopedAt (designOf image) s n 3072
+  pub scoped-plain : {k : ℕ} → k ≡ nodeIn image place n .kind → (k ≡ 1 → ⊥) → (k ≡ 2 → ⊥) → (k ≡ 4 → ⊥) → (k ≡ 5 → ⊥) → 3072 ≡ commandPlace (designOf image) s n
   scoped-plain {k} e a b c f =
       let d = designOf image in
-      record {
-        says =
-            no-node
-            ∙ sym
-            (⊎-elim
-            (λ (h : commandKind k ≡ skips). rw (cmd-skip d n (command-kind-of (j .command) skips refl e h)) (skip-tree d s n))
-            (λ (h : commandKind k ≡ falls). rw (cmd-fall d n (command-kind-of (j .command) falls refl e h)) (fall-tree d s n))
-            (plain-kind d n k (commandAt d n) a b c f (command-holds (j .command) refl e)));
-      }
+      ⊎-elim
+      (λ (h : commandKind k ≡ skips). rw (cmd-skip d n (command-kind-of (j .command) skips refl e h), skip-tree d s n))
+      (λ (h : commandKind k ≡ falls). rw (cmd-fall d n (command-kind-of (j .command) falls refl e h), fall-tree d s n))
+      (plain-kind d n k (commandAt d n) a b c f (command-holds (j .command) refl e))
 
 pub ruleset scoped-laws = (scoping-inside, scoping-arguing, assigned-reading, condition-reading, goto-state, scoped-assign, scoped-sequence, scoped-goto, scoped-branch, scoped-plain)
 
@@ -361,22 +365,29 @@ module _ {image : List ℕ} {x : Design} (known : RecordsKept image x) where
   pub body-counting : {s count : ℕ} → count ≡ length (scopeOf (designOf image) s) → Counting image (x .registers) s (64 + count)
   body-counting e = record { all = registers-count (known .describes); past = ap (λ (k : ℕ). 64 + k) e }
 
-  pub state-scope-rule : {s n place : ℕ} → s < x .states → n ≡ stateIn image (x .«states_at») s .command → ScopedAt (designOf image) s n place → StateScopedAt (designOf image) s place
+  pub state-scope-rule : {s place : ℕ} (n : ℕ) → s < x .states → n ≡ stateIn image (x .«states_at») s .command → place ≡ commandPlace (designOf image) s n → place ≡ nodePlaceOf (lowestOf (stateScopeFaults (designOf image) s))
   unfolding stateScopeFaults bodyOf
-  state-scope-rule {s} l e scoped = record { says = rw (body-is (known .describes) l e) at (scoped .says) }
+  state-scope-rule n l e scoped = rw (body-is (known .describes) l e) at scoped
+
+  state-low : (s : ℕ) → Below nodePlaces (stateScopeFaults (designOf image) s)
+  state-low s = state-scope-below (designOf image) (commands-few (known .describes)) (expressions-few (known .describes)) s
+
+  all-low : (n : ℕ) → Below nodePlaces (joinBelow (stateScopeFaults (designOf image)) n)
+  all-low n = each-join (stateScopeFaults (designOf image)) n (λ s l. state-low s)
 
 -- the lowest fault of the states before s, as a place
 pub record ScopedSo (d : Table) (s place : ℕ) : Type 0 where
-  pub is : foundAmong nodePlaces place ≡ lowestOf (joinBelow (stateScopeFaults d) s)
+  pub is : place ≡ nodePlaceOf (lowestOf (joinBelow (stateScopeFaults d) s))
 
 pub scoped-none-yet : {d : Table} → ScopedSo d 0 3072
 unfolding joinBelow lowestOf
-scoped-none-yet = record { is = no-node }
+scoped-none-yet = record { is = refl }
 
-pub scoped-one-more : {d : Table} {s so r : ℕ} (here : ℕ) → ScopedSo d s so → StateScopedAt d s here → r ≡ min so here → ScopedSo d (s + 1) r
+pub scoped-one-more : {image : List ℕ} {x : Design} {s so r : ℕ} (here : ℕ) → RecordsKept image x → ScopedSo (designOf image) s so → here ≡ nodePlaceOf (lowestOf (stateScopeFaults (designOf image) s)) → r ≡ min so here → ScopedSo (designOf image) (s + 1) r
 unfolding joinBelow
-scoped-one-more {d} {s} {so} {r} here before scoped h =
-    record { is = ap (foundAmong nodePlaces) h ∙ rw (add-one s) (both-lowest so here (joinBelow (stateScopeFaults d) s) (stateScopeFaults d s) (before .is) (scoped .says)) }
+scoped-one-more {image} {s = s} here known before scoped h =
+    let faults = stateScopeFaults (designOf image) in
+    record { is = rw (add-one s) (both-lowest (joinBelow faults s) (faults s) (all-low known s) (state-low known s) (before .is) scoped h) }
 
 pub scopes-found :
     {image : List ℕ} {x : Design} {s place : ℕ} {f : Found}
@@ -390,7 +401,8 @@ unfolding scopeFault
 scopes-found {image} {x} {s} known so l m e =
     let count = states-count (known .describes) in
     let end : s ≡ length (designOf image .states) = omega arith in
-    e ∙ so .is ∙ ap (λ (n : ℕ). lowestOf (joinBelow (stateScopeFaults (designOf image)) n)) end
+    let all = length (designOf image .states) in
+    e ∙ rw (so .is, end) (place-found (lowestOf (joinBelow (stateScopeFaults (designOf image)) all)) (omega arith) (lowest-below nodePlaces (all-low known all)))
 
 pub ruleset state-scope-laws = (body-scoping, body-counting, state-scope-rule)
 

@@ -5,22 +5,26 @@ use mathlib.Core.Bool.{Bool, true, _&&_, _||_, not, cond}
 use mathlib.Core.List.{List, [], _++_}
 use lib.Dec.{ltb, eqb}
 use lib.ListN.{length}
+use Rattle.model.specs.declared.Found.{Found}
 use Rattle.model.specs.Limits.{expressionPlace, expressionsMax, parameterRegister, bindingLength}
 use Rattle.model.specs.Image.{Design as Table, designOf}
-use Rattle.model.specs.Indices.{lowestOf}
-use Rattle.model.specs.Trees.{Expr, constant, register, binary, exprOf, cmdOf}
+use Rattle.model.specs.States.{foundOr}
+use Rattle.model.specs.Trees.{Expr, constant, register, binary}
 use Rattle.model.specs.Shape.{chargedUnless}
 use Rattle.model.specs.Parameters.{scopeOf, lowerBound, upperBound}
-use Rattle.model.specs.Scopes.{isArgument, scopeFaults, stateScopeFaults}
+use Rattle.model.specs.Scopes.{isArgument}
 use Rattle.design.specs.declared.Design.{Design}
 use Rattle.design.specs.Kept.{ExpressionsKept, ParametersKept, RecordsKept}
 use Rattle.design.specs.RecordsAt.{StateAt, CommandAt, ExpressionAt}
 use Rattle.design.specs.Scopes.{Scopes}
-use Rattle.checker_bodies.specs.Places.{foundAmong}
 
 -- past every command and every expression
 abbrev pub nodePlaces : ℕ
 nodePlaces = expressionPlace + expressionsMax
+
+-- what was found, as a place
+abbrev pub nodePlaceOf : Found → ℕ
+nodePlaceOf found = foundOr nodePlaces found
 
 abbrev pub nodeUnless : Bool → ℕ → ℕ
 nodeUnless kept place = cond kept nodePlaces place
@@ -30,17 +34,6 @@ unfoldable pub namesPast : ℕ → Expr → List ℕ
 namesPast end (constant v) = []
 namesPast end (register n r) = chargedUnless (ltb r end) (expressionPlace + n)
 namesPast end (binary o p q) = namesPast end p ++ namesPast end q
-
--- a place that says the lowest of them in expression e, and the lowest fault of command n of state s
-pub record ReadsAt (d : Table) (end e place : ℕ) : Type 0 where
-  pub says : foundAmong nodePlaces place ≡ lowestOf (namesPast end (exprOf d e))
-
-pub record ScopedAt (d : Table) (s n place : ℕ) : Type 0 where
-  pub says : foundAmong nodePlaces place ≡ lowestOf (scopeFaults d s (cmdOf d n))
-
--- and that of the whole body of state s
-pub record StateScopedAt (d : Table) (s place : ℕ) : Type 0 where
-  pub says : foundAmong nodePlaces place ≡ lowestOf (stateScopeFaults d s)
 
 -- ---- where the recursion has the places of a design instead of the design
 -- a bound of parameter v is asked for

@@ -15,12 +15,14 @@ ghost use mathlib.Core.Bool.{_&&_, _||_};
 ghost use lib.Dec.{leb, ltb};
 ghost use lib.ListN.{length};
 ghost use Rattle.model.specs.Limits.{parameterRegister, bindingLength};
+ghost use Rattle.model.specs.Indices.{lowestOf};
 ghost use Rattle.model.specs.Image.{designOf};
+ghost use Rattle.model.specs.Trees.{exprOf, cmdOf};
 ghost use Rattle.model.specs.Parameters.{lowerBound, upperBound, labelByte, leastLabel, mostLabel};
-ghost use Rattle.model.specs.Scopes.{argumentKept, fieldKept, argumentsKept, scopeFault};
+ghost use Rattle.model.specs.Scopes.{argumentKept, fieldKept, argumentsKept, scopeFaults, stateScopeFaults, scopeFault};
 ghost use Rattle.design.specs.Kept.{RecordsKept, ParametersKept};
 ghost use Rattle.design.specs.Scopes.{Scopes};
-ghost use Rattle.checker_scopes.specs.Scoping.{nodeUnless, Bounding, Given, Argument, Arguing, Counting, Reading, Scoping, ReadsAt, ScopedAt, StateScopedAt};
+ghost use Rattle.checker_scopes.specs.Scoping.{nodePlaceOf, nodeUnless, namesPast, Bounding, Given, Argument, Arguing, Counting, Reading, Scoping};
 
 // No place: it is past every command and every expression.
 const NODES: usize = Design::EXPRESSION_PLACE + Design::EXPRESSIONS;
@@ -210,7 +212,7 @@ fn node_unless(kept: bool, place: usize) -> usize
 // byte that names none.
 fn reads(image: &[u8], expressions_at: usize, end: usize, e: usize) -> usize
     requires { ⌜ Reading (now image) «expressions_at» e ⌝ }
-    ensures { λ p. ⌜ ReadsAt (designOf (now (image .entry))) end e p ⌝ }
+    ensures { λ p. ⌜ p ≡ nodePlaceOf (lowestOf (namesPast end (exprOf (designOf (now (image .entry))) e))) ⌝ }
 {
     let kind = Design::kind(image, expressions_at, e);
     match kind {
@@ -243,7 +245,7 @@ fn scoped(
     n: usize,
 ) -> usize
     requires { ⌜ Scoping (now image) (now scopes) «registers_at» «states_at» «commands_at» «expressions_at» s n × Counting (now image) registers s end ⌝ }
-    ensures { λ p. ⌜ ScopedAt (designOf (now (image .entry))) s n p ⌝ }
+    ensures { λ p. ⌜ p ≡ nodePlaceOf (lowestOf (scopeFaults (designOf (now (image .entry))) s (cmdOf (designOf (now (image .entry))) n))) ⌝ }
 {
     let kind = Design::kind(image, commands_at, n);
     match kind {
@@ -339,7 +341,7 @@ fn scoped(
 // The lowest place of the body of state s.
 fn state_scope(image: &[u8], design: Design, scopes: &[u8], s: usize) -> usize
     requires { ⌜ RecordsKept (now image) design × ParametersKept (designOf (now image)) × Scopes (designOf (now image)) (now scopes) × (s < design .states) ⌝ }
-    ensures { λ p. ⌜ StateScopedAt (designOf (now (image .entry))) s p ⌝ }
+    ensures { λ p. ⌜ p ≡ nodePlaceOf (lowestOf (stateScopeFaults (designOf (now (image .entry))) s)) ⌝ }
 {
     let n = Design::state_command(image, design.states_at, s);
     let count = count(image, design, scopes, s);

@@ -1,6 +1,6 @@
 use Rattle.design.proofs.ResetRules.{states-few, fresh-defaults}
 use Rattle.checker.specs.Stages.{fromShape}
-use Rattle.checker.proofs.StageRules.{stage-refuses, stage-passes, shape-known, children-told}
+use Rattle.checker.proofs.StageRules.{stage-refuses, stage-passes, shape-known, falls-told}
 use borrow.Author.Needs.{needs}
 use Rattle.checker.proofs.from_shape.Statement.{statement}
 use Rattle.checker.proofs.from_shape.Tie as tie
@@ -38,7 +38,7 @@ slice-aggregate-from-names-2 : tie.Need-slice-aggregate-from-names-2
 slice-aggregate-from-names-2 c = search needs
 
 from-names-requires : tie.Need-from-names-requires
-from-names-requires c κs = (search needs, search children-told)
+from-names-requires c κs = (search needs, record { targets = search fresh-defaults; held = search falls-told })
 
 returns : tie.Need-returns
 unfolding fromShape

@@ -1,7 +1,7 @@
 use Prim.Native.Nat.{_-_, _≤_}
 use borrow.Author.Needs.{needs}
 use Rattle.model.specs.Image.{designOf}
-use Rattle.checker_bodies.proofs.ShapeRules.{LowestSo, FallsSo, shapes-laws}
+use Rattle.checker_bodies.proofs.ShapeRules.{LowestSo, FallsSo, lowest-one-more, falls-one-more, shapes-laws}
 use Rattle.checker_bodies.proofs.shape.shapes.Statement.{statement}
 use Rattle.checker_bodies.proofs.shape.shapes.Tie as tie
 use Rattle.checker_bodies.proofs.shape.shapes.Reads as reads
@@ -47,7 +47,7 @@ loop-less : tie.Need-loop-less Inv-loop μ-loop
 loop-less c = search needs
 
 loop-again : tie.Need-loop-again Inv-loop μ-loop
-loop-again c = search (shapes-laws, needs)
+loop-again c = (search (lowest-one-more, needs), search (falls-one-more, needs), search needs)
 
 found-requires : tie.Need-found-requires Inv-loop μ-loop
 found-requires c κs = search needs
