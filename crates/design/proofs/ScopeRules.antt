@@ -5,10 +5,10 @@ use mathlib.Core.Bool.{Bool, true, false, not}
 use mathlib.Core.List.{List, [], _++_}
 use native.Mathlib.Omega.{arith}
 use native.Mathlib.Numerals.{add-one}
-use native.Mathlib.Decide.{ℕ-discrete}
+use native.Mathlib.Decide.{ℕ-discrete, decLt}
 use lib.Dec.{eqb}
 use lib.ListN.{length, getD, set, length-set, length-append, List·getD-append, List·getD-eq-default, replicate, length-replicate, getD-replicate}
-use lib.Seq.{getD-set-same, getD-set-other}
+use lib.Seq.{getD-set-same, getD-set-other, set-getD}
 use borrow.Author.Tests.{eq-eqb, ne-eqb}
 use Rattle.model.specs.Image.{Design as Table, State, designOf, stateAt}
 use Rattle.model.specs.States.{parent}
@@ -308,6 +308,23 @@ empty-scopes {image} describes plain =
       first = λ s l. getD-replicate {A = ℕ} 192 (3 * s + 1) 0 0 (omega arith) ∙ sym (ap (λ (scope : List ℕ). getD scope 0 0) (none s));
       second = λ s l. getD-replicate {A = ℕ} 192 (3 * s + 2) 0 0 (omega arith) ∙ sym (ap (λ (scope : List ℕ). getD scope 1 0) (none s));
     }
+
+-- and the entries of the states leave a table of zeros as it is
+module _ {d : Table} (plain : NoParameters d) where
+  zero-stays : (k : ℕ) → set (replicate {A = ℕ} 192 0) k 0 ≡ replicate 192 0
+  zero-stays k = ap (set (replicate {A = ℕ} 192 0) k) (sym (zero-at (decLt k 192))) ∙ set-getD (replicate {A = ℕ} 192 0) k 0
+    where
+      zero-at : Dec (k < 192) → getD (replicate {A = ℕ} 192 0) k 0 ≡ 0
+      zero-at (yes l) = getD-replicate {A = ℕ} 192 k 0 0 l
+      zero-at (no l) = let long = length-replicate {A = ℕ} 192 0 in List·getD-eq-default (replicate {A = ℕ} 192 0) 0 {n = k} (omega arith)
+
+  zeros-stay : (n : ℕ) → withScopes d n (replicate {A = ℕ} 192 0) ≡ replicate 192 0
+  unfolding withScopes withScope
+  zeros-stay zero = refl
+  zeros-stay (suc n) = rw (zeros-stay n, plain-scope d (plain .none) n, zero-stays (3 * n), zero-stays (3 * n + 1), zero-stays (3 * n + 2)) refl
+
+  pub scopes-stay : (n : ℕ) {table : List ℕ} → table ≡ replicate {A = ℕ} 192 0 → table ≡ withScopes d n table
+  scopes-stay n e = rw e (sym (zeros-stay n))
 
 pub no-parameters : {b : Bool} (d : Table) → b ≡ false → b ≡ hasParameters d → NoParameters d
 no-parameters d h e = record { none = plain-iff d .0 (rw (← e, h) refl) }
