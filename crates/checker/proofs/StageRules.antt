@@ -15,13 +15,13 @@ use Rattle.model.specs.declared.Refusal.{Refusal}
 use Rattle.model.specs.declared.Refusal.the-variants.{Directory}
 use Rattle.model.specs.declared.Answer.{Answer}
 use Rattle.model.specs.declared.Answer.the-variants.{Accepted, Refused}
-use Rattle.model.specs.Indices.{lowestFailing, joinBelow}
+use Rattle.model.specs.Indices.{lowestFailing, passed, joinBelow}
 use Rattle.model.specs.Limits.{expressionsMax}
 use Rattle.model.specs.Image.{Design as Table, directoryKept, designOf}
 use Rattle.model.specs.Lattice.{labelKept}
 use Rattle.model.specs.States.{registerKept, stateKept}
 use Rattle.model.specs.Kinds.{commandKept, expressionKept}
-use Rattle.model.specs.Nodes.{commandOf}
+use Rattle.model.specs.Nodes.{commandOf, valuesOf}
 use Rattle.model.specs.Flow.{flowAnswer}
 use Rattle.model.specs.Rules.{DirectoryKeeps}
 use Rattle.model.specs.Verdict.{_before_, refusedAt, commandsFirst, lowestNode, designStructure, structure, verdict}
@@ -40,11 +40,12 @@ use Rattle.checker_nodes.proofs.CountRules.{count-append}
 use Rattle.checker_nodes.proofs.UseRules.{command-uses-told, expression-uses-told}
 use Rattle.checker_nodes.proofs.DepthRules.{command-depths-told, expression-depths-told}
 use Rattle.design.specs.Falls.{FallsTold}
-use Rattle.design.proofs.ResetRules.{states-few}
+use Rattle.design.proofs.ResetRules.{states-few, filled-whole}
 use Rattle.checker_records.specs.ParameterTests.{ParametersPassed}
 use Rattle.checker_bodies.specs.Shapes.{ShapeKnown, ShapesPassed}
 use Rattle.checker_scopes.specs.Plain.{plainDesign}
 use Rattle.checker_scopes.proofs.PlainRules.{plain-ports, plain-parameters, plain-scopes}
+use Rattle.checker.specs.Nodes.{nodeTables, nodesLeft}
 use Rattle.checker.specs.Stages.{fewNodes, fromChildren, fromScopes, fromParameters, fromPorts, fromShape, fromDepths, fromUses, fromNodes, fromStates, fromRegisters, fromLabels}
 
 -- ---- a pass, and all that follow
@@ -132,6 +133,29 @@ nodes-passed {image} {f = f} {g = g} first expressions commands fresh bodies des
       found = both-families d (commandKept d) (expressionKept d) (commands .found) (expressions .found) first;
       told = λ h. let none = node-none f g (sym first ∙ h) in nodes-told (rw (none .0) at commands) (rw (none .1) at expressions) bodies fresh describes;
     }
+
+-- what they leave in their tables
+pub nodes-left :
+    {d : Table} {t u s v w p a q b : List ℕ} {f g : Found} (c : List ℕ)
+    → ExpressionsPassed d g v w q b
+    → CommandsPassed d f t u s v p a
+    → t ≡ countUses c (joinBelow (commandOf d) (length (d .states)))
+    → nodeTables u w a b ≡ nodesLeft d (nodeTables c s p q)
+unfolding nodesLeft
+nodes-left {d} {s = s} c expressions commands bodies =
+    rw (
+      count-append c (joinBelow (commandOf d) (length (d .states))),
+      ← bodies,
+      count-append s (joinBelow (valuesOf d) (passed (lowestFailing (commandKept d) (length (d .commands))) (length (d .commands)))),
+      ← (commands .found),
+      ← (expressions .found),
+      ← (commands .expressions-counted),
+      ← (commands .counted),
+      ← (expressions .counted),
+      ← filled-whole (commands .filled),
+      ← filled-whole (expressions .filled),
+    )
+    refl
 
 both-none : (d : Table) {f : Found} → f ≡ Nowhere → f ≡ lowestNode d (commandKept d) (expressionKept d) → (lowestFailing (commandKept d) (length (d .commands)) ≡ Nowhere) × (lowestFailing (expressionKept d) (length (d .expressions)) ≡ Nowhere)
 unfolding lowestNode

@@ -1,2 +1,3 @@
--- The verdict from each pass on.
+-- The verdict from each pass on, and the tables of the nodes.
 pub mod Stages
+pub mod Nodes

@@ -18,6 +18,7 @@ ghost use Rattle.design.specs.Describes.{Describes};
 ghost use Rattle.design.specs.Kept.{LatticeKept, RegistersKept, StatesKept, ParametersKept, RecordsKept};
 ghost use Rattle.design.specs.Scopes.{Scopes, NoParameters};
 ghost use Rattle.checker_nodes.specs.Tables.{NodesPassed, NodesFresh, OnceWhere, ShallowWhere, NodesTold};
+ghost use Rattle.checker.specs.Nodes.{nodeTables, nodesLeft};
 ghost use Rattle.checker.specs.Stages.{fewNodes, ChildrenTold, fromChildren, fromScopes, fromParameters, fromPorts, fromShape, fromDepths, fromUses, fromNodes, fromStates, fromRegisters, fromLabels};
 
 // The length of each table of uses or depths for a design with few nodes. To zero tables for as many as
@@ -51,7 +52,8 @@ fn node_records(
     requires { ⌜ Describes (now image) design
         × StatesKept (designOf (now image))
         × NodesFresh design (now «command_uses») (now «expression_uses») (now «command_depths») (now «expression_depths») ⌝ }
-    ensures { λ f. ⌜ NodesPassed (now (image .entry)) design f (now («command_uses» .exit)) (now («expression_uses» .exit)) (now («command_depths» .exit)) (now («expression_depths» .exit)) ⌝ }
+    ensures { λ f. ⌜ NodesPassed (now (image .entry)) design f (now («command_uses» .exit)) (now («expression_uses» .exit)) (now («command_depths» .exit)) (now («expression_depths» .exit))
+        × (nodeTables (now («command_uses» .exit)) (now («expression_uses» .exit)) (now («command_depths» .exit)) (now («expression_depths» .exit)) ≡ nodesLeft (designOf (now (image .entry))) (nodeTables (now («command_uses» .entry)) (now («expression_uses» .entry)) (now («command_depths» .entry)) (now («expression_depths» .entry)))) ⌝ }
 {
     checker_nodes::uses::use_bodies(command_uses, image, design);
     let command = checker_nodes::passes::commands(
@@ -235,7 +237,8 @@ fn from_tables(
 ) -> Answer
     requires { ⌜ Describes (now image) design × LatticeKept (designOf (now image)) × RegistersKept (designOf (now image)) × StatesKept (designOf (now image))
         × NodesFresh design (now «command_uses») (now «expression_uses») (now «command_depths») (now «expression_depths») ⌝ }
-    ensures { λ a. ⌜ a ≡ fromNodes (designOf (now (image .entry))) ⌝ }
+    ensures { λ a. ⌜ (a ≡ fromNodes (designOf (now (image .entry))))
+        × (nodeTables (now («command_uses» .exit)) (now («expression_uses» .exit)) (now («command_depths» .exit)) (now («expression_depths» .exit)) ≡ nodesLeft (designOf (now (image .entry))) (nodeTables (now («command_uses» .entry)) (now («expression_uses» .entry)) (now («command_depths» .entry)) (now («expression_depths» .entry)))) ⌝ }
 {
     let found = node_records(
         image,

@@ -30,7 +30,7 @@ same-length-4 c = search needs
 
 returns : tie.Need-returns
 unfolding fromNodes
-returns c = search (stage-refuses, stage-passes, needs)
+returns c = (search (stage-refuses, stage-passes, needs), search needs)
 
 same-length-5 : tie.Need-same-length-5
 same-length-5 c = search needs
@@ -46,7 +46,7 @@ same-length-8 c = search needs
 
 returns-2 : tie.Need-returns-2
 unfolding fromNodes
-returns-2 c = search (stage-refuses, stage-passes, needs)
+returns-2 c = (search (stage-refuses, stage-passes, needs), search needs)
 
 pub from-tables-spec : {M : Type 1} → statement M
 from-tables-spec =

@@ -1,5 +1,5 @@
 use Rattle.checker_nodes.proofs.CountRules.{counts-keep}
-use Rattle.checker.proofs.StageRules.{expression-small, nodes-passed}
+use Rattle.checker.proofs.StageRules.{expression-small, nodes-passed, nodes-left}
 use borrow.Author.Needs.{needs}
 use Rattle.checker.proofs.node_records.Statement.{statement}
 use Rattle.checker.proofs.node_records.Tie as tie
@@ -29,7 +29,7 @@ same-length-4 : tie.Need-same-length-4
 same-length-4 c = search needs
 
 returns : tie.Need-returns
-returns c = search nodes-passed
+returns c = (search nodes-passed, search nodes-left)
 
 pub node-records-spec : {M : Type 1} → statement M
 node-records-spec =
