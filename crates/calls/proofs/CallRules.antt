@@ -31,10 +31,10 @@ use Rattle.design.specs.Describes.{Describes}
 use Rattle.design.specs.Kept.{RecordsKept}
 use Rattle.design.specs.Words.{putWord}
 use Rattle.design.specs.Resets.{lends}
-use Rattle.design.specs.Scopes.{Scopes}
+use Rattle.design.specs.Scopes.{withScopes, Scopes}
 use Rattle.design.proofs.Laws.{registers-count, registers-most, states-count, register-inside, register-in}
 use Rattle.design.proofs.ResetRules.{states-few}
-use Rattle.design.proofs.ScopeRules.{empty-scopes, no-parameters}
+use Rattle.design.proofs.ScopeRules.{empty-scopes, scopes-stay, no-parameters}
 use Rattle.design.proofs.WordRules.{words-put, length-put}
 use Rattle.design.proofs.WidthRules.{width-is}
 use Rattle.running.specs.Stages.{leftAs, soundOn, runSound}
@@ -202,8 +202,12 @@ module _ {image table : List ℕ} {x : Design} (d : Describes image x) (fresh : 
   pub fresh-room : 3 * x .states ≤ length table
   fresh-room = let room = scopes-room d in let long = ap length fresh ∙ length-replicate {A = ℕ} 192 0 in omega arith
 
-  pub scopes-fresh : {b : Bool} → b ≡ hasParameters (designOf image) → not b ≡ true → Scopes (designOf image) table
-  scopes-fresh {b} is h = rw fresh (empty-scopes d (no-parameters (designOf image) (not-true b h) is))
+  module _ {b : Bool} (is : b ≡ hasParameters (designOf image)) (h : not b ≡ true) where
+    pub scopes-same : table ≡ withScopes (designOf image) (x .states) table
+    scopes-same = scopes-stay (no-parameters (designOf image) (not-true b h) is) (x .states) fresh
+
+    pub scopes-fresh : Scopes (designOf image) table
+    scopes-fresh = rw fresh (empty-scopes d (no-parameters (designOf image) (not-true b h) is))
 
 pub run-refuses : (d : Table) (registers targets : List ℕ) (n : ℕ) → lengthAnswer d (lends registers targets) ≡ Refused Area 0 → leftAs (Refused Area 0) registers targets ≡ runOn d (lends registers targets) n
 unfolding runOn _before_

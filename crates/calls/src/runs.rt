@@ -17,7 +17,7 @@ ghost use Rattle.model.specs.Image.{designOf};
 ghost use Rattle.model.specs.Rules.{Keeps};
 ghost use Rattle.design.specs.Describes.{Describes};
 ghost use Rattle.design.specs.Resets.{Defaults, lends};
-ghost use Rattle.design.specs.Scopes.{scopeLength, Scopes};
+ghost use Rattle.design.specs.Scopes.{scopeLength, withScopes, Scopes};
 ghost use Rattle.running.specs.Stages.{leftAs};
 ghost use Rattle.calls.specs.Stages.{runOn};
 
@@ -52,7 +52,7 @@ fn run_on(
 // What is in scope of each state, in a fresh table. Without parameters it has only zeros, and stays.
 fn fill_scopes(image: &[u8], design: Design, table: &mut [u8])
     requires { ⌜ Keeps (now image) × Describes (now image) design × (now table ≡ replicate (scopeLength * statesMax) 0) ⌝ }
-    ensures { λ _. ⌜ Scopes (designOf (now (image .entry))) (now (table .exit)) ⌝ }
+    ensures { λ _. ⌜ (now (table .exit) ≡ withScopes (designOf (now (image .entry))) (design .states) (now (table .entry))) × Scopes (designOf (now (image .entry))) (now (table .exit)) ⌝ }
 {
     if !has_parameters(image, design) {
         return;

@@ -1,6 +1,6 @@
 use Rattle.checker.proofs.Accepted.{accepted-scopes}
 use Rattle.running.proofs.RunningRules.{states-kept}
-use Rattle.calls.proofs.CallRules.{fresh-room, scopes-fresh}
+use Rattle.calls.proofs.CallRules.{fresh-room, scopes-same, scopes-fresh}
 use borrow.Author.Needs.{needs}
 use Rattle.calls.proofs.runs.fill_scopes.Statement.{statement}
 use Rattle.calls.proofs.runs.fill_scopes.Tie as tie
@@ -9,7 +9,7 @@ has-parameters-requires : tie.Need-has-parameters-requires
 has-parameters-requires c κs = search needs
 
 returns : tie.Need-returns
-returns c = search (scopes-fresh, needs)
+returns c = (search (scopes-same, needs), search (scopes-fresh, needs))
 
 scopes-requires : tie.Need-scopes-requires
 scopes-requires c κs = (search needs, search (states-kept, needs), search (accepted-scopes, needs), search (fresh-room, needs))
