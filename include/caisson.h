@@ -81,7 +81,9 @@
  * journals, or when and how far it goes back. A journal has the registers of all levels in it: it is shown
  * to nobody who may not see them all. A replay is in this the port writes and cycles that it makes: two
  * replays from reset, of as many cycles and of traces that are equal in the records of the ports at or below
- * a level, show that level the same, where neither is refused. How many records were superseded, and whether
+ * a level, show that level the same, where neither is refused. What is proved is this, that a replay leaves what
+ * its port writes and cycles leave, and the promise about lists of the other five calls; a list that has replays
+ * among other calls is no theorem of its own yet. How many records were superseded, and whether
  * a trace is refused, depends on the records of all levels: it is told to nobody who may not see them all.
  *
  * Each register has a width of 1 to CAISSON_WIDTH bits and holds values below 2 to the power of it. In
@@ -253,10 +255,10 @@ enum caisson_refusal {
        Going back has no such limit. Place: 0. */
     CAISSON_CYCLE_COUNT = 15,
     /* An assignment names a port, or a goto has a port as an argument. Ports belong to the host:
-       only a reset, a port write and the records of a replay change them. Any expression may read
-       them. The arguments of a goto are its fields a and b, as many of them as the count of the
-       state named says, and both where it is above 2. It is judged after 8 and before 19 and 9.
-       Place: the assignment or the goto. */
+       only a reset, a port write, the records of a replay and going back change them. Any
+       expression may read them. The arguments of a goto are its fields a and b, as many of them as
+       the count of the state named says, and both where it is above 2. It is judged after 8 and
+       before 19 and 9. Place: the assignment or the goto. */
     CAISSON_PORT_ASSIGNED = 16,
     /* A port write or a record of a port trace has a value that is too large for the width of its
        port. A port of width w takes values below 2 to the power of w. It is judged after 14 and 13.
@@ -447,8 +449,8 @@ caisson_answer caisson_reset(const uint8_t *image, size_t image_len,
  * Sets one register, which must be a port, to a value within the port's width, and changes nothing
  * else. A value too large is refused, not cut; docs/FORMAT.md says where the width stands in the
  * image. The call takes the register area only and judges all of it: every register must be within its
- * width, and stays so. No design changes a port: it keeps the value until the next write to it or the
- * next reset. Refusals: the image checks, then 14 for the area's length, 14 for a value too large in
+ * width, and stays so. No design changes a port: it keeps the value until the next write to it, a
+ * record of a replay for it, the next reset, or going back to a cycle before the write. Refusals: the image checks, then 14 for the area's length, 14 for a value too large in
  * it, then 13, then 17 for the value given, both at the register number given.
  */
 CAISSON_LOOK_AT_ANSWER
@@ -706,8 +708,9 @@ static inline caisson_part caisson_earlier(const uint8_t *first, size_t first_le
  *
  * What the marks are worth: take two runs of one accepted table whose areas are equal in all marks, and
  * equal in the values that are marked trusted. Let each cycle of the two be lent inputs that are equal
- * where the table marks them trusted. Then the areas are again equal in this way after any number of
- * cycles: what is marked trusted does not depend on what is not.
+ * where the table marks them trusted, and be accepted in both. Then the areas are again equal in this way after
+ * any number of cycles: what is marked trusted does not depend on what is not. A cycle that is refused changes
+ * nothing, and an untrusted input alone may be why: where it is refused in one run only, the areas differ.
  */
 
 /*
