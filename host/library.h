@@ -11,7 +11,7 @@
 CAISSON_LOOK_AT_ANSWER
 enum status library_judge(void);
 
-/* The version of the library itself, such as 3.5.0, ended by a NUL. */
+/* The version of the library itself, such as 3.6.0, ended by a NUL. */
 const char *library_version(char version[LIBRARY_LONGEST_VERSION]);
 
 #endif

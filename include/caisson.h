@@ -112,8 +112,8 @@ extern "C" {
 /* The version of this header and the number of the image's format. CHANGELOG.md says when each moves;
    docs/FORMAT.md has the format byte by byte. The number of a version is its first number times 1,000,000, its
    second times 1,000 and its third, added up. caisson_version and caisson_format answer the library's own. */
-#define CAISSON_VERSION "3.5.0"
-#define CAISSON_VERSION_NUMBER 3005000u
+#define CAISSON_VERSION "3.6.0"
+#define CAISSON_VERSION_NUMBER 3006000u
 #define CAISSON_FORMAT 3
 
 /* Limits of a design table. */
@@ -386,7 +386,7 @@ CAISSON_LENGTH(caisson_which, 16);
 #endif
 
 /*
- * The version of the library that is linked, as a number: 3005000 is version 3.5.0. It is a constant of the library.
+ * The version of the library that is linked, as a number: 3006000 is version 3.6.0. It is a constant of the library.
  * One without this call, of version 3.4.1 or before, does not link.
  */
 CAISSON_LOOK_AT_ANSWER

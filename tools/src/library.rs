@@ -32,7 +32,7 @@ extern "C" {
     ) -> Which;
 }
 
-/// The number of the version: 3005000 is 3.5.0.
+/// The number of the version: 3006000 is 3.6.0.
 pub fn version() -> u32 {
     // Sound: it is lent nothing, and answers a constant.
     unsafe { caisson_version() }

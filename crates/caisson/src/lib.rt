@@ -47,12 +47,12 @@ fn in_numbers(answer: Answer) -> HostAnswer
     }
 }
 
-// The version of the library: 3005000 is 3.5.0.
+// The version of the library: 3006000 is 3.6.0.
 #[no_mangle]
 pub extern "C" fn caisson_version() -> u32
     ensures { λ r. ⌜ r ≡ libraryVersion ⌝ }
 {
-    3005000
+    3006000
 }
 
 // The format of the images that it takes.
