@@ -91,7 +91,7 @@ module _ (n p q : ℕ) {first second parts own lowest r : ℕ} where
   branched-rule a b c d e f x y g h = rw (h, g, y, x, f, e, d, c, b, a)
 
 -- ---- what the number of a shape says
--- the three parts of a number
+-- its three parts
 parted : (a b l : ℕ) → a < 2 → b < 2 → ((4 * l + 2 * b + a) % 2 ≡ a) × ((4 * l + 2 * b + a) / 2 % 2 ≡ b) × ((4 * l + 2 * b + a) / 4 ≡ l)
 parted a b l h k = (omega arith, omega arith, omega arith)
 
@@ -107,6 +107,7 @@ mark-read false = refl
 judgement-small : {l r : ℕ} (t f : Bool) → r ≡ judgementOf t f l → l ≤ commandsMax → r ≤ judgementMost
 judgement-small t f e h = let first = mark-small t in let second = mark-small f in omega arith
 
+-- what was put into it is read off it
 number-parts : (t f : Bool) (l : ℕ) → (eqb (judgementOf t f l % 2) 1 ≡ t) × (fallsIn (judgementOf t f l) ≡ f) × (judgementOf t f l / 4 ≡ l)
 number-parts t f l =
     let parts = parted (oneOrZero t) (oneOrZero f) l (mark-small t) (mark-small f) in
@@ -114,7 +115,7 @@ number-parts t f l =
 
 -- ---- the numbers of commands, as trees
 module _ (d : Table) (s : ℕ) where
-  abbrev pub commandNumber : Cmd → ℕ
+  abbrev commandNumber : Cmd → ℕ
   commandNumber c = numberOf (judgedOf d s c)
 
   number-is : (c : Cmd) → commandNumber c ≡ judgementOf (transfers c) (holdsFall c) (placeOf (lowestOf (shapeFaults d s c)))
@@ -145,7 +146,7 @@ module _ (d : Table) (s : ℕ) where
     faults-below : (c : Cmd) → Numbered d c → Below commandsMax (shapeFaults d s c)
     faults-below c h = below-more few (shape-below d s c h)
 
-    pub number-small : (c : Cmd) → Numbered d c → commandNumber c ≤ judgementMost
+    number-small : (c : Cmd) → Numbered d c → commandNumber c ≤ judgementMost
     number-small c h =
         let is = number-is c in
         let least = lowest-small (shapeFaults d s c) (faults-below c h) in
@@ -324,7 +325,7 @@ module _ {image : List ℕ} {x : Design} (known : ShapeKnown image x) where
   command-low : (s : ℕ) → s < length (designOf image .states) → stateAt (designOf image) s .command < length (designOf image .commands)
   command-low s l = state-iff (designOf image) s .0 (known .states .kept s l) .command
 
-  -- the faults of the states before s
+  -- the faults of a state, and of all before one, are commands
   faults-low : (s : ℕ) → s < length (designOf image .states) → Below commandsMax (stateShapeFaults (designOf image) s)
   faults-low s l = below-more (commands-few (known .describes)) (state-shape-below (designOf image) s (command-low s l))
 

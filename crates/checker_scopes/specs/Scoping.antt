@@ -1,9 +1,9 @@
 -- What the pass for refusal 19 knows at a node, and the place of a fault as a number: a command's own, 1,024 plus an expression's, or one past all of these.
 use Prim.Native.Nat.{ℕ, _+_, _/_, _<_}
 use mathlib.Core.Path.{_≡_}
-use mathlib.Core.Bool.{Bool, true, _&&_, _||_, not, cond}
+use mathlib.Core.Bool.{Bool, true, cond}
 use mathlib.Core.List.{List, [], _++_}
-use lib.Dec.{ltb, eqb}
+use lib.Dec.{ltb}
 use lib.ListN.{length}
 use Rattle.model.specs.declared.Found.{Found}
 use Rattle.model.specs.Limits.{expressionPlace, expressionsMax, parameterRegister, bindingLength}

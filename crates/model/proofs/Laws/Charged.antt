@@ -1,6 +1,6 @@
 -- Every place that shape or scopes charge in the tree of a command is that of a node of the design: the tree has no other.
 use Prim.Native.Nat.{ℕ, zero, suc, min, _+_, _≤_, _<_}
-use mathlib.Core.Path.{_≡_, refl}
+use mathlib.Core.Path.{_≡_}
 use mathlib.Core.Bool.{Bool, true, false, not, Bool·beq}
 use mathlib.Core.List.{List, [], _∷_, _++_}
 use native.Mathlib.Omega.{arith}
