@@ -38,9 +38,9 @@ use Rattle.replay_steps.specs.Judging.{portAt}
 pub record Ports (d : Table) (table : List ℕ) : Type 0 where
   pub few : length (d .registers) ≤ registersMax
   pub wide : (r : ℕ) → r < length (d .registers) → 1 ≤ registerAt d r .width
-  pub entries : Largest d (length (d .registers)) table
+  pub entries : Largest d table
 
-pub ports-known : {image : List ℕ} {x : Design} {table : List ℕ} → RecordsKept image x → Largest (designOf image) (length (designOf image .registers)) table → Ports (designOf image) table
+pub ports-known : {image : List ℕ} {x : Design} {table : List ℕ} → RecordsKept image x → Largest (designOf image) table → Ports (designOf image) table
 ports-known {image} known entries =
     let count = registers-count (known .describes) in
     let few = registers-most (known .describes) in

@@ -1,13 +1,12 @@
 -- What is prepared before the trace: the largest values of the ports, one by one, and what a replay answers at each thing that it judges first.
-use Prim.Native.Nat.{ℕ, _+_, _*_, _-_, _%_, _^_, _≤_, _<_}
+use Prim.Native.Nat.{ℕ, _*_, _-_, _%_, _^_, _≤_, _<_}
 use mathlib.Core.Path.{_≡_, refl, sym, _∙_, ap}
 use mathlib.Core.Bool.{Bool, true, false, not, cond}
 use mathlib.Core.List.{List}
 use native.Mathlib.Omega.{arith}
 use native.Mathlib.Decide.{ℕ-discrete, decLt}
 use lib.Dec.{leb, ltb}
-use lib.ListN.{length, getD, set, replicate, length-set, length-replicate, getD-replicate}
-use lib.Seq.{getD-set-same, getD-set-other}
+use lib.ListN.{length, getD, replicate, length-replicate, getD-replicate}
 use lib.Pow.{pow-lt, ones-lt}
 use borrow.Author.Tests.{eq-eqb, ne-eqb, lt-ltb, le-ltb}
 use mir.Syntax.{w32}
@@ -16,18 +15,22 @@ use Rattle.model.specs.declared.Refusal.{Refusal}
 use Rattle.model.specs.declared.Refusal.the-variants.{Area, CycleCount}
 use Rattle.model.specs.declared.Answer.{Answer}
 use Rattle.model.specs.declared.Answer.the-variants.{Accepted, Refused}
-use Rattle.model.specs.Limits.{cyclesMax, widthMax}
+use Rattle.model.specs.Indices.{filledTo}
+use Rattle.model.specs.Limits.{registersMax, cyclesMax, widthMax}
 use Rattle.model.specs.Image.{Design as Table, designOf}
 use Rattle.model.specs.Verdict.{verdict, refusedAt, _before_}
 use Rattle.model.specs.Calls.{Lent, lengthAnswer, cyclesAnswer, runAnswer}
+use Rattle.model.proofs.Laws.Indices.{length-filled, filled-before, filled-behind}
 use Rattle.model.proofs.Laws.Booleans.{not-true, not-false}
 use Rattle.model.proofs.Laws.Verdict.{refused-is-not-accepted}
 use Rattle.design.specs.declared.Design.{Design}
 use Rattle.design.specs.Records.{registerIn}
 use Rattle.design.specs.Describes.{Describes}
 use Rattle.design.specs.Kept.{RecordsKept}
-use Rattle.design.specs.Resets.{lends}
-use Rattle.design.proofs.Laws.{registers-count, registers-most}
+use Rattle.design.specs.Resets.{withDefaults, Filled, lends}
+use Rattle.design.specs.Scopes.{withScopes}
+use Rattle.design.proofs.Laws.{registers-count, states-count, registers-few}
+use Rattle.design.proofs.ResetRules.{filled-to, filled-whole}
 use Rattle.design.proofs.ShiftRules.{shifted-ones}
 use Rattle.design.proofs.WidthRules.{width-is}
 use Rattle.machine.specs.Cycles.{Running}
@@ -35,7 +38,7 @@ use Rattle.running.specs.Stages.{soundOn}
 use Rattle.running.proofs.RunningRules.{sound-before}
 use Rattle.calls.proofs.CallRules.{port-rule}
 use Rattle.replay_steps.specs.declared.preparing.Prepared.{Prepared}
-use Rattle.replay_steps.specs.Preparing.{largestOf, Largest, refusedWith, Preparing, PreparingOn}
+use Rattle.replay_steps.specs.Preparing.{largestOf, Largest, describedBy, refusedWith, acceptedWith, preparedAs, onAccepted, Preparing, PreparingOn}
 
 -- ---- the largest value of a port
 module _ {w : ℕ} (l : w ≤ widthMax) where
@@ -59,35 +62,47 @@ module _ {image : List ℕ} {x : Design} {r k : ℕ} (known : RecordsKept image 
   largest-rule {w} port narrow e = rw (← port-rule (known .describes) l h, eq-eqb k 1 port, ← width-is known l e) (shifted-ones {n = w} (omega arith))
 
 -- ---- of every register
--- a fresh table
-pub largest-fresh : (d : Table) → Largest d 0 (replicate {A = ℕ} 64 0)
-largest-fresh d =
+-- the table over zeros
+pub largest-over : {table : List ℕ} (d : Table) → length (d .registers) ≤ registersMax → table ≡ filledTo (largestOf d) (length (d .registers)) (replicate {A = ℕ} 64 0) → Largest d table
+largest-over d few e =
     record {
-      long = length-replicate {A = ℕ} 64 0;
-      entry = λ r l. getD-replicate {A = ℕ} 64 r 0 0 l ∙ sym (rw (le-ltb r 0 (omega arith)));
+      long = ap length e ∙ length-filled (largestOf d) all zeros ∙ length-replicate {A = ℕ} 64 0;
+      entry = λ r l. ap (λ (t : List ℕ). getD t r 0) e ∙ go r l (decLt r all);
     }
+  where
+    zeros : List ℕ
+    zeros = replicate {A = ℕ} 64 0
 
-module _ {d : Table} where
-  pub same-long : {i : ℕ} {old table : List ℕ} → Largest d 0 old → Largest d i table → length table ≡ length old
-  same-long fresh so = so .long ∙ sym (fresh .long)
+    all : ℕ
+    all = length (d .registers)
 
-  pub largest-to : {i n : ℕ} {table : List ℕ} → Largest d i table → i ≤ n → n ≤ i → Largest d n table
-  largest-to {i} {n} {table} so l h = let end : n ≡ i = omega arith in rw end so
+    go : (r : ℕ) → r < 64 → Dec (r < all) → getD (filledTo (largestOf d) all zeros) r 0 ≡ cond (ltb r all) (largestOf d r) 0
+    go r l (yes b) = let long = length-replicate {A = ℕ} 64 0 in filled-before (largestOf d) all zeros r b (omega arith) ∙ sym (rw (lt-ltb r all b))
+    go r l (no b) = filled-behind (largestOf d) all zeros r (omega arith) ∙ getD-replicate {A = ℕ} 64 r 0 0 l ∙ sym (rw (le-ltb r all (omega arith)))
 
-module _ {image : List ℕ} {x : Design} {i : ℕ} {table : List ℕ} (describes : Describes image x) (l : i < x .registers) (so : Largest (designOf image) i table) where
-  pub largest-inside : i < length table
-  largest-inside = let few = registers-most describes in let long = so .long in omega arith
+module _ {f : ℕ → ℕ} {i m : ℕ} {old now : List ℕ} (so : Filled f old i now) where
+  pub largest-inside : m ≤ length old → i < m → i < length now
+  largest-inside room l = let long = so .long in omega arith
 
-  pub largest-next : {v : ℕ} → v ≡ largestOf (designOf image) i → Largest (designOf image) (i + 1) (set table i v)
-  largest-next {v} is = record { long = length-set table i v ∙ so .long; entry = λ r b. go r b (ℕ-discrete r i) (decLt r i) }
-    where
-      beside : (r : ℕ) → r < 64 → (r ≡ i → ⊥) → getD (set table i v) r 0 ≡ cond (ltb r i) (largestOf (designOf image) r) 0
-      beside r b e = getD-set-other table i r v 0 (λ z. e (omega arith)) ∙ so .entry r b
+  pub largest-whole : i ≤ m → m ≤ i → now ≡ filledTo f m old
+  largest-whole l h = filled-whole (filled-to so l h)
 
-      go : (r : ℕ) → r < 64 → Dec (r ≡ i) → Dec (r < i) → getD (set table i v) r 0 ≡ cond (ltb r (i + 1)) (largestOf (designOf image) r) 0
-      go r b (yes e) near = rw (lt-ltb r (i + 1) (omega arith), e) (getD-set-same table i v 0 largest-inside ∙ is)
-      go r b (no e) (yes near) = rw (lt-ltb r (i + 1) (omega arith)) (beside r b e ∙ rw (lt-ltb r i near))
-      go r b (no e) (no far) = rw (le-ltb r (i + 1) (omega arith)) (beside r b e ∙ rw (le-ltb r i (omega arith)))
+-- ---- the design by value
+described : {image : List ℕ} {x : Design} → Describes image x → x ≡ describedBy image
+unfolding describedBy
+described d =
+    λ i.
+    record {
+      labels = d .labels i;
+      registers = d .registers i;
+      states = d .states i;
+      commands = d .commands i;
+      expressions = d .expressions i;
+      «registers_at» = d .registers-at i;
+      «states_at» = d .states-at i;
+      «commands_at» = d .commands-at i;
+      «expressions_at» = d .expressions-at i;
+    }
 
 -- ---- a refusal
 module _ (f : Refusal) (k n : ℕ) {p : Prepared} (made : p ≡ refusedWith f k n) where
@@ -103,13 +118,11 @@ module _ (f : Refusal) (k n : ℕ) {p : Prepared} (made : p ≡ refusedWith f k 
   refused-not {m} h = refused-is-not-accepted f k m (sym refused-answer ∙ h)
 
 -- ---- on an image that is accepted
-abbrev onAccepted : Table → Lent → ℕ → Answer
-onAccepted d lent n = lengthAnswer d lent before soundOn d lent before cyclesAnswer n before Accepted n
-
 module _ (image registers targets : List ℕ) (n : ℕ) {p : Prepared} where
   refuses : {f : Refusal} {k : ℕ} → p ≡ refusedWith f k n → onAccepted (designOf image) (lends registers targets) n ≡ Refused f k → PreparingOn image (lends registers targets) n p
   refuses {f} {k} made is =
       record {
+        is = made ∙ ap (preparedAs image n) (sym is);
         answer = refused-answer f k n made ∙ sym is;
         count = refused-count f k n made;
         running = λ m h. absurd (refused-not f k n made h);
@@ -133,16 +146,27 @@ module _ (image registers targets : List ℕ) (n : ℕ) {p : Prepared} where
 -- all is accepted
 module _ {image : List ℕ} {x : Design} (describes : Describes image x) {table inScope largest : List ℕ} (registers targets : List ℕ) (n : ℕ) where
   pub all-prepared : {a : Answer} {c : ℕ} {b : Bool} → a ≡ soundOn (designOf image) (lends registers targets) → a ≡ Accepted c → lengthAnswer (designOf image) (lends registers targets) ≡ Accepted 0 → b ≡ leb n cyclesMax → not b ≡ false
+      → table ≡ withDefaults (designOf image) (replicate {A = ℕ} 64 0)
+      → inScope ≡ withScopes (designOf image) (x .states) (replicate {A = ℕ} 192 0)
+      → largest ≡ filledTo (largestOf (designOf image)) (x .registers) (replicate {A = ℕ} 64 0)
       → Running image x table inScope registers targets
-      → Largest (designOf image) (x .registers) largest
       → PreparingOn image (lends registers targets) n (record { answer = Accepted n; count = n; design = x; defaults = table; scopes = inScope; largest = largest })
-  unfolding _before_ cyclesAnswer refusedAt
-  all-prepared {b = b} judged sound right e h running ports =
+  unfolding _before_ cyclesAnswer refusedAt acceptedWith
+  all-prepared {b = b} judged sound right e h defaults scopes ports running =
+      let d = designOf image in
+      let accepted : onAccepted d (lends registers targets) n ≡ Accepted n = rw (right, ← judged, sound, ← e, not-false b h) in
+      let whole = described describes in
+      let scopes′ = scopes ∙ ap (λ (k : ℕ). withScopes d k (replicate {A = ℕ} 192 0)) (states-count describes) in
+      let ports′ = ports ∙ ap (λ (k : ℕ). filledTo (largestOf d) k (replicate {A = ℕ} 64 0)) (registers-count describes) in
+      let made : record { answer = Accepted n; count = n; design = x; defaults = table; scopes = inScope; largest = largest } ≡ acceptedWith image n n =
+      λ i. record { answer = Accepted n; count = n; design = whole i; defaults = defaults i; scopes = scopes′ i; largest = ports′ i }
+      in
       record {
-        answer = rw (right, ← judged, sound, ← e, not-false b h);
+        is = made ∙ ap (preparedAs image n) (sym accepted);
+        answer = sym accepted;
         count = refl;
         running = λ k a. running;
-        ports = λ k a. rw (← registers-count describes) ports;
+        ports = λ k a. largest-over d (registers-few describes) ports′;
       }
 
 -- ---- the image first
@@ -150,8 +174,10 @@ module _ (image : List ℕ) {a : Answer} (e : a ≡ verdict image) (lent : Lent)
   pub image-refused : {f : Refusal} {k : ℕ} → a ≡ Refused f k → p ≡ refusedWith f k n → Preparing image lent n p
   unfolding runAnswer _before_
   image-refused {f} {k} h made =
+      let refuses : runAnswer image lent n ≡ Refused f k = rw (← e, h) in
       record {
-        answer = refused-answer f k n made ∙ rw (← e, h);
+        is = made ∙ ap (preparedAs image n) (sym refuses);
+        answer = refused-answer f k n made ∙ sym refuses;
         count = refused-count f k n made;
         running = λ m g. absurd (refused-not f k n made g);
         ports = λ m g. absurd (refused-not f k n made g);
@@ -161,4 +187,4 @@ module _ (image : List ℕ) {a : Answer} (e : a ≡ verdict image) (lent : Lent)
   unfolding runAnswer _before_
   image-accepted h on =
       let behind : onAccepted (designOf image) lent n ≡ runAnswer image lent n = rw (← e, h, ← sound-before (designOf image) lent (cyclesAnswer n before Accepted n)) in
-      record { answer = on .answer ∙ behind; count = on .count; running = on .running; ports = on .ports }
+      record { is = on .is ∙ ap (preparedAs image n) behind; answer = on .answer ∙ behind; count = on .count; running = on .running; ports = on .ports }

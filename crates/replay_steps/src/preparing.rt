@@ -8,16 +8,16 @@ use model::Answer;
 use model::Refusal;
 use running::runs::count_kept;
 use running::soundness::judge;
-ghost use Prim.Native.Nat.{_*_, _<_};
+ghost use Prim.Native.Nat.{_*_, _<_, _≤_};
 ghost use mathlib.Core.Path.{_≡_};
 ghost use lib.ListN.{length};
-ghost use Rattle.model.specs.declared.Answer.the-variants.{Accepted};
 ghost use Rattle.model.specs.Limits.{wordLength, targetLength};
+ghost use Rattle.model.specs.Indices.{filledTo};
 ghost use Rattle.model.specs.Image.{designOf};
 ghost use Rattle.model.specs.Rules.{Keeps};
 ghost use Rattle.design.specs.Describes.{Describes};
 ghost use Rattle.design.specs.Resets.{lends};
-ghost use Rattle.replay_steps.specs.Preparing.{largestOf, Largest, refusedWith, Preparing, PreparingOn};
+ghost use Rattle.replay_steps.specs.Preparing.{largestOf, refusedWith, Preparing, PreparingOn};
 
 // The answer so far, the count of cycles, and where all is accepted the tables: default targets, what is
 // in scope of each state, and of each port the largest value, 0 where no port is.
@@ -69,8 +69,8 @@ fn largest_value(image: &[u8], design: Design, r: usize) -> u32
 
 // The same of every register.
 fn largest_values(image: &[u8], design: Design, largest: &mut [u32])
-    requires { ⌜ Keeps (now image) × Describes (now image) design × Largest (designOf (now image)) 0 (now largest) ⌝ }
-    ensures { λ _. ⌜ Largest (designOf (now (image .entry))) (design .registers) (now (largest .exit)) ⌝ }
+    requires { ⌜ Keeps (now image) × Describes (now image) design × (design .registers ≤ length (now largest)) ⌝ }
+    ensures { λ _. ⌜ now (largest .exit) ≡ filledTo (largestOf (designOf (now (image .entry)))) (design .registers) (now (largest .entry)) ⌝ }
 {
     let mut r = 0;
     while r < design.registers {

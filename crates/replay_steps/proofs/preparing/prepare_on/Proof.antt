@@ -1,8 +1,9 @@
+use Rattle.design.proofs.Laws.{registers-most}
 use Rattle.design.proofs.ResetRules.{states-few, fresh-defaults}
 use Rattle.checker.proofs.Accepted.{accepted-scopes}
 use Rattle.running.proofs.RunningRules.{states-kept, sound-running}
 use Rattle.calls.proofs.CallRules.{scopes-room, right-lengths}
-use Rattle.replay_steps.proofs.PreparingRules.{largest-fresh, unsound-refused, count-refused, all-prepared}
+use Rattle.replay_steps.proofs.PreparingRules.{unsound-refused, count-refused, all-prepared}
 use borrow.Author.Needs.{needs}
 use Rattle.replay_steps.proofs.preparing.prepare_on.Statement.{statement}
 use Rattle.replay_steps.proofs.preparing.prepare_on.Tie as tie
@@ -50,7 +51,7 @@ slice-aggregate-largest-values : tie.Need-slice-aggregate-largest-values
 slice-aggregate-largest-values c = search needs
 
 largest-values-requires : tie.Need-largest-values-requires
-largest-values-requires c κs = (search needs, search needs, search (largest-fresh, needs))
+largest-values-requires c κs = (search needs, search needs, search (registers-most, needs))
 
 returns-3 : tie.Need-returns-3
 returns-3 c = search (all-prepared, sound-running, fresh-defaults, right-lengths, needs)
