@@ -26,7 +26,7 @@ same-length-4 : tie.Need-same-length-4
 same-length-4 c = search needs
 
 returns : tie.Need-returns
-returns c = search (start-at, needs)
+returns c = (search needs, search needs, search needs, search (start-at, needs))
 
 pub start-spec : {M : Type 1} → statement M
 start-spec =
