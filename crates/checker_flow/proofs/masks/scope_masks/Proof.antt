@@ -31,7 +31,7 @@ put-rows-requires : tie.Need-put-rows-requires
 put-rows-requires c κs = (search needs, search (lower-small, needs), search (lower-small, needs), search needs)
 
 put-own-requires : tie.Need-put-own-requires
-put-own-requires c κs = (search needs, search (upper-small, needs), search (upper-small, needs))
+put-own-requires c κs = (search needs, search (lower-small, upper-small, needs), search (lower-small, upper-small, needs))
 
 same-length : tie.Need-same-length
 same-length c = search needs
