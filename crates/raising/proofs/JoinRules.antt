@@ -1,17 +1,23 @@
 -- The least label of a mask is the join of the labels whose mask it is: one label is the least of both by the same two tests, bit by bit.
 use Prim.Native.Nat.{ℕ, zero, suc, _^_, _≤_, _<_}
 use mathlib.Core.Path.{_≡_, refl, sym, _∙_, ap, ap₂}
-use mathlib.Core.Bool.{Bool, true, _&&_}
-use mathlib.Core.List.{List}
+use mathlib.Core.Logic.{_⊎_, inl, inr}
+use mathlib.Core.Bool.{Bool, true, false, _&&_, not, cond}
+use mathlib.Core.List.{List, _∷_}
 use native.Mathlib.Omega.{arith}
-use lib.ListN.{length, getD}
+use lib.Dec.{eqb}
+use lib.ListN.{length, getD, set}
+use lib.Seq.{set-getD}
+use borrow.Author.Tests.{eq-eqb, ne-eqb}
 use Rattle.model.specs.declared.Found.{Found}
 use Rattle.model.specs.declared.Found.the-variants.{At, Nowhere}
 use Rattle.model.specs.Indices.{lowest}
 use Rattle.model.specs.Lattice.{flowsTo, implies}
 use Rattle.model.specs.States.{foundOr}
 use Rattle.model.specs.Raising.{leastAboveAll, joinOf}
-use Rattle.model.proofs.Laws.Booleans.{true-or-false}
+use Rattle.model.specs.Rules.{FlowsTo, IsLattice}
+use Rattle.model.proofs.Laws.Booleans.{decide, true-or-false}
+use Rattle.model.proofs.Laws.Joins.{LeastAboveAll, flow-tail, join-stays}
 use Rattle.model.proofs.Laws.Indices.{lowest-none, lowest-nowhere, lowest-at}
 use Rattle.model.proofs.Laws.Passes.{Missed}
 use Rattle.design.specs.declared.Design.{Design}
@@ -20,6 +26,7 @@ use Rattle.design.proofs.Laws.{labels-most}
 use Rattle.checker_records.specs.LabelTests.{leastIn}
 use Rattle.checker_records.proofs.Subsets.{bitOf, inside}
 use Rattle.checker_records.proofs.LatticeRules.{all-same}
+use Rattle.checker_flow.specs.Flows.{hasBit}
 use Rattle.raising.specs.Passes.{leastOf, RowMask}
 
 -- tests that agree below n find the same there
@@ -41,6 +48,39 @@ module _ (rows labels : List ℕ) (among : ℕ) (mask : RowMask rows labels amon
   pub least-is-join : leastOf rows among ≡ joinOf rows labels
   unfolding leastOf joinOf
   least-is-join = ap (foundOr 0) (lowest-same (leastIn rows among) (leastAboveAll rows labels) (length rows) least-same)
+
+-- ---- an assignment: its register stays exactly where the mask has the bit of its label
+module _
+    (rows : List ℕ)
+    (lattice : IsLattice rows)
+    (rest : List ℕ)
+    (l above : ℕ)
+    (below : l < length rows)
+    (mask : RowMask rows (l ∷ rest) above)
+    (small : above < 2 ^ length rows)
+    (join : LeastAboveAll rows (l ∷ rest) (joinOf rows (l ∷ rest)))
+  where
+    stays : hasBit above l ≡ true → joinOf rows (l ∷ rest) ≡ l
+    stays h = join-stays rows lattice rest l below (flow-tail rows l rest l (sym (mask .bits l below) ∙ h))
+
+    differs : hasBit above l ≡ false → joinOf rows (l ∷ rest) ≡ l → ⊥
+    differs h e =
+        let flows : FlowsTo rows (joinOf rows (l ∷ rest)) l = rw e (lattice .reflexive l below) in
+        true-or-false (hasBit above l) (mask .bits l below ∙ join .exactly l below .1 flows) h
+
+    pub assigned-same : (labels : List ℕ) (r : ℕ) → getD labels r 0 ≡ l → cond (hasBit above l) labels (set labels r (leastOf rows above)) ≡ set labels r (joinOf rows (l ∷ rest))
+    assigned-same labels r e = go (hasBit above l) refl
+      where
+        go : (b : Bool) → hasBit above l ≡ b → cond b labels (set labels r (leastOf rows above)) ≡ set labels r (joinOf rows (l ∷ rest))
+        go true h = sym (ap (set labels r) (stays h ∙ sym e) ∙ set-getD labels r 0)
+        go false h = ap (set labels r) (least-is-join rows (l ∷ rest) above mask small)
+
+    pub moved-same : not (hasBit above l) ≡ not (eqb (joinOf rows (l ∷ rest)) l)
+    moved-same = go (decide (hasBit above l))
+      where
+        go : (hasBit above l ≡ true) ⊎ (hasBit above l ≡ false) → not (hasBit above l) ≡ not (eqb (joinOf rows (l ∷ rest)) l)
+        go (inl h) = ap not (h ∙ sym (eq-eqb (joinOf rows (l ∷ rest)) l (stays h)))
+        go (inr h) = ap not (h ∙ sym (ne-eqb (joinOf rows (l ∷ rest)) l (differs h)))
 
 -- ---- the loop that looks for it
 module _ (rows : List ℕ) (among : ℕ) where

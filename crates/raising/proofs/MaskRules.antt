@@ -18,11 +18,13 @@ use Rattle.model.proofs.Laws.Bits.{bit-and}
 use Rattle.model.proofs.Laws.Plain.{PlainLabels, plain-labels, plain-scope, plain-each}
 use Rattle.model.proofs.Laws.Relabelling.{Labelled, labels-read}
 use Rattle.model.proofs.Raising.Orders.{reads-labels}
+use Rattle.model.proofs.Raising.Passes.{Raisable}
 use Rattle.design.specs.declared.Design.{Design}
 use Rattle.design.proofs.Laws.{states-count}
 use Rattle.design.proofs.BoundRules.{labels-few, plain-label-byte}
 use Rattle.checker_flow.specs.Masks.{Rows}
-use Rattle.checker_flow.specs.Flows.{ReadsMask}
+use Rattle.checker_flow.specs.Flows.{maskRead, Gathering}
+use Rattle.checker_flow.proofs.FlowRules.{read-is-mask}
 use Rattle.checker_flow.proofs.TableRules.{label-some, rows-masks}
 use Rattle.checker.proofs.Accepted.{structure-parameters}
 use Rattle.raising.specs.Passes.{RowMask, Raising}
@@ -56,22 +58,26 @@ module _ {image labels : List ℕ} {x : Design} (here : Raising image x labels) 
   plain-here = plain-labels (designOf image) (here .plain .none) (here .structured) (label-some (here .known)) (labels-few (here .known .describes))
 
   -- past the last register there is label 0
-  labelled-here : Labelled (designOf image) labels
+  pub labelled-here : Labelled (designOf image) labels
   labelled-here = record { enough = here .labelling .exact; valid = λ r. go r (decLt r (length labels)) }
     where
       go : (r : ℕ) → Dec (r < length labels) → getD labels r 0 < length (designOf image .rows)
       go r (yes l) = let exact = here .labelling .exact in here .labelling .kept .inside r (omega arith)
       go r (no l) = rw (List·getD-eq-default labels 0 {n = r} (omega arith)) (label-some (here .known))
 
+  -- passes may raise
+  pub able-here : Raisable (designOf image)
+  able-here = record { keeps = here .structured; some = label-some (here .known); few = labels-few (here .known .describes); plain = here .plain .none }
+
   -- the labels read, under the table
-  pub read-mask : {masks : List ℕ} {s : ℕ} (e : ℕ) {m : ℕ} → ReadsMask (designOf image) labels masks e m → Rows (designOf image) masks → s < length (designOf image .states) → ReadsScoped (designOf image) s (exprOf (designOf image) e)
-      → RowMask (designOf image .rows) (labelsReadBy labels (exprOf (designOf image) e)) m
-  read-mask {s = s} e read rows l scoped =
+  pub read-mask : {masks : List ℕ} {s : ℕ} (e : ℕ) → Gathering image labels (x .«expressions_at») e → Rows (designOf image) masks → s < length (designOf image .states) → ReadsScoped (designOf image) s (exprOf (designOf image) e)
+      → RowMask (designOf image .rows) (labelsReadBy labels (exprOf (designOf image) e)) (maskRead labels masks (exprOf (designOf image) e))
+  read-mask {s = s} e gathers rows l scoped =
       let d = designOf image in
       let count = states-count (here .known .describes) in
       let tree = exprOf d e in
       let table = rows-masks (here .known) rows (structure-parameters (here .structured)) (omega arith) (ap length (plain-scope d (here .plain .none) s)) in
-      let mask = read .mask-of s table scoped in
+      let mask = read-is-mask labels table e gathers scoped in
       let same = labels-read d labels (here .labelling .exact) (here .plain .none) s tree scoped in
       record {
         bits = λ l h.

@@ -1,50 +1,58 @@
--- What a pass leaves of a table of labels, command by command as the meaning has it: a sequence hands the table on, an if adds what its condition reads to the
--- mask, and an assignment whose flow is kept leaves the register's label, which is then the join.
-use Prim.Native.Nat.{ℕ, _+_, _-_, _/_, _%_, _^_, _≤_, _<_}
-use mathlib.Core.Path.{_≡_, refl, sym, _∙_, ap}
-use mathlib.Core.Bool.{Bool, true, false, _||_}
-use mathlib.Core.List.{List, _∷_, _++_}
+-- What raising leaves is a table of labels, and what it leaves at an assignment.
+use Prim.Native.Nat.{ℕ, _-_, _≤_, _<_}
+use mathlib.Core.Path.{_≡_, refl, sym, _∙_, ap, ap₂}
+use mathlib.Core.Bool.{Bool, true, false, cond}
+use mathlib.Core.List.{List}
 use native.Mathlib.Omega.{arith}
-use native.Mathlib.Nat.{lt-of-le-of-lt}
-use lib.Bits.{bitAnd, and-le-l}
-use lib.Dec.{eqb}
+use lib.Bits.{bitAnd}
 use lib.ListN.{length, getD, set, length-set}
-use lib.Seq.{set-getD}
 use Rattle.model.specs.Image.{Design as Table, Node, designOf, commandAt}
 use Rattle.model.specs.Kinds.{commandKind}
-use Rattle.model.specs.Trees.{assign, exprOf, cmdOf}
+use Rattle.model.specs.Trees.{Cmd, skip, assign, sequence, fall, goto, branch, exprOf, cmdOf}
 use Rattle.model.specs.Rules.{Scoped}
-use Rattle.model.specs.Raising.{joinOf, labelsReadBy, raisedBy}
-use Rattle.model.proofs.Laws.Joins.{flow-tail, join-stays}
 use Rattle.model.proofs.Laws.Plain.{plain-name}
+use Rattle.model.proofs.Laws.Relabelling.{Labelled}
 use Rattle.model.proofs.Raising.Orders.{set-cases}
 use Rattle.model.proofs.Laws.Trees.{cmd-assign}
 use Rattle.design.specs.declared.Design.{Design}
 use Rattle.design.specs.Records.{nodeIn, rowIn, rowEnd}
 use Rattle.design.specs.RecordsAt.{CommandAt}
 use Rattle.design.proofs.Laws.{labels-count, labels-most, expressions-count, row-inside, row-in}
-use Rattle.design.proofs.FieldRules.{command-at, same-command, item-is, a-is, assigned-register, assigned-expression, condition, expression-at}
-use Rattle.checker_flow.specs.Masks.{Rows}
-use Rattle.checker_flow.specs.Flows.{ReadsMask, Gathering}
-use Rattle.raising.specs.Passes.{leastOf, RowMask, Labelling, Raising, Assigns, Moved, RaisedAt}
-use Rattle.raising.proofs.MaskRules.{mask-both, mask-row, read-mask}
-use Rattle.raising.proofs.JoinRules.{least-is-join, least-label}
+use Rattle.design.proofs.FieldRules.{command-at, same-command, item-is, a-is, assigned-register, assigned-expression, expression-at}
+use Rattle.checker_flow.specs.Flows.{maskRead, hasBit, Gathering}
+use Rattle.raising.specs.Passes.{leastOf, Labelling, Raising, Assigns, aboveUnder, raisedUnder, movedUnder, RaisedAt}
+use Rattle.raising.proofs.JoinRules.{least-label}
 
--- ---- tables that move
--- nothing is done
-pub moved-none : {d : Table} {labels : List ℕ} → Labelling d labels → Moved d labels labels false
-moved-none own = record { labelling = own; still = λ e. refl }
+-- ---- tables of labels
+-- raised labels are labels, whatever the context
+module _ (d : Table) (masks : List ℕ) (some : 0 < length (d .rows)) where
+  set-labelling : (labels : List ℕ) (r v : ℕ) → v < length (d .rows) → Labelling d labels → Labelling d (set labels r v)
+  set-labelling labels r v label own =
+      let long = length-set labels r v in
+      let exact = own .exact in
+      record {
+        kept = record { enough = omega arith; inside = λ k l. set-cases (λ label. label < length (d .rows)) labels r v k (λ same. label) (own .kept .inside k l) };
+        exact = long ∙ exact;
+      }
 
--- one change after another
-still-both : (p q : Bool) {a b c : List ℕ} → (p ≡ false → b ≡ a) → (q ≡ false → c ≡ b) → (p || q) ≡ false → c ≡ a
-still-both true q f g e = absurd (true-is-not-false e)
-  where
-    true-is-not-false : true ≡ false → ⊥
-    true-is-not-false e = let z : _≡_ {A = ℕ} 0 1 = cc in omega arith
-still-both false q f g e = g e ∙ f refl
+  pub under-labelling : (mask : ℕ) (c : Cmd) (labels : List ℕ) → Labelling d labels → Labelling d (raisedUnder d masks mask c labels)
+  unfolding raisedUnder
+  under-labelling mask (skip n) labels own = own
+  under-labelling mask (assign n r e) labels own = go (hasBit (aboveUnder d masks mask r e labels) (getD labels r 0))
+    where
+      go : (b : Bool) → Labelling d (cond b labels (set labels r (leastOf (d .rows) (aboveUnder d masks mask r e labels))))
+      go true = own
+      go false = set-labelling labels r _ (least-label (d .rows) (aboveUnder d masks mask r e labels) some) own
+  under-labelling mask (sequence n p q) labels own = under-labelling mask q _ (under-labelling mask p labels own)
+  under-labelling mask (fall n) labels own = own
+  under-labelling mask (goto n t a b) labels own = own
+  under-labelling mask (branch n e p q) labels own = under-labelling _ q _ (under-labelling _ p labels own)
 
-pub moved-both : {d : Table} {a b c : List ℕ} {p q : Bool} → Moved d a b p → Moved d b c q → Moved d a c (p || q)
-moved-both {p = p} {q = q} first second = record { labelling = second .labelling; still = still-both p q (first .still) (second .still) }
+-- those of the meaning, as the code has them
+pub labelling-of : {d : Table} {labels : List ℕ} → Labelled d labels → Labelling d labels
+labelling-of {d} {labels} own =
+    let exact = own .enough in
+    record { kept = record { enough = omega arith; inside = λ r l. own .valid r }; exact = exact }
 
 -- what is known stays known
 module _ {image labels : List ℕ} {x : Design} (here : Raising image x labels) where
@@ -66,15 +74,15 @@ module _ {image labels : List ℕ} {x : Design} (here : Raising image x labels) 
     byte : nodeIn image (x .«commands_at») n .kind ≡ 1
     byte = ap (λ (y : Node). y .kind) (same-command (command-here (a .command))) ∙ a .kind
 
-    tree : cmdOf (designOf image) n ≡ assign n (commandAt (designOf image) n .item) (exprOf (designOf image) (commandAt (designOf image) n .a))
+    pub tree : cmdOf (designOf image) n ≡ assign n (commandAt (designOf image) n .item) (exprOf (designOf image) (commandAt (designOf image) n .a))
     unfolding commandKind
     tree = cmd-assign (designOf image) n (ap commandKind (a .kind))
 
-    scoped : Scoped (designOf image) (a .stands .state) (assign n (commandAt (designOf image) n .item) (exprOf (designOf image) (commandAt (designOf image) n .a)))
+    pub scoped : Scoped (designOf image) (a .stands .state) (assign n (commandAt (designOf image) n .item) (exprOf (designOf image) (commandAt (designOf image) n .a)))
     scoped = rw tree at (a .stands .scoped)
 
     -- without parameters what is written is a register
-    register-below : {r : ℕ} → r ≡ nodeIn image (x .«commands_at») n .item → r < length (designOf image .registers)
+    pub register-below : {r : ℕ} → r ≡ nodeIn image (x .«commands_at») n .item → r < length (designOf image .registers)
     register-below f =
         let at = command-here (a .command) in
         assigned-register at byte refl f (rw (item-is at f) (plain-name (designOf image) (here .plain .none) (a .stands .state) (commandAt (designOf image) n .item) (scoped .0)))
@@ -99,59 +107,43 @@ module _ {image labels : List ℕ} {x : Design} (here : Raising image x labels) 
     assigned-gathers f = gathering (assigned-expression (command-here (a .command)) byte refl f)
 
     -- what the assignment makes of the table
-    module _ {masks : List ℕ} {r e l own m : ℕ}
+    module _ (masks : List ℕ) {r e l own m : ℕ}
         (fr : r ≡ nodeIn image (x .«commands_at») n .item)
         (fe : e ≡ nodeIn image (x .«commands_at») n .a)
         (fl : l ≡ getD labels r 0)
         (fo : own ≡ rowIn image l)
-        (read : ReadsMask (designOf image) labels masks e m)
-        (rows : Rows (designOf image) masks)
+        (read : m ≡ maskRead labels masks (exprOf (designOf image) e))
       where
-        raised-is : (context : List ℕ) → raisedBy (designOf image) context (cmdOf (designOf image) n) labels ≡ set labels r (joinOf (designOf image .rows) (l ∷ (context ++ labelsReadBy labels (exprOf (designOf image) e))))
-        unfolding raisedBy
-        raised-is context =
-            let at = command-here (a .command) in
-            rw (tree, ← (item-is at fr), ← (a-is at fe), fl)
-
         own-row : own ≡ getD (designOf image .rows) l 0
         own-row = let count = labels-count (here .known .describes) in let below = entry-below fr fl in fo ∙ row-in (here .known .describes) (omega arith)
 
-        above-mask : {context : List ℕ} {mask : ℕ} → RowMask (designOf image .rows) context mask
-            → RowMask (designOf image .rows) (l ∷ (context ++ labelsReadBy labels (exprOf (designOf image) e))) (bitAnd own (bitAnd mask m))
-        above-mask around = mask-both (mask-row own-row) (mask-both around (read-mask here e read rows (a .stands .exists) (rw (a-is (command-here (a .command)) fe) (scoped .1))))
+        above-is : (mask : ℕ) → bitAnd own (bitAnd mask m) ≡ aboveUnder (designOf image) masks mask (commandAt (designOf image) n .item) (exprOf (designOf image) (commandAt (designOf image) n .a)) labels
+        above-is mask = rw (own-row, read, fl, item-is (command-here (a .command)) fr, a-is (command-here (a .command)) fe) refl
 
-        pub assignment-still : {mask : ℕ} {b : Bool} → b ≡ eqb (bitAnd own (bitAnd mask m) / 2 ^ l % 2) 1 → b ≡ true → RaisedAt (designOf image) mask n labels labels false
-        assignment-still fb h =
+        label-here : l ≡ getD labels (commandAt (designOf image) n .item) 0
+        label-here = fl ∙ ap (λ (r : ℕ). getD labels r 0) (item-is (command-here (a .command)) fr)
+
+        test-is : (mask : ℕ) {b : Bool} → b ≡ hasBit (bitAnd own (bitAnd mask m)) l
+            → b ≡ hasBit (aboveUnder (designOf image) masks mask (commandAt (designOf image) n .item) (exprOf (designOf image) (commandAt (designOf image) n .a)) labels) (getD labels (commandAt (designOf image) n .item) 0)
+        test-is mask fb = fb ∙ ap₂ hasBit (above-is mask) label-here
+
+        pub assignment-still : {b : Bool} (mask : ℕ) → b ≡ hasBit (bitAnd own (bitAnd mask m)) l → b ≡ true → RaisedAt (designOf image) masks mask n labels labels false
+        unfolding raisedUnder movedUnder
+        assignment-still mask fb h =
+            let test = sym (test-is mask fb) ∙ h in
             record {
-              change = moved-none (here .labelling);
-              is = λ context around.
-                  let below = entry-below fr fl in
-                  let flows = sym (above-mask around .bits l below) ∙ sym fb ∙ h in
-                  let stays = join-stays (designOf image .rows) (here .structured .lattice) _ l below (flow-tail (designOf image .rows) l _ l flows) in
-                  sym (raised-is context ∙ rw (stays, fl) (set-getD labels r 0));
+              is = sym (ap (λ (c : Cmd). raisedUnder (designOf image) masks mask c labels) tree ∙ rw test refl);
+              rose = sym (ap (λ (c : Cmd). movedUnder (designOf image) masks mask c labels) tree ∙ rw test refl);
             }
 
-        pub assignment-raises : {mask v : ℕ} → v ≡ leastOf (designOf image .rows) (bitAnd own (bitAnd mask m)) → RaisedAt (designOf image) mask n labels (set labels r v) true
-        assignment-raises {mask} {v} fv =
-            let rows = designOf image .rows in
-            let below = entry-below fr fl in
-            let label : v < length rows = rw fv (least-label rows (bitAnd own (bitAnd mask m)) (omega arith)) in
-            let long = length-set labels r v in
-            let exact = here .labelling .exact in
+        pub assignment-raises : {v : ℕ} {b : Bool} (mask : ℕ) → v ≡ leastOf (designOf image .rows) (bitAnd own (bitAnd mask m)) → b ≡ hasBit (bitAnd own (bitAnd mask m)) l → b ≡ false → RaisedAt (designOf image) masks mask n labels (set labels r v) true
+        unfolding raisedUnder movedUnder
+        assignment-raises {v} mask fv fb h =
+            let test = sym (test-is mask fb) ∙ h in
+            let value = fv ∙ ap (leastOf (designOf image .rows)) (above-is mask) in
             record {
-              change =
-                  record {
-                    labelling =
-                        record {
-                          kept = record { enough = omega arith; inside = λ k l. set-cases (λ label. label < length rows) labels r v k (λ same. label) (here .labelling .kept .inside k l) };
-                          exact = long ∙ exact;
-                        };
-                    still = λ e. absurd (let z : _≡_ {A = ℕ} 0 1 = cc in omega arith);
-                  };
-              is = λ context around.
-                  let row : own < 2 ^ length rows = rw own-row (here .structured .lattice .inside l below) in
-                  let join = least-is-join rows _ (bitAnd own (bitAnd mask m)) (above-mask around) (lt-of-le-of-lt (and-le-l own (bitAnd mask m)) row) in
-                  sym (raised-is context ∙ ap (set labels r) (sym (fv ∙ join)));
+              is = ap₂ (λ (r v : ℕ). set labels r v) (item-is (command-here (a .command)) fr) value ∙ sym (ap (λ (c : Cmd). raisedUnder (designOf image) masks mask c labels) tree ∙ rw test refl);
+              rose = sym (ap (λ (c : Cmd). movedUnder (designOf image) masks mask c labels) tree ∙ rw test refl);
             }
 
 pub ruleset assignment-laws = (entry-inside, entry-row-inside, entry-small, assigned-gathers, assignment-still, assignment-raises)

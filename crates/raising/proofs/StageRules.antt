@@ -49,6 +49,11 @@ module _ {image old table : List ℕ} {x : Design} (filled : Filled (registerLab
       let same = length-labels (designOf image) in
       ext-getD 0 table (labelsOf (designOf image)) (omega arith) (λ r l. filled .done r (omega arith) ∙ sym (label-at (designOf image) r))
 
+  -- what the passes make of it
+  pub own-raised : {after : List ℕ} → after ≡ raisedTimes (designOf image) (length (designOf image .registers) * length (designOf image .rows)) table → after ≡ raisedLabels (designOf image)
+  unfolding raisedLabels
+  own-raised e = e ∙ ap (raisedTimes (designOf image) (length (designOf image .registers) * length (designOf image .rows))) own-table
+
   pub own-raising : structure image ≡ Accepted 0 → NoParameters (designOf image) → Raising image x table
   own-raising h plain =
       let keeps = structure-exact image .0 h .1 in

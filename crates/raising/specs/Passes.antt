@@ -1,23 +1,25 @@
 -- What the passes know of a table of labels, and what each of them leaves of it.
-use Prim.Native.Nat.{ℕ, _/_, _%_, _^_, _<_}
+use Prim.Native.Nat.{ℕ, zero, suc, _/_, _%_, _^_, _<_}
 use mathlib.Core.Path.{_≡_}
-use mathlib.Core.Bool.{Bool, false}
-use mathlib.Core.List.{List}
+use mathlib.Core.Bool.{Bool, false, _||_, not, cond}
+use mathlib.Core.List.{List, [], _∷_, _++_}
+use lib.Bits.{bitAnd}
 use lib.Dec.{eqb}
-use lib.ListN.{length}
+use lib.ListN.{length, getD, set}
 use Rattle.model.specs.Indices.{lowest}
 use Rattle.model.specs.Image.{Design as Table, designOf, commandAt}
-use Rattle.model.specs.Lattice.{allFlowTo}
+use Rattle.model.specs.Lattice.{allFlowTo, stateLabel}
 use Rattle.model.specs.States.{foundOr}
-use Rattle.model.specs.Trees.{cmdOf}
+use Rattle.model.specs.Trees.{Expr, Cmd, skip, assign, sequence, fall, goto, branch, cmdOf, bodyOf}
 use Rattle.model.specs.Rules.{Scoped, StructureKeeps}
-use Rattle.model.specs.Raising.{raisedBy}
+use Rattle.model.specs.Raising.{joinOf, labelsReadBy, raisedBy, raisedByStates, raisedOnce}
 use Rattle.design.specs.declared.Design.{Design}
 use Rattle.design.specs.Kept.{RecordsKept}
 use Rattle.design.specs.Labels.{LabelsKept}
 use Rattle.design.specs.Scopes.{NoParameters}
 use Rattle.checker_records.specs.LabelTests.{leastIn}
 use Rattle.checker_flow.specs.Masks.{Rows}
+use Rattle.checker_flow.specs.Flows.{maskRead, hasBit}
 
 -- the least label of a mask, or 0 where it has none
 unfoldable pub leastOf : List ℕ → ℕ → ℕ
@@ -58,17 +60,67 @@ pub record Assigns (image : List ℕ) (x : Design) (n : ℕ) : Type 0 where
   pub kind : commandAt (designOf image) n .kind ≡ 1
   pub stands : Stands (designOf image) n
 
--- A table that was raised: what it has become is a table of labels, and where nothing moved it is the one that it was.
-pub record Moved (d : Table) (before after : List ℕ) (moved : Bool) : Type 0 where
-  pub labelling : Labelling d after
-  pub still : moved ≡ false → after ≡ before
+-- ---- what is left of a table of labels, and whether one rose
+module _ (d : Table) (masks : List ℕ) where
+  -- the labels above register r, the context and what an expression reads, as a mask
+  abbrev pub aboveUnder : ℕ → ℕ → Expr → List ℕ → ℕ
+  aboveUnder context r e labels = bitAnd (getD (d .rows) (getD labels r 0) 0) (bitAnd context (maskRead labels masks e))
 
--- raised by command n in a context, of which the mask is known
-pub record RaisedAt (d : Table) (mask n : ℕ) (before after : List ℕ) (moved : Bool) : Type 0 where
-  pub change : Moved d before after moved
-  pub is : (context : List ℕ) → RowMask (d .rows) context mask → after ≡ raisedBy d context (cmdOf d n) before
+  -- the labels once a command has raised them, in a context that is a mask
+  unfoldable pub raisedUnder : ℕ → Cmd → List ℕ → List ℕ
+  raisedUnder context (skip n) labels = labels
+  raisedUnder context (assign n r e) labels =
+      cond (hasBit (aboveUnder context r e labels) (getD labels r 0)) labels (set labels r (leastOf (d .rows) (aboveUnder context r e labels)))
+  raisedUnder context (sequence n p q) labels = raisedUnder context q (raisedUnder context p labels)
+  raisedUnder context (fall n) labels = labels
+  raisedUnder context (goto n t a b) labels = labels
+  raisedUnder context (branch n e p q) labels =
+      raisedUnder (bitAnd context (maskRead labels masks e)) q (raisedUnder (bitAnd context (maskRead labels masks e)) p labels)
 
--- raised to what is given
-pub record RaisedTo (d : Table) (raised before after : List ℕ) (moved : Bool) : Type 0 where
-  pub change : Moved d before after moved
-  pub is : after ≡ raised
+  -- and whether one of them rose
+  unfoldable pub movedUnder : ℕ → Cmd → List ℕ → Bool
+  movedUnder context (skip n) labels = false
+  movedUnder context (assign n r e) labels = not (hasBit (aboveUnder context r e labels) (getD labels r 0))
+  movedUnder context (sequence n p q) labels = movedUnder context p labels || movedUnder context q (raisedUnder context p labels)
+  movedUnder context (fall n) labels = false
+  movedUnder context (goto n t a b) labels = false
+  movedUnder context (branch n e p q) labels =
+      movedUnder (bitAnd context (maskRead labels masks e)) p labels
+      || movedUnder (bitAnd context (maskRead labels masks e)) q (raisedUnder (bitAnd context (maskRead labels masks e)) p labels)
+
+module _ (d : Table) where
+  -- whether a label rises where a command raises labels in a context (`raisedBy`)
+  unfoldable pub movedBy : List ℕ → Cmd → List ℕ → Bool
+  movedBy context (skip n) labels = false
+  movedBy context (assign n r e) labels = not (eqb (joinOf (d .rows) (getD labels r 0 ∷ (context ++ labelsReadBy labels e))) (getD labels r 0))
+  movedBy context (sequence n p q) labels = movedBy context p labels || movedBy context q (raisedBy d context p labels)
+  movedBy context (fall n) labels = false
+  movedBy context (goto n t a b) labels = false
+  movedBy context (branch n e p q) labels =
+      movedBy (context ++ labelsReadBy labels e) p labels
+      || movedBy (context ++ labelsReadBy labels e) q (raisedBy d (context ++ labelsReadBy labels e) p labels)
+
+  -- where the bodies of the first n states do, one after the other
+  unfoldable pub movedByStates : ℕ → List ℕ → Bool
+  movedByStates zero labels = false
+  movedByStates (suc s) labels = movedByStates s labels || movedBy (stateLabel d s ∷ []) (bodyOf d s) (raisedByStates d s labels)
+
+  -- in one pass over all bodies
+  unfoldable pub movedOnce : List ℕ → Bool
+  movedOnce labels = movedByStates (length (d .states)) labels
+
+-- ---- what is left, and whether a label rose, as one
+-- by command n in a context that is a mask
+pub record RaisedAt (d : Table) (masks : List ℕ) (mask n : ℕ) (old after : List ℕ) (moved : Bool) : Type 0 where
+  pub is : after ≡ raisedUnder d masks mask (cmdOf d n) old
+  pub rose : moved ≡ movedUnder d masks mask (cmdOf d n) old
+
+-- by the body of state s, whose context is its label
+pub record RaisedIn (d : Table) (s : ℕ) (old after : List ℕ) (moved : Bool) : Type 0 where
+  pub is : after ≡ raisedBy d (stateLabel d s ∷ []) (bodyOf d s) old
+  pub rose : moved ≡ movedBy d (stateLabel d s ∷ []) (bodyOf d s) old
+
+-- by one pass
+pub record RaisedOnce (d : Table) (old after : List ℕ) (moved : Bool) : Type 0 where
+  pub is : after ≡ raisedOnce d old
+  pub rose : moved ≡ movedOnce d old

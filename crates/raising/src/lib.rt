@@ -14,13 +14,14 @@ use design::scopes::SCOPES;
 use design::scopes::has_parameters;
 use model::Answer;
 use model::Refusal;
+ghost use Prim.Native.Nat.{_*_};
 ghost use mathlib.Core.Path.{_≡_};
 ghost use lib.ListN.{length};
 ghost use Rattle.model.specs.declared.Answer.the-variants.{Accepted};
 ghost use Rattle.model.specs.Image.{designOf};
 ghost use Rattle.model.specs.Labelling.{labelsOf};
 ghost use Rattle.model.specs.Verdict.{structure as structureOf};
-ghost use Rattle.model.specs.Raising.{leftOutAs, raise as raiseOf};
+ghost use Rattle.model.specs.Raising.{leftOutAs, raisedTimes, raisedLabels, raise as raiseOf};
 ghost use Rattle.design.specs.Describes.{Describes};
 ghost use Rattle.design.specs.Scopes.{NoParameters};
 ghost use Rattle.raising.specs.Passes.{Raising};
@@ -33,7 +34,8 @@ fn raise_from(image: &[u8], design: Design, labels: &mut [u8], out: &mut [u8]) -
         × Raising (now image) design (now labels)
         × (now labels ≡ labelsOf (designOf (now image)))
         × (length (now out) ≡ length (now image)) ⌝ }
-    ensures { λ a. ⌜ leftOutAs a (now (out .exit)) ≡ raiseWithin (now (image .entry)) (now (out .entry)) ⌝ }
+    ensures { λ a. ⌜ (leftOutAs a (now (out .exit)) ≡ raiseWithin (now (image .entry)) (now (out .entry)))
+        × (now (labels .exit) ≡ raisedTimes (designOf (now (image .entry))) (length (designOf (now (image .entry)) .registers) * length (designOf (now (image .entry)) .rows)) (now (labels .entry))) ⌝ }
 {
     raise_labels(image, design, labels);
     let scopes = [0u8; SCOPES];
@@ -55,7 +57,8 @@ fn raise_within(image: &[u8], design: Design, labels: &mut [u8], out: &mut [u8])
         × NoParameters (designOf (now image))
         × (length (now labels) ≡ design .registers)
         × (length (now out) ≡ length (now image)) ⌝ }
-    ensures { λ a. ⌜ leftOutAs a (now (out .exit)) ≡ raiseWithin (now (image .entry)) (now (out .entry)) ⌝ }
+    ensures { λ a. ⌜ (leftOutAs a (now (out .exit)) ≡ raiseWithin (now (image .entry)) (now (out .entry)))
+        × (now (labels .exit) ≡ raisedLabels (designOf (now (image .entry)))) ⌝ }
 {
     register_labels(image, design, labels);
     raise_from(image, design, labels, out)

@@ -11,15 +11,12 @@ use design::rows::bit;
 use design::wide;
 ghost use Prim.Native.Nat.{_*_, _<_};
 ghost use mathlib.Core.Path.{_≡_};
-ghost use mathlib.Core.List.{[], _∷_};
 ghost use lib.ListN.{length};
 ghost use Rattle.model.specs.Image.{designOf};
-ghost use Rattle.model.specs.Lattice.{stateLabel};
-ghost use Rattle.model.specs.Trees.{bodyOf};
-ghost use Rattle.model.specs.Raising.{raisedBy, raisedOnce, raisedTimes};
+ghost use Rattle.model.specs.Raising.{raisedTimes};
 ghost use Rattle.design.specs.Describes.{Describes};
 ghost use Rattle.checker_flow.specs.Masks.{Rows};
-ghost use Rattle.raising.specs.Passes.{leastOf, Labelling, Raising, RaisingCommand, Assigns, RaisedAt, RaisedTo};
+ghost use Rattle.raising.specs.Passes.{leastOf, Labelling, Raising, RaisingCommand, Assigns, RaisedAt, RaisedIn, RaisedOnce};
 
 // The least label of a mask.
 fn least(image: &[u8], design: Design, among: usize) -> u8
@@ -46,7 +43,7 @@ fn raise_register(
     n: usize,
 ) -> bool
     requires { ⌜ Raising (now image) design (now labels) × Rows (designOf (now image)) (now masks) × Assigns (now image) design n ⌝ }
-    ensures { λ moved. ⌜ RaisedAt (designOf (now (image .entry))) context n (now (labels .entry)) (now (labels .exit)) moved ⌝ }
+    ensures { λ moved. ⌜ RaisedAt (designOf (now (image .entry))) (now (masks .entry)) context n (now (labels .entry)) (now (labels .exit)) moved ⌝ }
 {
     let r = Design::item(image, design.commands_at, n);
     let e = Design::part_a(image, design.commands_at, n);
@@ -70,7 +67,7 @@ fn raise_command(
     n: usize,
 ) -> bool
     requires { ⌜ RaisingCommand (now image) design (now masks) (now labels) n ⌝ }
-    ensures { λ moved. ⌜ RaisedAt (designOf (now (image .entry))) context n (now (labels .entry)) (now (labels .exit)) moved ⌝ }
+    ensures { λ moved. ⌜ RaisedAt (designOf (now (image .entry))) (now (masks .entry)) context n (now (labels .entry)) (now (labels .exit)) moved ⌝ }
 {
     let kind = Design::kind(image, design.commands_at, n);
     match kind {
@@ -104,7 +101,7 @@ fn raise_state(
     s: usize,
 ) -> bool
     requires { ⌜ Raising (now image) design (now labels) × Rows (designOf (now image)) (now masks) × (s < design .states) ⌝ }
-    ensures { λ moved. ⌜ RaisedTo (designOf (now (image .entry))) (raisedBy (designOf (now (image .entry))) (stateLabel (designOf (now (image .entry))) s ∷ []) (bodyOf (designOf (now (image .entry))) s) (now (labels .entry))) (now (labels .entry)) (now (labels .exit)) moved ⌝ }
+    ensures { λ moved. ⌜ RaisedIn (designOf (now (image .entry))) s (now (labels .entry)) (now (labels .exit)) moved ⌝ }
 {
     let label = Design::state_label(image, design.states_at, s);
     let n = Design::state_command(image, design.states_at, s);
@@ -115,7 +112,7 @@ fn raise_state(
 // One pass over all bodies; answers whether a label rose.
 fn raise_once(image: &[u8], design: Design, masks: &[usize; MASKS], labels: &mut [u8]) -> bool
     requires { ⌜ Raising (now image) design (now labels) × Rows (designOf (now image)) (now masks) ⌝ }
-    ensures { λ moved. ⌜ RaisedTo (designOf (now (image .entry))) (raisedOnce (designOf (now (image .entry))) (now (labels .entry))) (now (labels .entry)) (now (labels .exit)) moved ⌝ }
+    ensures { λ moved. ⌜ RaisedOnce (designOf (now (image .entry))) (now (labels .entry)) (now (labels .exit)) moved ⌝ }
 {
     let mut moved = false;
     let mut s = 0;

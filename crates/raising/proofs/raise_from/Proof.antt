@@ -2,7 +2,6 @@ use Rattle.raising.proofs.StageRules.{within-refuses, within-accepts, l
 use Rattle.design.proofs.ScopeRules.{empty-scopes}
 use Rattle.checker.proofs.Accepted.{structure-parameters, structure-bodies}
 use borrow.Author.Needs.{needs}
-use borrow.Author.Needs.{needs}
 use Rattle.raising.proofs.raise_from.Statement.{statement}
 use Rattle.raising.proofs.raise_from.Tie as tie
 
@@ -31,7 +30,7 @@ same-length : tie.Need-same-length
 same-length c = search needs
 
 returns : tie.Need-returns
-returns c = search (within-refuses, needs)
+returns c = (search (within-refuses, needs), search needs)
 
 same-length-2 : tie.Need-same-length-2
 same-length-2 c = search needs
@@ -40,7 +39,7 @@ same-length-3 : tie.Need-same-length-3
 same-length-3 c = search needs
 
 returns-2 : tie.Need-returns-2
-returns-2 c = search (within-accepts, needs)
+returns-2 c = (search (within-accepts, needs), search needs)
 
 pub raise-from-spec : {M : Type 1} → statement M
 raise-from-spec =

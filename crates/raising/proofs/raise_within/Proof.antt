@@ -1,4 +1,4 @@
-use Rattle.raising.proofs.StageRules.{own-enough, own-table, own-raising}
+use Rattle.raising.proofs.StageRules.{own-enough, own-table, own-raising, own-raised}
 use borrow.Author.Needs.{needs}
 use Rattle.raising.proofs.raise_within.Statement.{statement}
 use Rattle.raising.proofs.raise_within.Tie as tie
@@ -16,7 +16,7 @@ same-length-2 : tie.Need-same-length-2
 same-length-2 c = search needs
 
 returns : tie.Need-returns
-returns c = search needs
+returns c = (search needs, search (own-raised, needs))
 
 pub raise-within-spec : {M : Type 1} → statement M
 raise-within-spec = tie.close (tie.spec register-labels-requires raise-from-requires same-length same-length-2 returns)

@@ -1,7 +1,8 @@
 use Prim.Native.Nat.{_-_, _≤_}
 use Rattle.model.specs.Image.{designOf}
 use Rattle.checker_flow.specs.Masks.{Rows}
-use Rattle.raising.proofs.CommandRules.{TimesSo, times-none, times-more, times-still, times-all, most-passes, raising-times, most-fits, most-few, labelling-to}
+use Rattle.checker_flow.proofs.TableRules.{rows-kept}
+use Rattle.raising.proofs.StateRules.{TimesSo, times-none, times-more, times-still, times-all, most-passes, raising-times, most-fits, most-few, labelling-to}
 use borrow.Author.Needs.{needs}
 use Rattle.raising.proofs.passes.raise_labels.Statement.{statement}
 use Rattle.raising.proofs.passes.raise_labels.Tie as tie
@@ -22,7 +23,7 @@ mul-most : tie.Need-mul-most Inv-loop μ-loop
 mul-most c = search (most-fits, needs)
 
 loop-holds : tie.Need-loop-holds Inv-loop μ-loop
-loop-holds c = search (times-none, most-few, needs)
+loop-holds c = (search (times-none, needs), search needs, search (most-few, needs), search (rows-kept, needs))
 
 raise-once-requires : tie.Need-raise-once-requires Inv-loop μ-loop
 raise-once-requires c κs = search (raising-times, needs)

@@ -1,5 +1,5 @@
 use Rattle.design.proofs.Laws.{state-inside}
-use Rattle.raising.proofs.CommandRules.{state-row-inside, state-raising, state-raises}
+use Rattle.raising.proofs.StateRules.{state-row-inside, state-raising, state-raises}
 use borrow.Author.Needs.{needs}
 use Rattle.raising.proofs.passes.raise_state.Statement.{statement}
 use Rattle.raising.proofs.passes.raise_state.Tie as tie
