@@ -1,5 +1,5 @@
 -- What a command of each kind leaves and comes to, from what its parts leave and come to: the laws that the recursion over commands cites.
-use Prim.Native.Nat.{ℕ, zero, suc, _+_, _*_, _%_, _^_, _≤_, _<_}
+use Prim.Native.Nat.{ℕ, _+_, _*_, _%_, _^_, _≤_, _<_}
 use mathlib.Core.Path.{_≡_, refl, sym, _∙_, ap}
 use mathlib.Core.List.{List}
 use native.Mathlib.Omega.{arith}
@@ -10,38 +10,58 @@ use Rattle.model.specs.declared.Ending.{Ending}
 use Rattle.model.specs.declared.Ending.the-variants.{Goto, Fall}
 use Rattle.model.specs.declared.Outcome.{Outcome}
 use Rattle.model.specs.declared.Outcome.the-variants.{Continued, Transferred}
-use Rattle.model.specs.Image.{Design as Table, Node, designOf, registerAt, commandAt}
+use Rattle.model.specs.Image.{designOf, registerAt, commandAt}
 use Rattle.model.specs.Kinds.{assigns, sequences, branches, commandKind}
 use Rattle.model.specs.Trees.{assign, sequence, branch, exprOf, cmdOf}
 use Rattle.model.specs.Values.{wordsOf}
 use Rattle.model.specs.Bindings.{named, exprWith, cmdWith}
 use Rattle.model.specs.Machine.{eval, exec}
-use Rattle.model.specs.Rules.{CommandHolds}
-use Rattle.model.proofs.Laws.Kinds.{kind-skips, kind-falls, kind-goes}
+use Rattle.model.proofs.Laws.Kinds.{kind-skips, kind-falls, kind-goes, no-command-kind}
 use Rattle.model.proofs.Laws.Trees.{cmd-skip, cmd-assign, cmd-sequence, cmd-fall, cmd-goto, cmd-branch}
 use Rattle.design.specs.declared.Design.{Design}
-use Rattle.design.specs.Records.{registerIn, nodeIn, registerEnd}
+use Rattle.design.specs.Records.{registerIn, nodeIn, registerEnd, nodeEnd}
+use Rattle.design.specs.RecordsAt.{CommandAt}
 use Rattle.design.proofs.Laws.{registers-count, expressions-count, register-inside}
 use Rattle.design.specs.Words.{putWord}
 use Rattle.design.proofs.FieldRules.{command-at, command-place-inside, command-kind-is, command-kind-of, item-is, a-is, b-is, c-is, command-holds, assigned-expression, condition, sequence-a-below, sequence-b-below, branch-b-below, branch-c-below, lower-command, expression-at}
 use Rattle.design.proofs.WordRules.{words-put, length-put}
 use Rattle.design.proofs.WidthRules.{width-is, width-narrow}
-use Rattle.machine_commands.specs.Executions.{Executing, Evaluating, Performing, ReadsFit, CommandFits, boundOf, executedAs, valuesIn}
+use Rattle.machine_commands.specs.Executions.{Executing, Evaluating, Transferring, Performing, ReadsFit, CommandFits, boundOf, executedAs, valuesIn}
 
 -- an outcome from its parts
 pub anew-ending : {o : Outcome} {e f : Ending} → o ≡ Transferred e → e ≡ f → Transferred f ≡ o
 anew-ending h g = sym (h ∙ ap Transferred g)
 
--- a kind that is no assignment, sequence, fall, goto or if is a skip
-skip-kind : (d : Table) (n k : ℕ) (x : Node) → (k ≡ 1 → ⊥) → (k ≡ 2 → ⊥) → (k ≡ 3 → ⊥) → (k ≡ 4 → ⊥) → (k ≡ 5 → ⊥) → CommandHolds d n (commandKind k) x → k ≡ 0
-unfolding commandKind
-skip-kind d n zero x a b c e f h = refl
-skip-kind d n (suc zero) x a b c e f h = absurd (a refl)
-skip-kind d n (suc (suc zero)) x a b c e f h = absurd (b refl)
-skip-kind d n (suc (suc (suc zero))) x a b c e f h = absurd (c refl)
-skip-kind d n (suc (suc (suc (suc zero)))) x a b c e f h = absurd (e refl)
-skip-kind d n (suc (suc (suc (suc (suc zero))))) x a b c e f h = absurd (f refl)
-skip-kind d n (suc (suc (suc (suc (suc (suc k)))))) x a b c e f h = absurd h
+-- ---- a fall and a goto, whatever the registers are
+module _ {image : List ℕ} {place n : ℕ} (here : Transferring image place n) where
+  pub transferring-inside : nodeEnd place n ≤ length image
+  transferring-inside = command-place-inside (here .command)
+
+  module _ (bound : ℕ) (values : List ℕ) where
+    pub comes-to-fall : {k : ℕ} → k ≡ 3 → k ≡ nodeIn image place n .kind → executedAs values (Transferred Fall) ≡ exec (designOf image .registers) values (cmdWith (boundOf bound) (cmdOf (designOf image) n))
+    unfolding exec cmdWith
+    comes-to-fall q p = rw (cmd-fall (designOf image) n (kind-falls (command-kind-is (here .command) q p))) refl
+
+    pub comes-to-goto :
+        {k s a b v w : ℕ}
+        → (k ≡ 3 → ⊥)
+        → k ≡ nodeIn image place n .kind
+        → s ≡ nodeIn image place n .item
+        → v ≡ named (boundOf bound) a
+        → a ≡ nodeIn image place n .a
+        → w ≡ named (boundOf bound) b
+        → b ≡ nodeIn image place n .b
+        → executedAs values (Transferred (Goto s v w)) ≡ exec (designOf image .registers) values (cmdWith (boundOf bound) (cmdOf (designOf image) n))
+    unfolding exec cmdWith
+    comes-to-goto {k} {s} {v = v} {w = w} other p f first g second h =
+        let d = designOf image in
+        let low = here .lowest in
+        let high = here .highest in
+        let goes : k ≡ 4 = omega arith in
+        let state : s ≡ commandAt d n .item = item-is (here .command) f in
+        let given : v ≡ named (boundOf bound) (commandAt d n .a) = first ∙ ap (named (boundOf bound)) (a-is (here .command) g) in
+        let next : w ≡ named (boundOf bound) (commandAt d n .b) = second ∙ ap (named (boundOf bound)) (b-is (here .command) h) in
+        rw (cmd-goto d n (kind-goes (command-kind-is (here .command) goes p)), state, given, next) refl
 
 -- ---- what is known at a command
 module _ {image : List ℕ} {places commands expressions : ℕ} {before : List ℕ} {bound n : ℕ} (here : Performing image places commands expressions before bound n) where
@@ -125,6 +145,33 @@ module _ {image : List ℕ} {places commands expressions : ℕ} {before : List �
       let fits = rw (branch-tree q p) at (here .fits) in
       evaluating (condition (here .command) q p f) (rw (a-is (here .command) f) (fits .0))
 
+  -- ---- a command or a part that is a fall or a goto
+  transferring-at : {x : Design} {m w : ℕ} → CommandAt image x commands m → 3 ≤ w → w < 5 → w ≡ nodeIn image commands m .kind → Transferring image commands m
+  transferring-at there low high p = record { design = _; command = there; lowest = omega arith; highest = omega arith }
+
+  -- behind the arms of 1 and 2
+  pub own-transferring : {k : ℕ} → (k ≡ 1 → ⊥) → (k ≡ 2 → ⊥) → 1 ≤ k → k < 5 → k ≡ nodeIn image commands n .kind → Transferring image commands n
+  own-transferring one two low high p = transferring-at (here .command) (omega arith) high p
+
+  pub sequence-b-transferring : {k b w : ℕ} → k ≡ 2 → k ≡ nodeIn image commands n .kind → b ≡ nodeIn image commands n .b → 3 ≤ w → w < 5 → w ≡ nodeIn image commands b .kind → Transferring image commands b
+  sequence-b-transferring q p f low high = transferring-at (lower-command (here .command) (here .known .commands) (sequence-b-below (here .command) q p f)) low high
+
+  pub branch-b-transferring : {k b w : ℕ} → k ≡ 5 → k ≡ nodeIn image commands n .kind → b ≡ nodeIn image commands n .b → 3 ≤ w → w < 5 → w ≡ nodeIn image commands b .kind → Transferring image commands b
+  branch-b-transferring q p f low high = transferring-at (lower-command (here .command) (here .known .commands) (branch-b-below (here .command) q p f)) low high
+
+  pub branch-c-transferring : {k c w : ℕ} → k ≡ 5 → k ≡ nodeIn image commands n .kind → c ≡ nodeIn image commands n .c → 3 ≤ w → w < 5 → w ≡ nodeIn image commands c .kind → Transferring image commands c
+  branch-c-transferring q p f low high = transferring-at (lower-command (here .command) (here .known .commands) (branch-c-below (here .command) q p f)) low high
+
+  -- where a part stands
+  pub sequence-b-place : {k b : ℕ} → k ≡ 2 → k ≡ nodeIn image commands n .kind → b ≡ nodeIn image commands n .b → nodeEnd commands b ≤ length image
+  sequence-b-place q p f = command-place-inside (lower-command (here .command) (here .known .commands) (sequence-b-below (here .command) q p f))
+
+  pub branch-b-place : {k b : ℕ} → k ≡ 5 → k ≡ nodeIn image commands n .kind → b ≡ nodeIn image commands n .b → nodeEnd commands b ≤ length image
+  branch-b-place q p f = command-place-inside (lower-command (here .command) (here .known .commands) (branch-b-below (here .command) q p f))
+
+  pub branch-c-place : {k c : ℕ} → k ≡ 5 → k ≡ nodeIn image commands n .kind → c ≡ nodeIn image commands n .c → nodeEnd commands c ≤ length image
+  branch-c-place q p f = command-place-inside (lower-command (here .command) (here .known .commands) (branch-c-below (here .command) q p f))
+
   -- ---- what a command leaves
   area-is : length before ≡ 4 * length (designOf image .registers)
   area-is = rw (registers-count (here .known .describes)) at (here .area)
@@ -154,43 +201,6 @@ module _ {image : List ℕ} {places commands expressions : ℕ} {before : List �
 
   pub written-narrow : {k r w : ℕ} → k ≡ 1 → k ≡ nodeIn image commands n .kind → r ≡ named (boundOf bound) (nodeIn image commands n .item) → w ≡ registerIn image places r .width → w ≤ widthMax
   written-narrow {r = r} q p f h = width-narrow (here .known) (written-register q p f) (place-width r h)
-
-  pub executes-skip :
-      {k : ℕ}
-      → k ≡ nodeIn image commands n .kind
-      → (k ≡ 1 → ⊥)
-      → (k ≡ 2 → ⊥)
-      → (k ≡ 3 → ⊥)
-      → (k ≡ 4 → ⊥)
-      → (k ≡ 5 → ⊥)
-      → executedAs (valuesIn (designOf image) before) Continued ≡ exec (designOf image .registers) (valuesIn (designOf image) before) (cmdWith (boundOf bound) (cmdOf (designOf image) n))
-  unfolding exec cmdWith commandKind
-  executes-skip {k} p a b c e f =
-      let d = designOf image in
-      let none = skip-kind d n k (commandAt d n) a b c e f (command-holds (here .command) refl p) in
-      rw (cmd-skip d n (kind-skips (command-kind-is (here .command) none p))) refl
-
-  pub executes-fall : {k : ℕ} → k ≡ 3 → k ≡ nodeIn image commands n .kind → executedAs (valuesIn (designOf image) before) (Transferred Fall) ≡ exec (designOf image .registers) (valuesIn (designOf image) before) (cmdWith (boundOf bound) (cmdOf (designOf image) n))
-  unfolding exec cmdWith commandKind
-  executes-fall q p = rw (cmd-fall (designOf image) n (kind-falls (command-kind-is (here .command) q p))) refl
-
-  pub executes-goto :
-      {k s a b v w : ℕ}
-      → k ≡ 4
-      → k ≡ nodeIn image commands n .kind
-      → s ≡ nodeIn image commands n .item
-      → v ≡ named (boundOf bound) a
-      → a ≡ nodeIn image commands n .a
-      → w ≡ named (boundOf bound) b
-      → b ≡ nodeIn image commands n .b
-      → executedAs (valuesIn (designOf image) before) (Transferred (Goto s v w)) ≡ exec (designOf image .registers) (valuesIn (designOf image) before) (cmdWith (boundOf bound) (cmdOf (designOf image) n))
-  unfolding exec cmdWith commandKind
-  executes-goto {s = s} {v = v} {w = w} q p f first g second h =
-      let d = designOf image in
-      let state : s ≡ commandAt d n .item = item-is (here .command) f in
-      let given : v ≡ named (boundOf bound) (commandAt d n .a) = first ∙ ap (named (boundOf bound)) (a-is (here .command) g) in
-      let other : w ≡ named (boundOf bound) (commandAt d n .b) = second ∙ ap (named (boundOf bound)) (b-is (here .command) h) in
-      rw (cmd-goto d n (kind-goes (command-kind-is (here .command) q p)), state, given, other) refl
 
   pub executes-assign :
       {k r e v w u : ℕ} {after : List ℕ}
@@ -284,6 +294,64 @@ module _ {image : List ℕ} {places commands expressions : ℕ} {before : List �
       let then = rw (b-is (here .command) g) at part in
       rw (answered, tree, sym same, ne-eqb v 0 some) then
 
+  pub executes-skip :
+      {k : ℕ}
+      → k < 1
+      → k ≡ nodeIn image commands n .kind
+      → executedAs (valuesIn (designOf image) before) Continued ≡ exec (designOf image .registers) (valuesIn (designOf image) before) (cmdWith (boundOf bound) (cmdOf (designOf image) n))
+  unfolding exec cmdWith
+  executes-skip l p = rw (cmd-skip (designOf image) n (kind-skips (command-kind-is (here .command) (omega arith) p))) refl
+
+  -- no number from here on is a kind
+  pub executes-none :
+      {k : ℕ}
+      → 5 ≤ k
+      → (k ≡ 5 → ⊥)
+      → k ≡ nodeIn image commands n .kind
+      → executedAs (valuesIn (designOf image) before) Continued ≡ exec (designOf image .registers) (valuesIn (designOf image) before) (cmdWith (boundOf bound) (cmdOf (designOf image) n))
+  executes-none {k} l other p = absurd (rw (no-command-kind {k = k} (omega arith)) at (command-holds (here .command) refl p))
+
+  -- with a fall or a goto that comes last
+  pub executes-own : {r : Outcome} → ((values : List ℕ) → executedAs values r ≡ exec (designOf image .registers) values (cmdWith (boundOf bound) (cmdOf (designOf image) n)))
+      → executedAs (valuesIn (designOf image) before) r ≡ exec (designOf image .registers) (valuesIn (designOf image) before) (cmdWith (boundOf bound) (cmdOf (designOf image) n))
+  executes-own every = every (valuesIn (designOf image) before)
+
+  pub executes-second-ending :
+      {k a b : ℕ} (after : List ℕ) {o r : Outcome}
+      → k ≡ 2
+      → k ≡ nodeIn image commands n .kind
+      → a ≡ nodeIn image commands n .a
+      → b ≡ nodeIn image commands n .b
+      → executedAs (valuesIn (designOf image) after) o ≡ exec (designOf image .registers) (valuesIn (designOf image) before) (cmdWith (boundOf bound) (cmdOf (designOf image) a))
+      → o ≡ Continued
+      → ((values : List ℕ) → executedAs values r ≡ exec (designOf image .registers) values (cmdWith (boundOf bound) (cmdOf (designOf image) b)))
+      → executedAs (valuesIn (designOf image) after) r ≡ exec (designOf image .registers) (valuesIn (designOf image) before) (cmdWith (boundOf bound) (cmdOf (designOf image) n))
+  executes-second-ending after q p f g first ended every = executes-second after after q p f g first ended (every (valuesIn (designOf image) after)) refl
+
+  pub executes-other-ending :
+      {k e c v : ℕ} {r : Outcome}
+      → k ≡ 5
+      → k ≡ nodeIn image commands n .kind
+      → e ≡ nodeIn image commands n .a
+      → c ≡ nodeIn image commands n .c
+      → v ≡ eval (valuesIn (designOf image) before) (exprWith (boundOf bound) (exprOf (designOf image) e))
+      → v ≡ 0
+      → ((values : List ℕ) → executedAs values r ≡ exec (designOf image .registers) values (cmdWith (boundOf bound) (cmdOf (designOf image) c)))
+      → executedAs (valuesIn (designOf image) before) r ≡ exec (designOf image .registers) (valuesIn (designOf image) before) (cmdWith (boundOf bound) (cmdOf (designOf image) n))
+  executes-other-ending q p f g value none every = executes-other before q p f g value none (every (valuesIn (designOf image) before)) refl
+
+  pub executes-taken-ending :
+      {k e b v : ℕ} {r : Outcome}
+      → k ≡ 5
+      → k ≡ nodeIn image commands n .kind
+      → e ≡ nodeIn image commands n .a
+      → b ≡ nodeIn image commands n .b
+      → v ≡ eval (valuesIn (designOf image) before) (exprWith (boundOf bound) (exprOf (designOf image) e))
+      → (v ≡ 0 → ⊥)
+      → ((values : List ℕ) → executedAs values r ≡ exec (designOf image .registers) values (cmdWith (boundOf bound) (cmdOf (designOf image) b)))
+      → executedAs (valuesIn (designOf image) before) r ≡ exec (designOf image .registers) (valuesIn (designOf image) before) (cmdWith (boundOf bound) (cmdOf (designOf image) n))
+  executes-taken-ending q p f g value some every = executes-taken before q p f g value some (every (valuesIn (designOf image) before)) refl
+
 -- the area keeps its length
 pub put-same-length : (before : List ℕ) (r v : ℕ) {after : List ℕ} → after ≡ putWord before r v → length after ≡ length before
 put-same-length before r v wrote = ap (λ (bytes : List ℕ). length bytes) wrote ∙ length-put before r v
@@ -304,4 +372,4 @@ performing executing area =
 pub answers : {image : List ℕ} {x : Design} {bound n : ℕ} (before after : List ℕ) {o : Outcome} → Executing image x bound n → executedAs (valuesIn (designOf image) after) o ≡ exec (designOf image .registers) (valuesIn (designOf image) before) (cmdWith (boundOf bound) (cmdOf (designOf image) n)) → executedAs (wordsOf (x .registers) after) o ≡ exec (designOf image .registers) (wordsOf (x .registers) before) (cmdWith (boundOf bound) (cmdOf (designOf image) n))
 answers before after executing ran = rw (registers-count (executing .known .describes)) ran
 
-pub ruleset perform-laws = (command-place-inside, written-inside, executes-skip, executes-fall, executes-goto, executes-assign, executes-first, executes-second, executes-other, executes-taken, put-same-length)
+pub ruleset perform-laws = (executes-assign, executes-second, executes-second-ending, executes-other, executes-other-ending, executes-taken)

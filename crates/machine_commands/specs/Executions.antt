@@ -1,5 +1,5 @@
 -- What is known where expression e is evaluated and where command n runs, and what a command leaves as the code gives it.
-use Prim.Native.Nat.{ℕ, _*_, _/_, _%_, _<_}
+use Prim.Native.Nat.{ℕ, _*_, _/_, _%_, _≤_, _<_}
 use mathlib.Core.Path.{_≡_}
 use mathlib.Core.List.{List, [], _∷_}
 use lib.ListN.{length}
@@ -11,6 +11,7 @@ use Rattle.model.specs.Values.{wordsOf}
 use Rattle.model.specs.Bindings.{named}
 use Rattle.model.specs.Machine.{Executed}
 use Rattle.design.specs.declared.Design.{Design}
+use Rattle.design.specs.Records.{nodeIn}
 use Rattle.design.specs.RecordsAt.{CommandAt, ExpressionAt}
 use Rattle.design.specs.Kept.{RecordsKept}
 
@@ -53,6 +54,13 @@ pub record Performing (image : List ℕ) (registersAt commandsAt expressionsAt :
   pub registers-begin : registersAt ≡ design .«registers_at»
   pub expressions-begin : expressionsAt ≡ design .«expressions_at»
   pub area : length registers ≡ wordLength * design .registers
+
+-- command n is a fall or a goto
+pub record Transferring (image : List ℕ) (at n : ℕ) : Type 0 where
+  pub design : Design
+  pub command : CommandAt image design at n
+  pub lowest : 3 ≤ nodeIn image at n .kind
+  pub highest : nodeIn image at n .kind < 5
 
 -- the values of the registers
 abbrev pub valuesIn : Table → List ℕ → List ℕ

@@ -7,8 +7,9 @@ use design::widths::cut;
 use design::words::put_word;
 use model::Ending;
 use model::Outcome;
-ghost use Prim.Native.Nat.{_*_};
+ghost use Prim.Native.Nat.{ℕ, _*_};
 ghost use mathlib.Core.Path.{_≡_};
+ghost use mathlib.Core.List.{List};
 ghost use lib.ListN.{length};
 ghost use Rattle.model.specs.Limits.{wordLength};
 ghost use Rattle.model.specs.Image.{designOf};
@@ -16,7 +17,7 @@ ghost use Rattle.model.specs.Trees.{cmdOf};
 ghost use Rattle.model.specs.Values.{wordsOf};
 ghost use Rattle.model.specs.Bindings.{cmdWith};
 ghost use Rattle.model.specs.Machine.{exec};
-ghost use Rattle.machine_commands.specs.Executions.{Executing, Performing, boundOf, executedAs, valuesIn};
+ghost use Rattle.machine_commands.specs.Executions.{Executing, Transferring, Performing, boundOf, executedAs, valuesIn};
 
 // An outcome, made anew from its parts. One that is answered as it came from a call is copied whole, behind a
 // store of its first byte, which stalls.
@@ -32,7 +33,24 @@ fn anew(outcome: Outcome) -> Outcome
     }
 }
 
-// Command n runs: the registers are what it leaves, and the answer is what it came to.
+// What a fall or a goto comes to.
+fn ending(image: &[u8], at: usize, bound: usize, n: usize) -> Outcome
+    requires { ⌜ Transferring (now image) at n ⌝ }
+    ensures { λ o. ⌜ ((values : List ℕ) → executedAs values o ≡ exec (designOf (now (image .entry)) .registers) values (cmdWith (boundOf bound) (cmdOf (designOf (now (image .entry))) n))) ⌝ }
+{
+    match Design::kind(image, at, n) {
+        3 => Outcome::Transferred(Ending::Fall),
+        _ => {
+            let t = Design::item(image, at, n);
+            let a = named(bound, Design::part_a(image, at, n));
+            let b = named(bound, Design::part_b(image, at, n));
+            Outcome::Transferred(Ending::Goto(t, a, b))
+        }
+    }
+}
+
+// Command n runs: the registers are what it leaves, and the answer is what it came to. A fall or a goto
+// that comes last costs no call.
 // It has the places where the sections begin: the whole design would be copied at every call.
 // A reborrow keeps the slice in registers of the processor; image itself would go through memory.
 fn perform(
@@ -47,10 +65,9 @@ fn perform(
     requires { ⌜ Performing (now image) «registers_at» «commands_at» «expressions_at» (now registers) bound n ⌝ }
     ensures { λ o. ⌜ (executedAs (valuesIn (designOf (now (image .entry))) (now (registers .exit))) o ≡ exec (designOf (now (image .entry)) .registers) (valuesIn (designOf (now (image .entry))) (now (registers .entry))) (cmdWith (boundOf bound) (cmdOf (designOf (now (image .entry))) n))) × (length (now (registers .exit)) ≡ length (now (registers .entry))) ⌝ }
 {
-    let a = Design::part_a(image, commands_at, n);
-    let b = Design::part_b(image, commands_at, n);
     match Design::kind(image, commands_at, n) {
         1 => {
+            let a = Design::part_a(image, commands_at, n);
             let r = item_named(image, commands_at, bound, n);
             let v = evaluate(&*image, expressions_at, &*registers, bound, a);
             let width = Design::register_width(image, registers_at, r);
@@ -58,6 +75,8 @@ fn perform(
             Outcome::Continued
         }
         2 => {
+            let a = Design::part_a(image, commands_at, n);
+            let b = Design::part_b(image, commands_at, n);
             let first = perform(
                 &*image,
                 registers_at,
@@ -70,46 +89,59 @@ fn perform(
             let Outcome::Continued = first else {
                 return anew(first);
             };
-            let second = perform(
-                &*image,
-                registers_at,
-                commands_at,
-                expressions_at,
-                registers,
-                bound,
-                b,
-            );
-            anew(second)
+            match Design::kind(image, commands_at, b) {
+                3..=4 => ending(image, commands_at, bound, b),
+                _ => {
+                    let second = perform(
+                        &*image,
+                        registers_at,
+                        commands_at,
+                        expressions_at,
+                        registers,
+                        bound,
+                        b,
+                    );
+                    anew(second)
+                }
+            }
         }
-        3 => Outcome::Transferred(Ending::Fall),
-        4 => {
-            let t = Design::item(image, commands_at, n);
-            Outcome::Transferred(Ending::Goto(t, named(bound, a), named(bound, b)))
-        }
+        3..=4 => ending(image, commands_at, bound, n),
         5 => {
+            let a = Design::part_a(image, commands_at, n);
+            let b = Design::part_b(image, commands_at, n);
             let c = Design::part_c(image, commands_at, n);
             if evaluate(&*image, expressions_at, &*registers, bound, a) == 0 {
-                let other = perform(
-                    &*image,
-                    registers_at,
-                    commands_at,
-                    expressions_at,
-                    registers,
-                    bound,
-                    c,
-                );
-                return anew(other);
+                return match Design::kind(image, commands_at, c) {
+                    3..=4 => ending(image, commands_at, bound, c),
+                    _ => {
+                        let other = perform(
+                            &*image,
+                            registers_at,
+                            commands_at,
+                            expressions_at,
+                            registers,
+                            bound,
+                            c,
+                        );
+                        anew(other)
+                    }
+                };
             }
-            let taken = perform(
-                &*image,
-                registers_at,
-                commands_at,
-                expressions_at,
-                registers,
-                bound,
-                b,
-            );
-            anew(taken)
+            match Design::kind(image, commands_at, b) {
+                3..=4 => ending(image, commands_at, bound, b),
+                _ => {
+                    let taken = perform(
+                        &*image,
+                        registers_at,
+                        commands_at,
+                        expressions_at,
+                        registers,
+                        bound,
+                        b,
+                    );
+                    anew(taken)
+                }
+            }
         }
         _ => Outcome::Continued,
     }

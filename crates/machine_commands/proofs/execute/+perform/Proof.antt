@@ -1,13 +1,12 @@
 use borrow.Author.Needs.{needs}
 use Rattle.design.proofs.FieldRules.{command-place-inside, sequence-a-falls, sequence-b-falls, branch-b-falls, branch-c-falls}
-use Rattle.machine_commands.proofs.ExecuteRules.{perform-laws, executes-assign, executes-first, executes-other, width-inside, written-narrow, put-same-length, assigned-evaluating, condition-evaluating, sequence-a-performing, sequence-b-performing, branch-b-performing, branch-c-performing}
+use Rattle.machine_commands.proofs.ExecuteRules.{perform-laws, executes-first, width-inside, written-narrow, written-inside, put-same-length, assigned-evaluating, condition-evaluating, sequence-a-performing, sequence-b-performing, branch-b-performing, branch-c-performing, own-transferring, sequence-b-transferring, branch-b-transferring, branch-c-transferring, sequence-b-place, branch-b-place, branch-c-place, executes-taken-ending, executes-skip, executes-none, executes-own}
 use Prim.Native.Nat.{ℕ, _<_}
 use borrow.Fn.Kinds.{In}
 use borrow.Fn.PlainCycle.{Measures, is, falls, and}
 use Rattle.machine_commands.proofs.execute.perform.Reads as perform
 use Rattle.machine_commands.proofs.execute.perform.Kinds as perform-kinds
 use Rattle.machine_commands.proofs.execute.+perform.Lts-perform as perform-lts
-use Rattle.design.proofs.Design.item.Reads as item-reads
 use Rattle.design.proofs.Design.kind.Reads as kind-reads
 use Rattle.design.proofs.Design.part_a.Reads as part-a-reads
 use Rattle.design.proofs.Design.part_b.Reads as part-b-reads
@@ -17,8 +16,8 @@ use Rattle.design.proofs.widths.cut.Reads as cut-reads
 use Rattle.design.proofs.words.put_word.Reads as put-word-reads
 use Rattle.machine_commands.proofs.evaluate.evaluate.Reads as evaluate-reads
 use Rattle.machine_commands.proofs.evaluate.item_named.Reads as item-named-reads
-use Rattle.machine_commands.proofs.evaluate.named.Reads as named-reads
 use Rattle.machine_commands.proofs.execute.anew.Reads as anew-reads
+use Rattle.machine_commands.proofs.execute.ending.Reads as ending-reads
 use Rattle.machine_commands.proofs.execute.+perform.{statement}
 use Rattle.machine_commands.proofs.execute.+perform.Tie.{close}
 
@@ -33,16 +32,13 @@ perform-below t = and 2 perform-kinds.ps (falls 2 perform-kinds.ps _<_ μ-perfor
 
 -- what the callees ask and tell
 abbrev perform-calls : ℕ → perform-lts.Claims
-perform-calls t = (part-a-reads.Asked, part-a-reads.Learnt, part-b-reads.Asked, part-b-reads.Learnt, kind-reads.Asked, kind-reads.Learnt, item-named-reads.Asked, item-named-reads.Learnt, evaluate-reads.Asked, evaluate-reads.Learnt, register-width-reads.Asked, register-width-reads.Learnt, cut-reads.Asked, cut-reads.Learnt, put-word-reads.Asked, put-word-reads.Learnt, perform-below t, perform.Post, anew-reads.Asked, anew-reads.Learnt, item-reads.Asked, item-reads.Learnt, named-reads.Asked, named-reads.Learnt, part-c-reads.Asked, part-c-reads.Learnt)
-
-perform-part-a-requires : (t : ℕ) → perform-lts.Need-part-a-requires (perform-calls t) (perform-at t) perform.Post
-perform-part-a-requires t c κs = search (command-place-inside, needs)
-
-perform-part-b-requires : (t : ℕ) → perform-lts.Need-part-b-requires (perform-calls t) (perform-at t) perform.Post
-perform-part-b-requires t c κs = search (command-place-inside, needs)
+perform-calls t = (kind-reads.Asked, kind-reads.Learnt, part-a-reads.Asked, part-a-reads.Learnt, item-named-reads.Asked, item-named-reads.Learnt, evaluate-reads.Asked, evaluate-reads.Learnt, register-width-reads.Asked, register-width-reads.Learnt, cut-reads.Asked, cut-reads.Learnt, put-word-reads.Asked, put-word-reads.Learnt, part-b-reads.Asked, part-b-reads.Learnt, perform-below t, perform.Post, anew-reads.Asked, anew-reads.Learnt, ending-reads.Asked, ending-reads.Learnt, part-c-reads.Asked, part-c-reads.Learnt)
 
 perform-kind-requires : (t : ℕ) → perform-lts.Need-kind-requires (perform-calls t) (perform-at t) perform.Post
 perform-kind-requires t c κs = search (command-place-inside, needs)
+
+perform-part-a-requires : (t : ℕ) → perform-lts.Need-part-a-requires (perform-calls t) (perform-at t) perform.Post
+perform-part-a-requires t c κs = search (command-place-inside, needs)
 
 perform-item-named-requires : (t : ℕ) → perform-lts.Need-item-named-requires (perform-calls t) (perform-at t) perform.Post
 perform-item-named-requires t c κs = search (command-place-inside, needs)
@@ -57,7 +53,13 @@ perform-cut-requires : (t : ℕ) → perform-lts.Need-cut-requires (perform-call
 perform-cut-requires t c κs = search (written-narrow, needs)
 
 perform-put-word-requires : (t : ℕ) → perform-lts.Need-put-word-requires (perform-calls t) (perform-at t) perform.Post
-perform-put-word-requires t c κs = search (perform-laws, needs)
+perform-put-word-requires t c κs = search (written-inside, needs)
+
+perform-part-a-requires-2 : (t : ℕ) → perform-lts.Need-part-a-requires-2 (perform-calls t) (perform-at t) perform.Post
+perform-part-a-requires-2 t c κs = search (command-place-inside, needs)
+
+perform-part-b-requires : (t : ℕ) → perform-lts.Need-part-b-requires (perform-calls t) (perform-at t) perform.Post
+perform-part-b-requires t c κs = search (command-place-inside, needs)
 
 perform-perform-requires : (t : ℕ) → perform-lts.Need-perform-requires (perform-calls t) (perform-at t) perform.Post
 perform-perform-requires t c κs = (search sequence-a-falls, search sequence-a-performing)
@@ -77,26 +79,35 @@ perform-same-length t c = search needs
 perform-returns : (t : ℕ) → perform-lts.Need-returns (perform-calls t) (perform-at t) perform.Post
 perform-returns t c = (search executes-first, search needs)
 
+perform-kind-requires-2 : (t : ℕ) → perform-lts.Need-kind-requires-2 (perform-calls t) (perform-at t) perform.Post
+perform-kind-requires-2 t c κs = search sequence-b-place
+
+perform-ending-requires : (t : ℕ) → perform-lts.Need-ending-requires (perform-calls t) (perform-at t) perform.Post
+perform-ending-requires t c κs = search sequence-b-transferring
+
 perform-perform-requires-2 : (t : ℕ) → perform-lts.Need-perform-requires-2 (perform-calls t) (perform-at t) perform.Post
 perform-perform-requires-2 t c κs = (search sequence-b-falls, search (sequence-b-performing, needs))
 
 perform-anew-requires-2 : (t : ℕ) → perform-lts.Need-anew-requires-2 (perform-calls t) (perform-at t) perform.Post
 perform-anew-requires-2 t c κs = search needs
 
-perform-item-requires : (t : ℕ) → perform-lts.Need-item-requires (perform-calls t) (perform-at t) perform.Post
-perform-item-requires t c κs = search (command-place-inside, needs)
+perform-part-a-requires-3 : (t : ℕ) → perform-lts.Need-part-a-requires-3 (perform-calls t) (perform-at t) perform.Post
+perform-part-a-requires-3 t c κs = search (command-place-inside, needs)
 
-perform-named-requires : (t : ℕ) → perform-lts.Need-named-requires (perform-calls t) (perform-at t) perform.Post
-perform-named-requires t c κs = search needs
-
-perform-named-requires-2 : (t : ℕ) → perform-lts.Need-named-requires-2 (perform-calls t) (perform-at t) perform.Post
-perform-named-requires-2 t c κs = search needs
+perform-part-b-requires-2 : (t : ℕ) → perform-lts.Need-part-b-requires-2 (perform-calls t) (perform-at t) perform.Post
+perform-part-b-requires-2 t c κs = search (command-place-inside, needs)
 
 perform-part-c-requires : (t : ℕ) → perform-lts.Need-part-c-requires (perform-calls t) (perform-at t) perform.Post
 perform-part-c-requires t c κs = search (command-place-inside, needs)
 
 perform-evaluate-requires-2 : (t : ℕ) → perform-lts.Need-evaluate-requires-2 (perform-calls t) (perform-at t) perform.Post
 perform-evaluate-requires-2 t c κs = search condition-evaluating
+
+perform-kind-requires-3 : (t : ℕ) → perform-lts.Need-kind-requires-3 (perform-calls t) (perform-at t) perform.Post
+perform-kind-requires-3 t c κs = search branch-c-place
+
+perform-ending-requires-2 : (t : ℕ) → perform-lts.Need-ending-requires-2 (perform-calls t) (perform-at t) perform.Post
+perform-ending-requires-2 t c κs = search branch-c-transferring
 
 perform-perform-requires-3 : (t : ℕ) → perform-lts.Need-perform-requires-3 (perform-calls t) (perform-at t) perform.Post
 perform-perform-requires-3 t c κs = (search branch-c-falls, search branch-c-performing)
@@ -108,7 +119,19 @@ perform-same-length-2 : (t : ℕ) → perform-lts.Need-same-length-2 (perform-ca
 perform-same-length-2 t c = search needs
 
 perform-returns-2 : (t : ℕ) → perform-lts.Need-returns-2 (perform-calls t) (perform-at t) perform.Post
-perform-returns-2 t c = (search executes-other, search needs)
+perform-returns-2 t c = (search (perform-laws, needs), search needs)
+
+perform-same-length-3 : (t : ℕ) → perform-lts.Need-same-length-3 (perform-calls t) (perform-at t) perform.Post
+perform-same-length-3 t c = search needs
+
+perform-returns-3 : (t : ℕ) → perform-lts.Need-returns-3 (perform-calls t) (perform-at t) perform.Post
+perform-returns-3 t c = (search (perform-laws, needs), search (put-same-length, needs))
+
+perform-kind-requires-4 : (t : ℕ) → perform-lts.Need-kind-requires-4 (perform-calls t) (perform-at t) perform.Post
+perform-kind-requires-4 t c κs = search branch-b-place
+
+perform-ending-requires-3 : (t : ℕ) → perform-lts.Need-ending-requires-3 (perform-calls t) (perform-at t) perform.Post
+perform-ending-requires-3 t c κs = search branch-b-transferring
 
 perform-perform-requires-4 : (t : ℕ) → perform-lts.Need-perform-requires-4 (perform-calls t) (perform-at t) perform.Post
 perform-perform-requires-4 t c κs = (search branch-b-falls, search branch-b-performing)
@@ -116,11 +139,8 @@ perform-perform-requires-4 t c κs = (search branch-b-falls, search branch-b-per
 perform-anew-requires-4 : (t : ℕ) → perform-lts.Need-anew-requires-4 (perform-calls t) (perform-at t) perform.Post
 perform-anew-requires-4 t c κs = search needs
 
-perform-same-length-3 : (t : ℕ) → perform-lts.Need-same-length-3 (perform-calls t) (perform-at t) perform.Post
-perform-same-length-3 t c = search needs
-
-perform-returns-3 : (t : ℕ) → perform-lts.Need-returns-3 (perform-calls t) (perform-at t) perform.Post
-perform-returns-3 t c = (search (executes-assign, needs), search (put-same-length, needs))
+perform-ending-requires-4 : (t : ℕ) → perform-lts.Need-ending-requires-4 (perform-calls t) (perform-at t) perform.Post
+perform-ending-requires-4 t c κs = search own-transferring
 
 perform-same-length-4 : (t : ℕ) → perform-lts.Need-same-length-4 (perform-calls t) (perform-at t) perform.Post
 perform-same-length-4 t c = search needs
@@ -128,58 +148,89 @@ perform-same-length-4 t c = search needs
 perform-returns-4 : (t : ℕ) → perform-lts.Need-returns-4 (perform-calls t) (perform-at t) perform.Post
 perform-returns-4 t c = (search (perform-laws, needs), search (put-same-length, needs))
 
-perform-returns-5 : (t : ℕ) → perform-lts.Need-returns-5 (perform-calls t) (perform-at t) perform.Post
-perform-returns-5 t c = (search (perform-laws, needs), search needs)
-
-perform-returns-6 : (t : ℕ) → perform-lts.Need-returns-6 (perform-calls t) (perform-at t) perform.Post
-perform-returns-6 t c = (search (perform-laws, needs), search needs)
-
 perform-same-length-5 : (t : ℕ) → perform-lts.Need-same-length-5 (perform-calls t) (perform-at t) perform.Post
 perform-same-length-5 t c = search needs
 
+perform-returns-5 : (t : ℕ) → perform-lts.Need-returns-5 (perform-calls t) (perform-at t) perform.Post
+perform-returns-5 t c = (search (perform-laws, needs), search (put-same-length, needs))
+
+perform-same-length-6 : (t : ℕ) → perform-lts.Need-same-length-6 (perform-calls t) (perform-at t) perform.Post
+perform-same-length-6 t c = search needs
+
+perform-returns-6 : (t : ℕ) → perform-lts.Need-returns-6 (perform-calls t) (perform-at t) perform.Post
+perform-returns-6 t c = (search (perform-laws, needs), search (put-same-length, needs))
+
+perform-same-length-7 : (t : ℕ) → perform-lts.Need-same-length-7 (perform-calls t) (perform-at t) perform.Post
+perform-same-length-7 t c = search needs
+
 perform-returns-7 : (t : ℕ) → perform-lts.Need-returns-7 (perform-calls t) (perform-at t) perform.Post
-perform-returns-7 t c = (search (perform-laws, needs), search (put-same-length, needs))
+perform-returns-7 t c = (search executes-taken-ending, search needs)
+
+perform-same-length-8 : (t : ℕ) → perform-lts.Need-same-length-8 (perform-calls t) (perform-at t) perform.Post
+perform-same-length-8 t c = search needs
 
 perform-returns-8 : (t : ℕ) → perform-lts.Need-returns-8 (perform-calls t) (perform-at t) perform.Post
-perform-returns-8 t c = (search (perform-laws, needs), search needs)
+perform-returns-8 t c = (search (perform-laws, needs), search (put-same-length, needs))
+
+perform-returns-9 : (t : ℕ) → perform-lts.Need-returns-9 (perform-calls t) (perform-at t) perform.Post
+perform-returns-9 t c = (search executes-own, search needs)
+
+perform-returns-10 : (t : ℕ) → perform-lts.Need-returns-10 (perform-calls t) (perform-at t) perform.Post
+perform-returns-10 t c = (search executes-skip, search needs)
+
+perform-returns-11 : (t : ℕ) → perform-lts.Need-returns-11 (perform-calls t) (perform-at t) perform.Post
+perform-returns-11 t c = (search executes-none, search needs)
 
 pub +perform-spec : {M : Type 1} → statement M
 +perform-spec = close μ-perform λ t. perform-lts.spec (perform-calls t)
     (perform-at t)
     perform.Post
-    (perform-part-a-requires t)
-    (perform-part-b-requires t)
     (perform-kind-requires t)
+    (perform-part-a-requires t)
     (perform-item-named-requires t)
     (perform-evaluate-requires t)
     (perform-register-width-requires t)
     (perform-cut-requires t)
     (perform-put-word-requires t)
+    (perform-part-a-requires-2 t)
+    (perform-part-b-requires t)
     (perform-perform-requires t)
     (perform-enum-told t)
     (perform-enum-told-2 t)
     (perform-anew-requires t)
     (perform-same-length t)
     (perform-returns t)
+    (perform-kind-requires-2 t)
+    (perform-ending-requires t)
     (perform-perform-requires-2 t)
     (perform-anew-requires-2 t)
-    (perform-item-requires t)
-    (perform-named-requires t)
-    (perform-named-requires-2 t)
+    (perform-part-a-requires-3 t)
+    (perform-part-b-requires-2 t)
     (perform-part-c-requires t)
     (perform-evaluate-requires-2 t)
+    (perform-kind-requires-3 t)
+    (perform-ending-requires-2 t)
     (perform-perform-requires-3 t)
     (perform-anew-requires-3 t)
     (perform-same-length-2 t)
     (perform-returns-2 t)
-    (perform-perform-requires-4 t)
-    (perform-anew-requires-4 t)
     (perform-same-length-3 t)
     (perform-returns-3 t)
+    (perform-kind-requires-4 t)
+    (perform-ending-requires-3 t)
+    (perform-perform-requires-4 t)
+    (perform-anew-requires-4 t)
+    (perform-ending-requires-4 t)
     (perform-same-length-4 t)
     (perform-returns-4 t)
-    (perform-returns-5 t)
-    (perform-returns-6 t)
     (perform-same-length-5 t)
+    (perform-returns-5 t)
+    (perform-same-length-6 t)
+    (perform-returns-6 t)
+    (perform-same-length-7 t)
     (perform-returns-7 t)
+    (perform-same-length-8 t)
     (perform-returns-8 t)
+    (perform-returns-9 t)
+    (perform-returns-10 t)
+    (perform-returns-11 t)
