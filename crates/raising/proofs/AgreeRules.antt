@@ -22,8 +22,8 @@ use Rattle.design.specs.declared.Design.{Design}
 use Rattle.design.specs.Records.{nodeIn}
 use Rattle.design.proofs.FieldRules.{same-command, sequence-a-below, sequence-b-below, branch-b-below, branch-c-below}
 use Rattle.checker_flow.specs.Flows.{maskRead}
-use Rattle.raising.specs.Passes.{RowMask, RaisingCommand, aboveUnder, raisedUnder, movedUnder, movedBy, movedByStates, movedOnce}
-use Rattle.raising.proofs.JoinRules.{assigned-same, moved-same}
+use Rattle.raising.specs.Passes.{RaisingCommand, aboveUnder, raisedUnder, movedUnder, movedBy, movedByStates, movedOnce}
+use Rattle.raising.proofs.JoinRules.{RowMask, assigned-same, moved-same}
 use Rattle.raising.proofs.MaskRules.{mask-both, mask-row, labelled-here, able-here, read-mask}
 use Rattle.raising.proofs.PassRules.{command-here, tree, scoped, register-below, assigned-gathers}
 use Rattle.raising.proofs.CommandRules.{assigns-here, condition-gathers, sequence-tree, sequence-a-raising, sequence-b-raising, branch-tree, condition-scoped, branch-b-raising, branch-c-raising, idle-here}

@@ -12,7 +12,7 @@ use borrow.Author.Tests.{eq-eqb, ne-eqb}
 use Rattle.model.specs.declared.Found.{Found}
 use Rattle.model.specs.declared.Found.the-variants.{At, Nowhere}
 use Rattle.model.specs.Indices.{lowest}
-use Rattle.model.specs.Lattice.{flowsTo, implies}
+use Rattle.model.specs.Lattice.{flowsTo, implies, allFlowTo}
 use Rattle.model.specs.States.{foundOr}
 use Rattle.model.specs.Raising.{leastAboveAll, joinOf}
 use Rattle.model.specs.Rules.{FlowsTo, IsLattice}
@@ -27,7 +27,11 @@ use Rattle.checker_records.specs.LabelTests.{leastIn}
 use Rattle.checker_records.proofs.Subsets.{bitOf, inside}
 use Rattle.checker_records.proofs.LatticeRules.{all-same}
 use Rattle.checker_flow.specs.Flows.{hasBit}
-use Rattle.raising.specs.Passes.{leastOf, RowMask}
+use Rattle.raising.specs.Passes.{leastOf}
+
+-- a context of labels as a mask: without parameters all label bytes are labels
+pub record RowMask (rows context : List ℕ) (mask : ℕ) : Type 0 where
+  pub bits : (l : ℕ) → l < length rows → hasBit mask l ≡ allFlowTo rows context l
 
 -- tests that agree below n find the same there
 lowest-same : (p q : ℕ → Bool) (n : ℕ) → ((k : ℕ) → k < n → p k ≡ q k) → lowest p n ≡ lowest q n

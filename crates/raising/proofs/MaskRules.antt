@@ -27,7 +27,8 @@ use Rattle.checker_flow.specs.Flows.{maskRead, Gathering}
 use Rattle.checker_flow.proofs.FlowRules.{read-is-mask}
 use Rattle.checker_flow.proofs.TableRules.{label-some, rows-masks}
 use Rattle.checker.proofs.Accepted.{structure-parameters}
-use Rattle.raising.specs.Passes.{RowMask, Raising}
+use Rattle.raising.specs.Passes.{Raising}
+use Rattle.raising.proofs.JoinRules.{RowMask}
 
 -- ---- contexts
 and-assoc : (a b c : Bool) → (a && (b && c)) ≡ (a && b && c)

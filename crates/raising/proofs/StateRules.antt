@@ -20,7 +20,8 @@ use Rattle.design.specs.Records.{rowIn, rowEnd, stateIn}
 use Rattle.design.proofs.Laws.{labels-count, labels-most, registers-count, states-count, row-inside, row-in, state-in, registers-most}
 use Rattle.design.proofs.FieldRules.{body-is, body-below}
 use Rattle.checker_flow.specs.Masks.{Rows}
-use Rattle.raising.specs.Passes.{RowMask, Labelling, Raising, RaisingCommand, movedBy, movedByStates, movedOnce, RaisedAt, RaisedIn, RaisedOnce}
+use Rattle.raising.specs.Passes.{Labelling, Raising, RaisingCommand, movedBy, movedByStates, movedOnce, RaisedAt, RaisedIn, RaisedOnce}
+use Rattle.raising.proofs.JoinRules.{RowMask}
 use Rattle.raising.proofs.MaskRules.{mask-row, plain-here, labelled-here, able-here}
 use Rattle.raising.proofs.PassRules.{labelling-of}
 use Rattle.model.proofs.Laws.Joins.{AreLabels}

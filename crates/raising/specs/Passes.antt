@@ -1,5 +1,5 @@
 -- What the passes know of a table of labels, and what each of them leaves of it.
-use Prim.Native.Nat.{ℕ, zero, suc, _/_, _%_, _^_, _<_}
+use Prim.Native.Nat.{ℕ, zero, suc, _<_}
 use mathlib.Core.Path.{_≡_}
 use mathlib.Core.Bool.{Bool, false, _||_, not, cond}
 use mathlib.Core.List.{List, [], _∷_, _++_}
@@ -8,7 +8,7 @@ use lib.Dec.{eqb}
 use lib.ListN.{length, getD, set}
 use Rattle.model.specs.Indices.{lowest}
 use Rattle.model.specs.Image.{Design as Table, designOf, commandAt}
-use Rattle.model.specs.Lattice.{allFlowTo, stateLabel}
+use Rattle.model.specs.Lattice.{stateLabel}
 use Rattle.model.specs.States.{foundOr}
 use Rattle.model.specs.Trees.{Expr, Cmd, skip, assign, sequence, fall, goto, branch, cmdOf, bodyOf}
 use Rattle.model.specs.Rules.{Scoped, StructureKeeps}
@@ -29,10 +29,6 @@ leastOf rows among = foundOr 0 (lowest (leastIn rows among) (length rows))
 pub record Labelling (d : Table) (labels : List ℕ) : Type 0 where
   pub kept : LabelsKept d labels
   pub exact : length labels ≡ length (d .registers)
-
--- a context of labels as a mask: without parameters all label bytes are labels
-pub record RowMask (rows context : List ℕ) (mask : ℕ) : Type 0 where
-  pub bits : (l : ℕ) → l < length rows → eqb (mask / 2 ^ l % 2) 1 ≡ allFlowTo rows context l
 
 -- what is known where labels are raised
 pub record Raising (image : List ℕ) (x : Design) (labels : List ℕ) : Type 0 where
