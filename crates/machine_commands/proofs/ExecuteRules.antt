@@ -1,10 +1,13 @@
 -- What a command of each kind leaves and comes to, from what its parts leave and come to: the laws that the recursion over commands cites.
 use Prim.Native.Nat.{ℕ, _+_, _*_, _%_, _^_, _≤_, _<_}
 use mathlib.Core.Path.{_≡_, refl, sym, _∙_, ap}
+use mathlib.Core.Bool.{Bool, true, false, cond}
 use mathlib.Core.List.{List}
 use native.Mathlib.Omega.{arith}
+use native.Mathlib.Decide.{ℕ-discrete}
+use lib.Dec.{eqb}
 use lib.ListN.{length}
-use borrow.Author.Tests.{ne-eqb}
+use borrow.Author.Tests.{eq-eqb, ne-eqb}
 use Rattle.model.specs.Limits.{widthMax}
 use Rattle.model.specs.declared.Ending.{Ending}
 use Rattle.model.specs.declared.Ending.the-variants.{Goto, Fall}
@@ -16,6 +19,7 @@ use Rattle.model.specs.Trees.{assign, sequence, branch, exprOf, cmdOf}
 use Rattle.model.specs.Values.{wordsOf}
 use Rattle.model.specs.Bindings.{named, exprWith, cmdWith}
 use Rattle.model.specs.Machine.{eval, exec}
+use Rattle.model.proofs.Laws.Booleans.{cond-true, cond-false}
 use Rattle.model.proofs.Laws.Kinds.{kind-skips, kind-falls, kind-goes, no-command-kind}
 use Rattle.model.proofs.Laws.Trees.{cmd-skip, cmd-assign, cmd-sequence, cmd-fall, cmd-goto, cmd-branch}
 use Rattle.design.specs.declared.Design.{Design}
@@ -31,6 +35,14 @@ use Rattle.machine_commands.specs.Executions.{Executing, Evaluating, Tra
 -- an outcome from its parts
 pub anew-ending : {o : Outcome} {e f : Ending} → o ≡ Transferred e → e ≡ f → Transferred f ≡ o
 anew-ending h g = sym (h ∙ ap Transferred g)
+
+-- ---- the part of an if that is taken
+module _ (v b c : ℕ) where
+  pub chooses-second : v ≡ 0 → c ≡ cond (eqb v 0) c b
+  chooses-second e = sym (cond-true (eqb v 0) c b (eq-eqb v 0 e))
+
+  pub chooses-first : (v ≡ 0 → ⊥) → b ≡ cond (eqb v 0) c b
+  chooses-first h = sym (cond-false (eqb v 0) c b (ne-eqb v 0 h))
 
 -- ---- a fall and a goto, whatever the registers are
 module _ {image : List ℕ} {place n : ℕ} (here : Transferring image place n) where
@@ -103,6 +115,9 @@ module _ {image : List ℕ} {places commands expressions : ℕ} {before : List �
         area = here .area;
       }
 
+  transferring-at : {x : Design} {m w : ℕ} → CommandAt image x commands m → 3 ≤ w → w < 5 → w ≡ nodeIn image commands m .kind → Transferring image commands m
+  transferring-at there low high p = record { design = _; command = there; lowest = omega arith; highest = omega arith }
+
   pub sequence-a-performing : {k a : ℕ} → k ≡ 2 → k ≡ nodeIn image commands n .kind → a ≡ nodeIn image commands n .a → Performing image places commands expressions before bound a
   unfolding CommandFits
   sequence-a-performing q p f =
@@ -121,17 +136,41 @@ module _ {image : List ℕ} {places commands expressions : ℕ} {before : List �
       let fits = rw (sequence-tree q p) at (here .fits) in
       lower after (sequence-b-below (here .command) q p f) (rw (b-is (here .command) f) (fits .1)) same
 
-  pub branch-b-performing : {k b : ℕ} → k ≡ 5 → k ≡ nodeIn image commands n .kind → b ≡ nodeIn image commands n .b → Performing image places commands expressions before bound b
+  branch-b-performing : {k b : ℕ} → k ≡ 5 → k ≡ nodeIn image commands n .kind → b ≡ nodeIn image commands n .b → Performing image places commands expressions before bound b
   unfolding CommandFits
   branch-b-performing q p f =
       let fits = rw (branch-tree q p) at (here .fits) in
       lower before (branch-b-below (here .command) q p f) (rw (b-is (here .command) f) (fits .1)) refl
 
-  pub branch-c-performing : {k c : ℕ} → k ≡ 5 → k ≡ nodeIn image commands n .kind → c ≡ nodeIn image commands n .c → Performing image places commands expressions before bound c
+  branch-c-performing : {k c : ℕ} → k ≡ 5 → k ≡ nodeIn image commands n .kind → c ≡ nodeIn image commands n .c → Performing image places commands expressions before bound c
   unfolding CommandFits
   branch-c-performing q p f =
       let fits = rw (branch-tree q p) at (here .fits) in
       lower before (branch-c-below (here .command) q p f) (rw (c-is (here .command) f) (fits .2)) refl
+
+  -- the branch that is taken, from both
+  chosen-of : (P : ℕ → Type 0) (v b c : ℕ) {m : ℕ} → m ≡ cond (eqb v 0) c b → P b → P c → P m
+  chosen-of P v b c {m} is first second = go (eqb v 0) is
+    where
+      go : (w : Bool) → m ≡ cond w c b → P m
+      go true e = rw e second
+      go false e = rw e first
+
+  module _ {k b c m : ℕ} (v : ℕ) (q : k ≡ 5) (is : m ≡ cond (eqb v 0) c b) (p : k ≡ nodeIn image commands n .kind) (f : b ≡ nodeIn image commands n .b) (g : c ≡ nodeIn image commands n .c) where
+    pub chosen-performing : Performing image places commands expressions before bound m
+    chosen-performing = chosen-of (λ i. Performing image places commands expressions before bound i) v b c is (branch-b-performing q p f) (branch-c-performing q p g)
+
+    chosen-below : m < n
+    chosen-below = chosen-of (λ i. i < n) v b c is (branch-b-below (here .command) q p f) (branch-c-below (here .command) q p g)
+
+    pub chosen-falls : {t : ℕ} → n ≡ t → m < t
+    chosen-falls e = let below = chosen-below in omega arith
+
+    pub chosen-place : nodeEnd commands m ≤ length image
+    chosen-place = command-place-inside (lower-command (here .command) (here .known .commands) chosen-below)
+
+    pub chosen-transferring : {w : ℕ} → 3 ≤ w → w < 5 → w ≡ nodeIn image commands m .kind → Transferring image commands m
+    chosen-transferring low high e = transferring-at (lower-command (here .command) (here .known .commands) chosen-below) low high e
 
   pub assigned-evaluating : {k e : ℕ} → k ≡ 1 → k ≡ nodeIn image commands n .kind → e ≡ nodeIn image commands n .a → Evaluating image expressions before bound e
   unfolding CommandFits
@@ -146,9 +185,6 @@ module _ {image : List ℕ} {places commands expressions : ℕ} {before : List �
       evaluating (condition (here .command) q p f) (rw (a-is (here .command) f) (fits .0))
 
   -- ---- a command or a part that is a fall or a goto
-  transferring-at : {x : Design} {m w : ℕ} → CommandAt image x commands m → 3 ≤ w → w < 5 → w ≡ nodeIn image commands m .kind → Transferring image commands m
-  transferring-at there low high p = record { design = _; command = there; lowest = omega arith; highest = omega arith }
-
   -- behind the arms of 1 and 2
   pub own-transferring : {k : ℕ} → (k ≡ 1 → ⊥) → (k ≡ 2 → ⊥) → 1 ≤ k → k < 5 → k ≡ nodeIn image commands n .kind → Transferring image commands n
   own-transferring one two low high p = transferring-at (here .command) (omega arith) high p
@@ -156,21 +192,9 @@ module _ {image : List ℕ} {places commands expressions : ℕ} {before : List �
   pub sequence-b-transferring : {k b w : ℕ} → k ≡ 2 → k ≡ nodeIn image commands n .kind → b ≡ nodeIn image commands n .b → 3 ≤ w → w < 5 → w ≡ nodeIn image commands b .kind → Transferring image commands b
   sequence-b-transferring q p f low high = transferring-at (lower-command (here .command) (here .known .commands) (sequence-b-below (here .command) q p f)) low high
 
-  pub branch-b-transferring : {k b w : ℕ} → k ≡ 5 → k ≡ nodeIn image commands n .kind → b ≡ nodeIn image commands n .b → 3 ≤ w → w < 5 → w ≡ nodeIn image commands b .kind → Transferring image commands b
-  branch-b-transferring q p f low high = transferring-at (lower-command (here .command) (here .known .commands) (branch-b-below (here .command) q p f)) low high
-
-  pub branch-c-transferring : {k c w : ℕ} → k ≡ 5 → k ≡ nodeIn image commands n .kind → c ≡ nodeIn image commands n .c → 3 ≤ w → w < 5 → w ≡ nodeIn image commands c .kind → Transferring image commands c
-  branch-c-transferring q p f low high = transferring-at (lower-command (here .command) (here .known .commands) (branch-c-below (here .command) q p f)) low high
-
   -- where a part stands
   pub sequence-b-place : {k b : ℕ} → k ≡ 2 → k ≡ nodeIn image commands n .kind → b ≡ nodeIn image commands n .b → nodeEnd commands b ≤ length image
   sequence-b-place q p f = command-place-inside (lower-command (here .command) (here .known .commands) (sequence-b-below (here .command) q p f))
-
-  pub branch-b-place : {k b : ℕ} → k ≡ 5 → k ≡ nodeIn image commands n .kind → b ≡ nodeIn image commands n .b → nodeEnd commands b ≤ length image
-  branch-b-place q p f = command-place-inside (lower-command (here .command) (here .known .commands) (branch-b-below (here .command) q p f))
-
-  pub branch-c-place : {k c : ℕ} → k ≡ 5 → k ≡ nodeIn image commands n .kind → c ≡ nodeIn image commands n .c → nodeEnd commands c ≤ length image
-  branch-c-place q p f = command-place-inside (lower-command (here .command) (here .known .commands) (branch-c-below (here .command) q p f))
 
   -- ---- what a command leaves
   area-is : length before ≡ 4 * length (designOf image .registers)
@@ -256,7 +280,7 @@ module _ {image : List ℕ} {places commands expressions : ℕ} {before : List �
       let then = rw (b-is (here .command) g) at second in
       rw (same, tree, sym part, ended) then
 
-  pub executes-other :
+  executes-other :
       {k e c v : ℕ} (after : List ℕ) {o r : Outcome}
       → k ≡ 5
       → k ≡ nodeIn image commands n .kind
@@ -275,7 +299,7 @@ module _ {image : List ℕ} {places commands expressions : ℕ} {before : List �
       let then = rw (c-is (here .command) g) at part in
       rw (answered, tree, sym same, none) then
 
-  pub executes-taken :
+  executes-taken :
       {k e b v : ℕ} (after : List ℕ) {o r : Outcome}
       → k ≡ 5
       → k ≡ nodeIn image commands n .kind
@@ -293,6 +317,28 @@ module _ {image : List ℕ} {places commands expressions : ℕ} {before : List �
       let same = rw (a-is (here .command) f) at value in
       let then = rw (b-is (here .command) g) at part in
       rw (answered, tree, sym same, ne-eqb v 0 some) then
+
+  pub executes-branch :
+      {k e b c m : ℕ} (v : ℕ) (after : List ℕ) {o r : Outcome}
+      → k ≡ 5
+      → m ≡ cond (eqb v 0) c b
+      → k ≡ nodeIn image commands n .kind
+      → e ≡ nodeIn image commands n .a
+      → b ≡ nodeIn image commands n .b
+      → c ≡ nodeIn image commands n .c
+      → v ≡ eval (valuesIn (designOf image) before) (exprWith (boundOf bound) (exprOf (designOf image) e))
+      → executedAs (valuesIn (designOf image) after) o ≡ exec (designOf image .registers) (valuesIn (designOf image) before) (cmdWith (boundOf bound) (cmdOf (designOf image) m))
+      → r ≡ o
+      → executedAs (valuesIn (designOf image) after) r ≡ exec (designOf image .registers) (valuesIn (designOf image) before) (cmdWith (boundOf bound) (cmdOf (designOf image) n))
+  executes-branch {b = b} {c = c} {m = m} v after {o} {r} q is p f g h value part answered = go (ℕ-discrete v 0)
+    where
+      go : Dec (v ≡ 0) → executedAs (valuesIn (designOf image) after) r ≡ exec (designOf image .registers) (valuesIn (designOf image) before) (cmdWith (boundOf bound) (cmdOf (designOf image) n))
+      go (yes none) =
+          let other : m ≡ c = is ∙ sym (chooses-second v b c none) in
+          executes-other after q p f h value none (rw other at part) answered
+      go (no some) =
+          let taken : m ≡ b = is ∙ sym (chooses-first v b c some) in
+          executes-taken after q p f g value some (rw taken at part) answered
 
   pub executes-skip :
       {k : ℕ}
@@ -328,29 +374,18 @@ module _ {image : List ℕ} {places commands expressions : ℕ} {before : List �
       → executedAs (valuesIn (designOf image) after) r ≡ exec (designOf image .registers) (valuesIn (designOf image) before) (cmdWith (boundOf bound) (cmdOf (designOf image) n))
   executes-second-ending after q p f g first ended every = executes-second after after q p f g first ended (every (valuesIn (designOf image) after)) refl
 
-  pub executes-other-ending :
-      {k e c v : ℕ} {r : Outcome}
+  pub executes-branch-ending :
+      {k e b c m : ℕ} (v : ℕ) {r : Outcome}
       → k ≡ 5
-      → k ≡ nodeIn image commands n .kind
-      → e ≡ nodeIn image commands n .a
-      → c ≡ nodeIn image commands n .c
-      → v ≡ eval (valuesIn (designOf image) before) (exprWith (boundOf bound) (exprOf (designOf image) e))
-      → v ≡ 0
-      → ((values : List ℕ) → executedAs values r ≡ exec (designOf image .registers) values (cmdWith (boundOf bound) (cmdOf (designOf image) c)))
-      → executedAs (valuesIn (designOf image) before) r ≡ exec (designOf image .registers) (valuesIn (designOf image) before) (cmdWith (boundOf bound) (cmdOf (designOf image) n))
-  executes-other-ending q p f g value none every = executes-other before q p f g value none (every (valuesIn (designOf image) before)) refl
-
-  pub executes-taken-ending :
-      {k e b v : ℕ} {r : Outcome}
-      → k ≡ 5
+      → m ≡ cond (eqb v 0) c b
       → k ≡ nodeIn image commands n .kind
       → e ≡ nodeIn image commands n .a
       → b ≡ nodeIn image commands n .b
+      → c ≡ nodeIn image commands n .c
       → v ≡ eval (valuesIn (designOf image) before) (exprWith (boundOf bound) (exprOf (designOf image) e))
-      → (v ≡ 0 → ⊥)
-      → ((values : List ℕ) → executedAs values r ≡ exec (designOf image .registers) values (cmdWith (boundOf bound) (cmdOf (designOf image) b)))
+      → ((values : List ℕ) → executedAs values r ≡ exec (designOf image .registers) values (cmdWith (boundOf bound) (cmdOf (designOf image) m)))
       → executedAs (valuesIn (designOf image) before) r ≡ exec (designOf image .registers) (valuesIn (designOf image) before) (cmdWith (boundOf bound) (cmdOf (designOf image) n))
-  executes-taken-ending q p f g value some every = executes-taken before q p f g value some (every (valuesIn (designOf image) before)) refl
+  executes-branch-ending v q is p f g h value every = executes-branch v before q is p f g h value (every (valuesIn (designOf image) before)) refl
 
 -- the area keeps its length
 pub put-same-length : (before : List ℕ) (r v : ℕ) {after : List ℕ} → after ≡ putWord before r v → length after ≡ length before
@@ -371,5 +406,3 @@ performing executing area =
 
 pub answers : {image : List ℕ} {x : Design} {bound n : ℕ} (before after : List ℕ) {o : Outcome} → Executing image x bound n → executedAs (valuesIn (designOf image) after) o ≡ exec (designOf image .registers) (valuesIn (designOf image) before) (cmdWith (boundOf bound) (cmdOf (designOf image) n)) → executedAs (wordsOf (x .registers) after) o ≡ exec (designOf image .registers) (wordsOf (x .registers) before) (cmdWith (boundOf bound) (cmdOf (designOf image) n))
 answers before after executing ran = rw (registers-count (executing .known .describes)) ran
-
-pub ruleset perform-laws = (executes-assign, executes-second, executes-second-ending, executes-other, executes-other-ending, executes-taken)

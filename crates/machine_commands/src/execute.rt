@@ -9,7 +9,9 @@ use model::Ending;
 use model::Outcome;
 ghost use Prim.Native.Nat.{ℕ, _*_};
 ghost use mathlib.Core.Path.{_≡_};
+ghost use mathlib.Core.Bool.{cond};
 ghost use mathlib.Core.List.{List};
+ghost use lib.Dec.{eqb};
 ghost use lib.ListN.{length};
 ghost use Rattle.model.specs.Limits.{wordLength};
 ghost use Rattle.model.specs.Image.{designOf};
@@ -47,6 +49,16 @@ fn ending(image: &[u8], at: usize, bound: usize, n: usize) -> Outcome
             Outcome::Transferred(Ending::Goto(t, a, b))
         }
     }
+}
+
+// The part of an if that is taken by a value.
+fn chosen(v: u32, b: usize, c: usize) -> usize
+    ensures { λ r. ⌜ r ≡ cond (eqb v 0) c b ⌝ }
+{
+    if v == 0 {
+        return c;
+    }
+    b
 }
 
 // Command n runs: the registers are what it leaves, and the answer is what it came to. A fall or a goto
@@ -110,25 +122,10 @@ fn perform(
             let a = Design::part_a(image, commands_at, n);
             let b = Design::part_b(image, commands_at, n);
             let c = Design::part_c(image, commands_at, n);
-            if evaluate(&*image, expressions_at, &*registers, bound, a) == 0 {
-                return match Design::kind(image, commands_at, c) {
-                    3..=4 => ending(image, commands_at, bound, c),
-                    _ => {
-                        let other = perform(
-                            &*image,
-                            registers_at,
-                            commands_at,
-                            expressions_at,
-                            registers,
-                            bound,
-                            c,
-                        );
-                        anew(other)
-                    }
-                };
-            }
-            match Design::kind(image, commands_at, b) {
-                3..=4 => ending(image, commands_at, bound, b),
+            let v = evaluate(&*image, expressions_at, &*registers, bound, a);
+            let part = chosen(v, b, c);
+            match Design::kind(image, commands_at, part) {
+                3..=4 => ending(image, commands_at, bound, part),
                 _ => {
                     let taken = perform(
                         &*image,
@@ -137,7 +134,7 @@ fn perform(
                         expressions_at,
                         registers,
                         bound,
-                        b,
+                        part,
                     );
                     anew(taken)
                 }

@@ -1,6 +1,6 @@
 use borrow.Author.Needs.{needs}
-use Rattle.design.proofs.FieldRules.{command-place-inside, sequence-a-falls, sequence-b-falls, branch-b-falls, branch-c-falls}
-use Rattle.machine_commands.proofs.ExecuteRules.{perform-laws, executes-first, width-inside, written-narrow, written-inside, put-same-length, assigned-evaluating, condition-evaluating, sequence-a-performing, sequence-b-performing, branch-b-performing, branch-c-performing, own-transferring, sequence-b-transferring, branch-b-transferring, branch-c-transferring, sequence-b-place, branch-b-place, branch-c-place, executes-taken-ending, executes-skip, executes-none, executes-own}
+use Rattle.design.proofs.FieldRules.{command-place-inside, sequence-a-falls, sequence-b-falls}
+use Rattle.machine_commands.proofs.ExecuteRules.{executes-first, width-inside, written-narrow, written-inside, put-same-length, assigned-evaluating, condition-evaluating, sequence-a-performing, sequence-b-performing, own-transferring, sequence-b-transferring, sequence-b-place, executes-skip, executes-none, executes-own, chosen-performing, chosen-falls, chosen-place, chosen-transferring, executes-branch, executes-branch-ending, executes-assign, executes-second, executes-second-ending}
 use Prim.Native.Nat.{ℕ, _<_}
 use borrow.Fn.Kinds.{In}
 use borrow.Fn.PlainCycle.{Measures, is, falls, and}
@@ -17,6 +17,7 @@ use Rattle.design.proofs.words.put_word.Reads as put-word-reads
 use Rattle.machine_commands.proofs.evaluate.evaluate.Reads as evaluate-reads
 use Rattle.machine_commands.proofs.evaluate.item_named.Reads as item-named-reads
 use Rattle.machine_commands.proofs.execute.anew.Reads as anew-reads
+use Rattle.machine_commands.proofs.execute.chosen.Reads as chosen-reads
 use Rattle.machine_commands.proofs.execute.ending.Reads as ending-reads
 use Rattle.machine_commands.proofs.execute.+perform.{statement}
 use Rattle.machine_commands.proofs.execute.+perform.Tie.{close}
@@ -32,7 +33,7 @@ perform-below t = and 2 perform-kinds.ps (falls 2 perform-kinds.ps _<_ μ-perfor
 
 -- what the callees ask and tell
 abbrev perform-calls : ℕ → perform-lts.Claims
-perform-calls t = (kind-reads.Asked, kind-reads.Learnt, part-a-reads.Asked, part-a-reads.Learnt, item-named-reads.Asked, item-named-reads.Learnt, evaluate-reads.Asked, evaluate-reads.Learnt, register-width-reads.Asked, register-width-reads.Learnt, cut-reads.Asked, cut-reads.Learnt, put-word-reads.Asked, put-word-reads.Learnt, part-b-reads.Asked, part-b-reads.Learnt, perform-below t, perform.Post, anew-reads.Asked, anew-reads.Learnt, ending-reads.Asked, ending-reads.Learnt, part-c-reads.Asked, part-c-reads.Learnt)
+perform-calls t = (kind-reads.Asked, kind-reads.Learnt, part-a-reads.Asked, part-a-reads.Learnt, item-named-reads.Asked, item-named-reads.Learnt, evaluate-reads.Asked, evaluate-reads.Learnt, register-width-reads.Asked, register-width-reads.Learnt, cut-reads.Asked, cut-reads.Learnt, put-word-reads.Asked, put-word-reads.Learnt, part-b-reads.Asked, part-b-reads.Learnt, perform-below t, perform.Post, anew-reads.Asked, anew-reads.Learnt, ending-reads.Asked, ending-reads.Learnt, part-c-reads.Asked, part-c-reads.Learnt, chosen-reads.Asked, chosen-reads.Learnt)
 
 perform-kind-requires : (t : ℕ) → perform-lts.Need-kind-requires (perform-calls t) (perform-at t) perform.Post
 perform-kind-requires t c κs = search (command-place-inside, needs)
@@ -103,83 +104,62 @@ perform-part-c-requires t c κs = search (command-place-inside, needs)
 perform-evaluate-requires-2 : (t : ℕ) → perform-lts.Need-evaluate-requires-2 (perform-calls t) (perform-at t) perform.Post
 perform-evaluate-requires-2 t c κs = search condition-evaluating
 
+perform-chosen-requires : (t : ℕ) → perform-lts.Need-chosen-requires (perform-calls t) (perform-at t) perform.Post
+perform-chosen-requires t c κs = search needs
+
 perform-kind-requires-3 : (t : ℕ) → perform-lts.Need-kind-requires-3 (perform-calls t) (perform-at t) perform.Post
-perform-kind-requires-3 t c κs = search branch-c-place
+perform-kind-requires-3 t c κs = search chosen-place
 
 perform-ending-requires-2 : (t : ℕ) → perform-lts.Need-ending-requires-2 (perform-calls t) (perform-at t) perform.Post
-perform-ending-requires-2 t c κs = search branch-c-transferring
+perform-ending-requires-2 t c κs = search chosen-transferring
 
 perform-perform-requires-3 : (t : ℕ) → perform-lts.Need-perform-requires-3 (perform-calls t) (perform-at t) perform.Post
-perform-perform-requires-3 t c κs = (search branch-c-falls, search branch-c-performing)
+perform-perform-requires-3 t c κs = (search chosen-falls, search chosen-performing)
 
 perform-anew-requires-3 : (t : ℕ) → perform-lts.Need-anew-requires-3 (perform-calls t) (perform-at t) perform.Post
 perform-anew-requires-3 t c κs = search needs
+
+perform-ending-requires-3 : (t : ℕ) → perform-lts.Need-ending-requires-3 (perform-calls t) (perform-at t) perform.Post
+perform-ending-requires-3 t c κs = search own-transferring
 
 perform-same-length-2 : (t : ℕ) → perform-lts.Need-same-length-2 (perform-calls t) (perform-at t) perform.Post
 perform-same-length-2 t c = search needs
 
 perform-returns-2 : (t : ℕ) → perform-lts.Need-returns-2 (perform-calls t) (perform-at t) perform.Post
-perform-returns-2 t c = (search (perform-laws, needs), search needs)
+perform-returns-2 t c = (search (executes-assign, needs), search (put-same-length, needs))
 
 perform-same-length-3 : (t : ℕ) → perform-lts.Need-same-length-3 (perform-calls t) (perform-at t) perform.Post
 perform-same-length-3 t c = search needs
 
 perform-returns-3 : (t : ℕ) → perform-lts.Need-returns-3 (perform-calls t) (perform-at t) perform.Post
-perform-returns-3 t c = (search (perform-laws, needs), search (put-same-length, needs))
-
-perform-kind-requires-4 : (t : ℕ) → perform-lts.Need-kind-requires-4 (perform-calls t) (perform-at t) perform.Post
-perform-kind-requires-4 t c κs = search branch-b-place
-
-perform-ending-requires-3 : (t : ℕ) → perform-lts.Need-ending-requires-3 (perform-calls t) (perform-at t) perform.Post
-perform-ending-requires-3 t c κs = search branch-b-transferring
-
-perform-perform-requires-4 : (t : ℕ) → perform-lts.Need-perform-requires-4 (perform-calls t) (perform-at t) perform.Post
-perform-perform-requires-4 t c κs = (search branch-b-falls, search branch-b-performing)
-
-perform-anew-requires-4 : (t : ℕ) → perform-lts.Need-anew-requires-4 (perform-calls t) (perform-at t) perform.Post
-perform-anew-requires-4 t c κs = search needs
-
-perform-ending-requires-4 : (t : ℕ) → perform-lts.Need-ending-requires-4 (perform-calls t) (perform-at t) perform.Post
-perform-ending-requires-4 t c κs = search own-transferring
+perform-returns-3 t c = (search executes-second-ending, search needs)
 
 perform-same-length-4 : (t : ℕ) → perform-lts.Need-same-length-4 (perform-calls t) (perform-at t) perform.Post
 perform-same-length-4 t c = search needs
 
 perform-returns-4 : (t : ℕ) → perform-lts.Need-returns-4 (perform-calls t) (perform-at t) perform.Post
-perform-returns-4 t c = (search (perform-laws, needs), search (put-same-length, needs))
+perform-returns-4 t c = (search (executes-second, needs), search needs)
 
 perform-same-length-5 : (t : ℕ) → perform-lts.Need-same-length-5 (perform-calls t) (perform-at t) perform.Post
 perform-same-length-5 t c = search needs
 
 perform-returns-5 : (t : ℕ) → perform-lts.Need-returns-5 (perform-calls t) (perform-at t) perform.Post
-perform-returns-5 t c = (search (perform-laws, needs), search (put-same-length, needs))
+perform-returns-5 t c = (search executes-branch-ending, search needs)
 
 perform-same-length-6 : (t : ℕ) → perform-lts.Need-same-length-6 (perform-calls t) (perform-at t) perform.Post
 perform-same-length-6 t c = search needs
 
 perform-returns-6 : (t : ℕ) → perform-lts.Need-returns-6 (perform-calls t) (perform-at t) perform.Post
-perform-returns-6 t c = (search (perform-laws, needs), search (put-same-length, needs))
-
-perform-same-length-7 : (t : ℕ) → perform-lts.Need-same-length-7 (perform-calls t) (perform-at t) perform.Post
-perform-same-length-7 t c = search needs
+perform-returns-6 t c = (search (executes-branch, needs), search needs)
 
 perform-returns-7 : (t : ℕ) → perform-lts.Need-returns-7 (perform-calls t) (perform-at t) perform.Post
-perform-returns-7 t c = (search executes-taken-ending, search needs)
-
-perform-same-length-8 : (t : ℕ) → perform-lts.Need-same-length-8 (perform-calls t) (perform-at t) perform.Post
-perform-same-length-8 t c = search needs
+perform-returns-7 t c = (search executes-own, search needs)
 
 perform-returns-8 : (t : ℕ) → perform-lts.Need-returns-8 (perform-calls t) (perform-at t) perform.Post
-perform-returns-8 t c = (search (perform-laws, needs), search (put-same-length, needs))
+perform-returns-8 t c = (search executes-skip, search needs)
 
 perform-returns-9 : (t : ℕ) → perform-lts.Need-returns-9 (perform-calls t) (perform-at t) perform.Post
-perform-returns-9 t c = (search executes-own, search needs)
-
-perform-returns-10 : (t : ℕ) → perform-lts.Need-returns-10 (perform-calls t) (perform-at t) perform.Post
-perform-returns-10 t c = (search executes-skip, search needs)
-
-perform-returns-11 : (t : ℕ) → perform-lts.Need-returns-11 (perform-calls t) (perform-at t) perform.Post
-perform-returns-11 t c = (search executes-none, search needs)
+perform-returns-9 t c = (search executes-none, search needs)
 
 pub +perform-spec : {M : Type 1} → statement M
 +perform-spec = close μ-perform λ t. perform-lts.spec (perform-calls t)
@@ -208,29 +188,22 @@ pub +perform-spec : {M : Type 1} → statement M
     (perform-part-b-requires-2 t)
     (perform-part-c-requires t)
     (perform-evaluate-requires-2 t)
+    (perform-chosen-requires t)
     (perform-kind-requires-3 t)
     (perform-ending-requires-2 t)
     (perform-perform-requires-3 t)
     (perform-anew-requires-3 t)
+    (perform-ending-requires-3 t)
     (perform-same-length-2 t)
     (perform-returns-2 t)
     (perform-same-length-3 t)
     (perform-returns-3 t)
-    (perform-kind-requires-4 t)
-    (perform-ending-requires-3 t)
-    (perform-perform-requires-4 t)
-    (perform-anew-requires-4 t)
-    (perform-ending-requires-4 t)
     (perform-same-length-4 t)
     (perform-returns-4 t)
     (perform-same-length-5 t)
     (perform-returns-5 t)
     (perform-same-length-6 t)
     (perform-returns-6 t)
-    (perform-same-length-7 t)
     (perform-returns-7 t)
-    (perform-same-length-8 t)
     (perform-returns-8 t)
     (perform-returns-9 t)
-    (perform-returns-10 t)
-    (perform-returns-11 t)
