@@ -24,9 +24,6 @@ registers-fit d = omega (arith, d .registers, d .directory .sections Registers)
 pub targets-fit : {image : List ℕ} {x : Design} → Describes image x → 3 * x .states ≤ 192
 targets-fit d = let few = states-few d in omega arith
 
-pub line-fits : {n : ℕ} (out : List ℕ) → n ≤ 1421 → length out ≡ 1421 → n ≤ length out
-line-fits out l e = omega arith
-
 -- a place is a number of 32 bits
 pub place-word : (image : List ℕ) {a : Answer} {r : Refusal} {p : ℕ} → a ≡ verdict image → a ≡ Refused r p → p < 4294967296
 place-word image e h = let small = place-small image e h in omega arith

@@ -29,13 +29,16 @@ longest image keeps =
       keeps .sections Expressions,
     )
 
-long-refused : (image : List ℕ) → largestImage < length image → verdict image ≡ Refused Directory 0
+pub directory-refused : (image : List ℕ) → (DirectoryKeeps image → ⊥) → verdict image ≡ Refused Directory 0
 unfolding verdict structure refusedAt _before_
-long-refused image l = go (directoryKept image) refl
+directory-refused image broken = go (directoryKept image) refl
   where
     go : (w : Bool) → directoryKept image ≡ w → verdict image ≡ Refused Directory 0
-    go true e = let most = longest image (directory-iff image .0 e) in absurd (omega arith)
+    go true e = absurd (broken (directory-iff image .0 e))
     go false e = rw e
+
+long-refused : (image : List ℕ) → largestImage < length image → verdict image ≡ Refused Directory 0
+long-refused image l = directory-refused image (λ keeps. let most = longest image keeps in omega arith)
 
 long-listing : (input : List ℕ) → largestImage + 2 < length input → listing input ≡ refusalLine Directory 0
 unfolding listing listed

@@ -1,3 +1,4 @@
 -- What the contracts of the program cite.
 pub mod Lengths
+pub mod Pieces
 pub mod Ran

@@ -1,5 +1,6 @@
 use lib.Seq.{length-take-le}
 use Rattle.lister.proofs.Buffers.{part-length, registers-fit, targets-fit}
+use Rattle.lister.proofs.PieceRules.{header-handed, ran-handed}
 use borrow.Author.Needs.{needs}
 use Rattle.lister.proofs.list_accepted.Statement.{statement}
 use Rattle.lister.proofs.list_accepted.Tie as tie
@@ -16,6 +17,9 @@ mul-t c = search needs
 print-header-requires : tie.Need-print-header-requires
 print-header-requires c κs = search needs
 
+returns : tie.Need-returns
+returns c = search (header-handed, needs)
+
 array-borrow-prefix-registers : tie.Need-array-borrow-prefix-registers
 array-borrow-prefix-registers c = search (registers-fit, needs)
 
@@ -29,13 +33,10 @@ slice-aggregate-list-on-2 : tie.Need-slice-aggregate-list-on-2
 slice-aggregate-list-on-2 c = part-length _ _ (search (targets-fit, needs))
 
 list-on-requires : tie.Need-list-on-requires
-list-on-requires c κs = (length-take-le _ _ (search (registers-fit, needs)), length-take-le _ _ (search (targets-fit, needs)), search needs, search needs)
-
-returns : tie.Need-returns
-returns c = search needs
+list-on-requires c κs = (search needs, length-take-le _ _ (search (registers-fit, needs)), length-take-le _ _ (search (targets-fit, needs)), search needs, search needs)
 
 returns-2 : tie.Need-returns-2
-returns-2 c = search needs
+returns-2 c = search (ran-handed, needs)
 
 pub list-accepted-spec : {M : Type 1} → statement M
 list-accepted-spec =
@@ -45,10 +46,10 @@ list-accepted-spec =
     mul-r
     mul-t
     print-header-requires
+    returns
     array-borrow-prefix-registers
     slice-aggregate-list-on
     array-borrow-prefix-targets
     slice-aggregate-list-on-2
     list-on-requires
-    returns
     returns-2)

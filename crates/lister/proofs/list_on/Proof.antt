@@ -24,10 +24,10 @@ print-cycles-requires : tie.Need-print-cycles-requires
 print-cycles-requires c κs = search needs
 
 same-length : tie.Need-same-length
-same-length c = search area-same
+same-length c = search (area-same, c .before .before .before .before .before .before .before .before .before .before .before .before .before .before .before .before .before .before .before .before .before .before .before .before .pre)
 
 same-length-2 : tie.Need-same-length-2
-same-length-2 c = search targets-same
+same-length-2 c = search (targets-same, c .before .before .before .before .before .before .before .before .before .before .before .before .before .before .before .before .before .before .before .before .before .before .before .before .pre)
 
 returns : tie.Need-returns
 returns c = search needs

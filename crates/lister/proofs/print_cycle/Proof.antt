@@ -1,4 +1,4 @@
-use Rattle.lister.proofs.Buffers.{line-fits}
+use Rattle.lister.proofs.PieceRules.{cycle-hands}
 use borrow.Author.Needs.{needs}
 use Rattle.lister.proofs.print_cycle.Statement.{statement}
 use Rattle.lister.proofs.print_cycle.Tie as tie
@@ -13,7 +13,7 @@ slice-aggregate-print : tie.Need-slice-aggregate-print
 slice-aggregate-print c = search needs
 
 print-requires : tie.Need-print-requires
-print-requires c κs = search (line-fits, needs)
+print-requires c κs = search (cycle-hands (c .before .before .before .before .before .before .before .before .before .before .before .before .before .before .before .before .pre .2), needs)
 
 same-length : tie.Need-same-length
 same-length c = search needs

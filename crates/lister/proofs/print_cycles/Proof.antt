@@ -1,26 +1,26 @@
 use Prim.Native.Nat.{_-_}
-use Rattle.lister.proofs.ListRules.{ListSo, list-begins, list-fits, list-next, list-falls, list-at, list-long, list-long′, list-more, list-stopped, list-done}
+use Rattle.lister.proofs.ListRules.{ListSo, list-begins, list-next, list-falls, list-at, list-counted, list-long, list-long′, list-more, list-stopped, list-done}
 use borrow.Author.Needs.{needs}
 use Rattle.lister.proofs.print_cycles.Statement.{statement}
 use Rattle.lister.proofs.print_cycles.Tie as tie
 
 abbrev Inv-loop : tie.InvT-loop
-Inv-loop image design defaults scopes registers₀ targets₀ count i₀ registers targets i = ListSo image design defaults scopes count registers₀ targets₀ i registers targets
+Inv-loop image design defaults scopes registers₀ targets₀ count handed₀ i₀ registers targets handed i = ListSo image design defaults scopes count registers₀ targets₀ i registers targets handed
 
 abbrev μ-loop : tie.MeasureT-loop
-μ-loop image design defaults scopes registers₀ targets₀ count i₀ registers targets i = count - i
+μ-loop image design defaults scopes registers₀ targets₀ count handed₀ i₀ registers targets handed i = count - i
 
 loop-holds : tie.Need-loop-holds Inv-loop μ-loop
 loop-holds c = search (list-begins, needs)
 
 print-cycle-requires : tie.Need-print-cycle-requires Inv-loop μ-loop
-print-cycle-requires c κs = (search (list-fits, needs), search (list-at, needs))
+print-cycle-requires c κs = (search needs, search (list-counted, needs), search (list-at, needs))
 
 same-length : tie.Need-same-length Inv-loop μ-loop
-same-length c = search (list-long, needs)
+same-length c = search list-long
 
 same-length-2 : tie.Need-same-length-2 Inv-loop μ-loop
-same-length-2 c = search (list-long′, needs)
+same-length-2 c = search list-long′
 
 returns : tie.Need-returns Inv-loop μ-loop
 returns c = search (list-stopped, needs)
