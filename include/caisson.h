@@ -5,7 +5,7 @@
  * A design is a binary image of at most CAISSON_LARGEST_IMAGE bytes. The library keeps no state and
  * allocates nothing: a call works on the slices that it is lent and on its own stack, ends, and
  * relies on no earlier call. Each call makes its image checks again. The stack that a call takes is
- * measured, not proved: `make stack` shows less than 34 KB on the deepest design, and where a call has tables
+ * measured, not proved: `make stack` shows less than 36 KB on the deepest design, and where a call has tables
  * of its own beside those of the image checks more: less than 41 KB for caisson_prune, 44 KB for caisson_file
  * and, which has those of two images, 57 KB for caisson_earlier.
  *
