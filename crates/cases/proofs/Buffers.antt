@@ -1,10 +1,10 @@
 -- A part of a buffer has the length asked for, and a record leaves no more lent than the buffers hold.
 use Prim.Native.Nat.{ℕ, _+_, _-_, _≤_, _<_}
 use mathlib.Core.Path.{_≡_, refl, sym, subst}
-use mathlib.Core.List.{List}
+use mathlib.Core.List.{List, _++_}
 use native.Mathlib.Omega.{arith}
-use lib.ListN.{length, take, set}
-use lib.Seq.{length-take-le}
+use lib.ListN.{length, take, drop, set, length-append, length-drop}
+use lib.Seq.{length-take-le, drop-at}
 use borrow.Author.Needs.{needs}
 use Rattle.model.specs.Indices.{tabulate}
 use Rattle.design.specs.Resets.{Filled}
@@ -16,6 +16,13 @@ use Rattle.cases.specs.Fits.{imageRoom, registersRoom, targetsRoom, tabl
 
 pub part-length : (n : ℕ) (bytes : List ℕ) → n ≤ length bytes → n ≡ length (take n bytes)
 part-length n bytes h = sym (length-take-le n bytes h)
+
+-- the bytes behind a part that is written to stay
+pub rest-stays : (n : ℕ) (part bytes : List ℕ) → length (part ++ drop n bytes) ≡ length bytes → n ≤ length bytes → drop n (part ++ drop n bytes) ≡ drop n bytes
+rest-stays n part bytes same l =
+    let both = length-append part (drop n bytes) in
+    let rest = length-drop n bytes in
+    drop-at part (drop n bytes) n (omega arith)
 
 -- each record leaves the lengths that it does not bring
 module _ {lent : Lent} (fits : Fits lent) where

@@ -14,9 +14,13 @@ use filing_model::Earlier;
 ghost use Prim.Native.Nat.{_≤_};
 ghost use mathlib.Core.Path.{_≡_};
 ghost use lib.ListN.{length};
+ghost use Rattle.filing_model.specs.Calls.{file as fileOf};
 ghost use Rattle.cases.specs.Fits.{imageRoom, Fits, StepFits};
+ghost use Rattle.cases.specs.Leaves.{painted, secondOf};
 
-fn file(image: &[u8], out: &mut [u8], byte: u8) -> bool {
+fn file(image: &[u8], out: &mut [u8], byte: u8) -> bool
+    ensures { λ _. ⌜ now (out .exit) ≡ fileOf (now (image .entry)) (painted byte (length (now (out .entry)))) .out ⌝ }
+{
     paint(out, byte);
     let answer = filing::file(image, out);
     print(b"file")
@@ -40,7 +44,9 @@ pub fn filed(image: &[u8], a: usize, byte: u8, lent: Lent) -> Step
 }
 
 // 1 where the second of two images is handed back, else 0.
-fn is_second(which: Earlier) -> u64 {
+fn is_second(which: Earlier) -> u64
+    ensures { λ r. ⌜ r ≡ secondOf which ⌝ }
+{
     match which {
         Earlier::First => 0,
         Earlier::Second => 1,

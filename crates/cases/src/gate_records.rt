@@ -11,6 +11,7 @@ use gates::Gates;
 ghost use Prim.Native.Nat.{_≤_};
 ghost use mathlib.Core.Path.{_≡_};
 ghost use lib.ListN.{length};
+ghost use Rattle.gates_model.specs.Calls.{gatesReset, gatesCycle};
 ghost use Rattle.cases.specs.Fits.{tableRoom, flipflopsRoom, Fits, StepFits};
 
 // The buffers that tables, flip-flops and inputs are read to.
@@ -25,12 +26,16 @@ fn check(table: &[u8]) -> bool {
     print(b"gates check") && answered(answer)
 }
 
-fn reset(table: &[u8], flipflops: &mut [u8]) -> bool {
+fn reset(table: &[u8], flipflops: &mut [u8]) -> bool
+    ensures { λ _. ⌜ now (flipflops .exit) ≡ gatesReset (now (table .entry)) (now (flipflops .entry)) .flipflops ⌝ }
+{
     let answer = gates::reset(table, flipflops);
     print(b"gates reset") && answered(answer) && print_bytes(b"  flipflops", flipflops)
 }
 
-fn cycle(table: &[u8], inputs: &[u8], flipflops: &mut [u8]) -> bool {
+fn cycle(table: &[u8], inputs: &[u8], flipflops: &mut [u8]) -> bool
+    ensures { λ _. ⌜ now (flipflops .exit) ≡ gatesCycle (now (table .entry)) (now (inputs .entry)) (now (flipflops .entry)) .flipflops ⌝ }
+{
     let answer = gates::cycle(table, inputs, flipflops);
     print(b"gates cycle") && answered(answer) && print_bytes(b"  flipflops", flipflops)
 }

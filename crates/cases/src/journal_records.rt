@@ -16,7 +16,10 @@ use crate::print_number;
 ghost use Prim.Native.Nat.{_≤_};
 ghost use mathlib.Core.Path.{_≡_};
 ghost use lib.ListN.{length};
+ghost use Rattle.journal_model.specs.Calls.{runJournalled, stepBack};
+ghost use Rattle.journal.specs.Stages.{lendsJournal};
 ghost use Rattle.cases.specs.Fits.{imageRoom, registersRoom, targetsRoom, journalRoom, Fits, StepFits};
+ghost use Rattle.cases.specs.Leaves.{afterJournalCall};
 
 // The buffer that journals are read to.
 pub const JOURNAL: usize = 1024;
@@ -31,7 +34,9 @@ fn run(
     targets: &mut [u8],
     journal: &mut [u8],
     count: u32,
-) -> bool {
+) -> bool
+    ensures { λ _. ⌜ lendsJournal (now (registers .exit)) (now (targets .exit)) (now (journal .exit)) ≡ runJournalled (now (image .entry)) (lendsJournal (now (registers .entry)) (now (targets .entry)) (now (journal .entry))) count .lent ⌝ }
+{
     let answer = journal::run_journalled(image, registers, targets, journal, count);
     print(b"journal")
         && print_number(count as u64)
@@ -45,7 +50,9 @@ fn step_back(
     targets: &mut [u8],
     journal: &mut [u8],
     count: u32,
-) -> bool {
+) -> bool
+    ensures { λ _. ⌜ lendsJournal (now (registers .exit)) (now (targets .exit)) (now (journal .exit)) ≡ stepBack (now (image .entry)) (lendsJournal (now (registers .entry)) (now (targets .entry)) (now (journal .entry))) count .lent ⌝ }
+{
     let answer = journal::step_back(image, registers, targets, journal, count);
     print(b"back")
         && print_number(count as u64)
@@ -81,7 +88,9 @@ fn call(
     targets: &mut [u8],
     journal: &mut [u8],
     head: Head,
-) -> bool {
+) -> bool
+    ensures { λ _. ⌜ lendsJournal (now (registers .exit)) (now (targets .exit)) (now (journal .exit)) ≡ afterJournalCall (head .kind) (head .a) (now (image .entry)) (lendsJournal (now (registers .entry)) (now (targets .entry)) (now (journal .entry))) ⌝ }
+{
     let kind = head.kind;
     match kind {
         12 => run(image, registers, targets, journal, head.a),

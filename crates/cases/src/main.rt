@@ -52,9 +52,12 @@ use journal_records::JOURNAL;
 use model::Answer;
 ghost use Prim.Native.Nat.{_+_, _*_, _≤_};
 ghost use mathlib.Core.Path.{_≡_};
-ghost use lib.ListN.{length};
-ghost use Rattle.model.specs.Indices.{tabulate};
+ghost use lib.ListN.{length, drop};
+ghost use Rattle.model.specs.Calls.{reset as resetOf, writePort, run as runOf};
+ghost use Rattle.model.specs.Raising.{raise as raiseOf};
+ghost use Rattle.design.specs.Resets.{lends};
 ghost use Rattle.cases.specs.Fits.{imageRoom, registersRoom, targetsRoom, Fits, StepFits};
+ghost use Rattle.cases.specs.Leaves.{painted, afterCall};
 
 // The most records.
 const RECORDS: u32 = 65536;
@@ -171,9 +174,11 @@ fn bad() -> Step
     Step::Ended
 }
 
-// Reads so many bytes to the start of a buffer. False where the input ends before.
+// Reads so many bytes to the start of a buffer. False where the input ends before. What they are is
+// the input's; those behind them stay.
 fn fill(buffer: &mut [u8], n: usize) -> bool
     requires { ⌜ n ≤ length (now buffer) ⌝ }
+    ensures { λ _. ⌜ drop n (now (buffer .exit)) ≡ drop n (now (buffer .entry)) ⌝ }
 {
     let got = io::read_full(0, &mut buffer[..n]);
     got == n
@@ -184,18 +189,16 @@ fn check(image: &[u8]) -> bool {
     print(b"check") && answered(answer)
 }
 
-fn reset(image: &[u8], registers: &mut [u8], targets: &mut [u8]) -> bool {
+fn reset(image: &[u8], registers: &mut [u8], targets: &mut [u8]) -> bool
+    ensures { λ _. ⌜ lends (now (registers .exit)) (now (targets .exit)) ≡ resetOf (now (image .entry)) (lends (now (registers .entry)) (now (targets .entry))) .lent ⌝ }
+{
     let answer = calls::reset(image, registers, targets);
     print(b"reset") && answered(answer) && print_areas(registers, targets)
 }
 
-fn write_port(
-    image: &[u8],
-    registers: &mut [u8],
-    targets: &[u8],
-    register: u32,
-    value: u32,
-) -> bool {
+fn write_port(image: &[u8], registers: &mut [u8], targets: &[u8], register: u32, value: u32) -> bool
+    ensures { λ _. ⌜ now (registers .exit) ≡ writePort (now (image .entry)) (now (registers .entry)) register value .registers ⌝ }
+{
     let answer = calls::write_port(image, registers, register, value);
     print(b"write")
         && print_number(register as u64)
@@ -204,7 +207,9 @@ fn write_port(
         && print_areas(registers, targets)
 }
 
-fn run(image: &[u8], registers: &mut [u8], targets: &mut [u8], count: u32) -> bool {
+fn run(image: &[u8], registers: &mut [u8], targets: &mut [u8], count: u32) -> bool
+    ensures { λ _. ⌜ lends (now (registers .exit)) (now (targets .exit)) ≡ runOf (now (image .entry)) (lends (now (registers .entry)) (now (targets .entry))) count .lent ⌝ }
+{
     let answer = calls::run(image, registers, targets, count);
     print(b"run")
         && print_number(count as u64)
@@ -214,7 +219,7 @@ fn run(image: &[u8], registers: &mut [u8], targets: &mut [u8], count: u32) -> bo
 
 // Every byte of an area as given.
 fn paint(area: &mut [u8], byte: u8)
-    ensures { λ _. ⌜ now (area .exit) ≡ tabulate (λ i. byte) (length (now (area .entry))) ⌝ }
+    ensures { λ _. ⌜ now (area .exit) ≡ painted byte (length (now (area .entry))) ⌝ }
 {
     let mut i = 0;
     while i < area.len() {
@@ -223,7 +228,9 @@ fn paint(area: &mut [u8], byte: u8)
     }
 }
 
-fn raise(image: &[u8], out: &mut [u8], byte: u8) -> bool {
+fn raise(image: &[u8], out: &mut [u8], byte: u8) -> bool
+    ensures { λ _. ⌜ now (out .exit) ≡ raiseOf (now (image .entry)) (painted byte (length (now (out .entry)))) .out ⌝ }
+{
     paint(out, byte);
     let answer = raising::raise(image, out);
     print(b"raise")
@@ -308,7 +315,9 @@ fn new_areas(
 }
 
 // Makes the call of a kind from 3 to 5.
-fn call(image: &[u8], registers: &mut [u8], targets: &mut [u8], head: Head) -> bool {
+fn call(image: &[u8], registers: &mut [u8], targets: &mut [u8], head: Head) -> bool
+    ensures { λ _. ⌜ lends (now (registers .exit)) (now (targets .exit)) ≡ afterCall (head .kind) (head .a) (head .b) (now (image .entry)) (lends (now (registers .entry)) (now (targets .entry))) ⌝ }
+{
     let kind = head.kind;
     match kind {
         3 => reset(image, registers, targets),

@@ -12,9 +12,13 @@ use crate::print_number;
 ghost use Prim.Native.Nat.{_≤_};
 ghost use mathlib.Core.Path.{_≡_};
 ghost use lib.ListN.{length};
+ghost use Rattle.pruning_model.specs.Calls.{prune as pruneOf};
 ghost use Rattle.cases.specs.Fits.{imageRoom, Fits, StepFits};
+ghost use Rattle.cases.specs.Leaves.{painted};
 
-fn prune(image: &[u8], out: &mut [u8], byte: u8) -> bool {
+fn prune(image: &[u8], out: &mut [u8], byte: u8) -> bool
+    ensures { λ _. ⌜ now (out .exit) ≡ pruneOf (now (image .entry)) (painted byte (length (now (out .entry)))) .out ⌝ }
+{
     paint(out, byte);
     let answer = pruning::prune(image, out);
     print(b"prune")

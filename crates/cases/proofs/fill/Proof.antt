@@ -1,4 +1,4 @@
-use Rattle.cases.proofs.Buffers.{part-length}
+use Rattle.cases.proofs.Buffers.{part-length, rest-stays}
 use borrow.Author.Needs.{needs}
 use Rattle.cases.proofs.fill.Statement.{statement}
 use Rattle.cases.proofs.fill.Tie as tie
@@ -16,7 +16,7 @@ same-length : tie.Need-same-length
 same-length c = search needs
 
 returns : tie.Need-returns
-returns c = search needs
+returns c = search (rest-stays, needs)
 
 pub fill-spec : {M : Type 1} → statement M
 fill-spec =

@@ -1,0 +1,64 @@
+-- A call's equation fixes its answer and the areas, so it fixes the areas.
+use Prim.Native.Nat.{ℕ}
+use mathlib.Core.Path.{_≡_, sym, _∙_, ap}
+use mathlib.Core.List.{List}
+use borrow.Author.Tests.{ne-eqb}
+use Rattle.model.specs.declared.Answer.{Answer}
+use Rattle.model.specs.Calls.{Lent, Left, LeftRegisters, reset, writePort, run}
+use Rattle.model.specs.Raising.{LeftOut, leftOutAs, raise}
+use Rattle.design.specs.Resets.{lends}
+use Rattle.running.specs.Stages.{leftAs}
+use Rattle.calls.specs.Stages.{leftRegistersAs}
+use Rattle.pruning_model.specs.Calls.{prune}
+use Rattle.filing_model.specs.Calls.{file}
+use Rattle.gates_model.specs.Calls.{LeftFlipFlops}
+use Rattle.gates.specs.Stages.{leftAs as leftFlipFlopsAs}
+use Rattle.journal_model.specs.Calls.{LentJournal, LeftJournal, runJournalled, stepBack}
+use Rattle.journal.specs.Stages.{lendsJournal, leftJournalAs}
+use Rattle.cases.specs.Leaves.{painted, afterCall, afterJournalCall}
+
+pub areas-left : {a : Answer} {registers targets : List ℕ} {left : Left} → leftAs a registers targets ≡ left → lends registers targets ≡ left .lent
+areas-left e = ap (λ (l : Left). l .lent) e
+
+pub registers-left : {a : Answer} {registers : List ℕ} {left : LeftRegisters} → leftRegistersAs a registers ≡ left → registers ≡ left .registers
+registers-left e = ap (λ (l : LeftRegisters). l .registers) e
+
+pub journal-left : {a : Answer} {registers targets journal : List ℕ} {left : LeftJournal} → leftJournalAs a registers targets journal ≡ left → lendsJournal registers targets journal ≡ left .lent
+journal-left e = ap (λ (l : LeftJournal). l .lent) e
+
+pub flipflops-left : {a : Answer} {area : List ℕ} {left : LeftFlipFlops} → leftFlipFlopsAs a area ≡ left → area ≡ left .flipflops
+flipflops-left e = ap (λ (l : LeftFlipFlops). l .flipflops) e
+
+-- an area that is painted, and written to by a call
+module _ (image : List ℕ) (byte n : ℕ) {a : Answer} {old out : List ℕ} (e : old ≡ painted byte n) where
+  pub raise-left : leftOutAs a out ≡ raise image old → out ≡ raise image (painted byte n) .out
+  raise-left h = ap (λ (l : LeftOut). l .out) (h ∙ ap (raise image) e)
+
+  pub prune-left : leftOutAs a out ≡ prune image old → out ≡ prune image (painted byte n) .out
+  prune-left h = ap (λ (l : LeftOut). l .out) (h ∙ ap (prune image) e)
+
+  pub file-left : leftOutAs a out ≡ file image old → out ≡ file image (painted byte n) .out
+  file-left h = ap (λ (l : LeftOut). l .out) (h ∙ ap (file image) e)
+
+-- ---- the call of a kind
+module _ (kind a b : ℕ) (image : List ℕ) (lent : Lent) {left : Lent} where
+  pub after-reset : kind ≡ 3 → left ≡ reset image lent .lent → left ≡ afterCall kind a b image lent
+  unfolding afterCall
+  after-reset e h = h ∙ sym (rw e)
+
+  pub after-run : (kind ≡ 3 → ⊥) → (kind ≡ 4 → ⊥) → left ≡ run image lent a .lent → left ≡ afterCall kind a b image lent
+  unfolding afterCall
+  after-run n m h = h ∙ sym (rw (ne-eqb kind 3 n, ne-eqb kind 4 m))
+
+pub after-write : (kind a b : ℕ) (image before targets : List ℕ) {registers : List ℕ} → kind ≡ 4 → registers ≡ writePort image before a b .registers → lends registers targets ≡ afterCall kind a b image (lends before targets)
+unfolding afterCall
+after-write kind a b image before targets e h = ap (λ (after : List ℕ). lends after targets) h ∙ sym (rw e)
+
+module _ (kind a : ℕ) (image : List ℕ) (lent : LentJournal) {left : LentJournal} where
+  pub after-journalled : kind ≡ 12 → left ≡ runJournalled image lent a .lent → left ≡ afterJournalCall kind a image lent
+  unfolding afterJournalCall
+  after-journalled e h = h ∙ sym (rw e)
+
+  pub after-back : (kind ≡ 12 → ⊥) → left ≡ stepBack image lent a .lent → left ≡ afterJournalCall kind a image lent
+  unfolding afterJournalCall
+  after-back n h = h ∙ sym (rw (ne-eqb kind 12 n))

@@ -1,0 +1,49 @@
+use Rattle.cases.proofs.LeavesRules.{flipflops-left}
+use borrow.Author.Needs.{needs}
+use Rattle.cases.proofs.gate_records.reset.Statement.{statement}
+use Rattle.cases.proofs.gate_records.reset.Tie as tie
+
+reset-requires : tie.Need-reset-requires
+reset-requires c κs = search needs
+
+slice-aggregate-print : tie.Need-slice-aggregate-print
+slice-aggregate-print c = search needs
+
+print-requires : tie.Need-print-requires
+print-requires c κs = search needs
+
+answered-requires : tie.Need-answered-requires
+answered-requires c κs = search needs
+
+slice-aggregate-print-bytes : tie.Need-slice-aggregate-print-bytes
+slice-aggregate-print-bytes c = search needs
+
+print-bytes-requires : tie.Need-print-bytes-requires
+print-bytes-requires c κs = search needs
+
+same-length : tie.Need-same-length
+same-length c = search needs
+
+returns : tie.Need-returns
+returns c = search (flipflops-left, needs)
+
+same-length-2 : tie.Need-same-length-2
+same-length-2 c = search needs
+
+returns-2 : tie.Need-returns-2
+returns-2 c = search (flipflops-left, needs)
+
+pub reset-spec : {M : Type 1} → statement M
+reset-spec =
+    tie.close
+    (tie.spec
+    reset-requires
+    slice-aggregate-print
+    print-requires
+    answered-requires
+    slice-aggregate-print-bytes
+    print-bytes-requires
+    same-length
+    returns
+    same-length-2
+    returns-2)
