@@ -3,7 +3,10 @@ use Prim.Native.Nat.{ℕ}
 use mathlib.Core.Path.{_≡_, sym, _∙_, ap}
 use mathlib.Core.List.{List}
 use borrow.Author.Tests.{ne-eqb}
+use Rattle.model.specs.declared.Refusal.{Refusal}
 use Rattle.model.specs.declared.Answer.{Answer}
+use Rattle.model.specs.declared.Answer.the-variants.{Refused}
+use Rattle.model.specs.Answers.{numberOf, numbersOf}
 use Rattle.model.specs.Calls.{Lent, Left, LeftRegisters, reset, writePort, run}
 use Rattle.model.specs.Raising.{LeftOut, leftOutAs, raise}
 use Rattle.design.specs.Resets.{lends}
@@ -15,7 +18,7 @@ use Rattle.gates_model.specs.Calls.{LeftFlipFlops}
 use Rattle.gates.specs.Stages.{leftAs as leftFlipFlopsAs}
 use Rattle.journal_model.specs.Calls.{LentJournal, LeftJournal, runJournalled, stepBack}
 use Rattle.journal.specs.Stages.{lendsJournal, leftJournalAs}
-use Rattle.cases.specs.Leaves.{painted, afterCall, afterJournalCall}
+use Rattle.cases.specs.Leaves.{numbered, painted, afterCall, afterJournalCall}
 
 pub areas-left : {a : Answer} {registers targets : List ℕ} {left : Left} → leftAs a registers targets ≡ left → lends registers targets ≡ left .lent
 areas-left e = ap (λ (l : Left). l .lent) e
@@ -39,6 +42,10 @@ module _ (image : List ℕ) (byte n : ℕ) {a : Answer} {old out : List ℕ} (e 
 
   pub file-left : leftOutAs a out ≡ file image old → out ≡ file image (painted byte n) .out
   file-left h = ap (λ (l : LeftOut). l .out) (h ∙ ap (file image) e)
+
+-- ---- a refusal in its numbers
+pub refused-numbered : {answer : Answer} {refusal : Refusal} {n place : ℕ} → answer ≡ Refused refusal place → n ≡ numberOf refusal → numbersOf answer ≡ numbered n place 0
+refused-numbered {place = place} e h = ap numbersOf e ∙ ap (λ (k : ℕ). numbered k place 0) (sym h)
 
 -- ---- the call of a kind
 module _ (kind a b : ℕ) (image : List ℕ) (lent : Lent) {left : Lent} where

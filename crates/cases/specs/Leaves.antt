@@ -4,10 +4,15 @@ use mathlib.Core.Bool.{cond}
 use mathlib.Core.List.{List}
 use lib.Dec.{eqb}
 use Rattle.model.specs.Indices.{tabulate}
+use Rattle.model.specs.Answers.{Numbers}
 use Rattle.model.specs.Calls.{Lent, reset, writePort, run}
 use Rattle.filing_model.specs.declared.Earlier.{Earlier}
 use Rattle.filing_model.specs.declared.Earlier.the-variants.{First, Second, Neither}
 use Rattle.journal_model.specs.Calls.{LentJournal, runJournalled, stepBack}
+
+-- the numbers of an answer as they are printed
+abbrev pub numbered : ℕ → ℕ → ℕ → Numbers
+numbered number place count = record { number = number; place = place; count = count }
 
 -- n bytes, each as given
 abbrev pub painted : ℕ → ℕ → List ℕ

@@ -53,11 +53,12 @@ use model::Answer;
 ghost use Prim.Native.Nat.{_+_, _*_, _≤_};
 ghost use mathlib.Core.Path.{_≡_};
 ghost use lib.ListN.{length, drop};
+ghost use Rattle.model.specs.Answers.{numbersOf};
 ghost use Rattle.model.specs.Calls.{reset as resetOf, writePort, run as runOf};
 ghost use Rattle.model.specs.Raising.{raise as raiseOf};
 ghost use Rattle.design.specs.Resets.{lends};
 ghost use Rattle.cases.specs.Fits.{imageRoom, registersRoom, targetsRoom, Fits, StepFits};
-ghost use Rattle.cases.specs.Leaves.{painted, afterCall};
+ghost use Rattle.cases.specs.Leaves.{numbered, painted, afterCall};
 
 // The most records.
 const RECORDS: u32 = 65536;
@@ -111,8 +112,10 @@ fn print_number(n: u64) -> bool {
     print(b" ") && io::print_decimal(1, n)
 }
 
-// An answer in numbers ends the line of its call.
-fn print_answer(number: u64, place: u64, count: u64) -> bool {
+// An answer in its numbers ends the line of its call.
+fn print_answer(answer: Answer, number: u64, place: u64, count: u64) -> bool
+    requires { ⌜ numbersOf answer ≡ numbered number place count ⌝ }
+{
     print(b":")
         && print_number(number)
         && print_number(place)
@@ -123,8 +126,13 @@ fn print_answer(number: u64, place: u64, count: u64) -> bool {
 // Prints a call's answer.
 fn answered(answer: Answer) -> bool {
     match answer {
-        Answer::Accepted(count) => print_answer(0, 0, count as u64),
-        Answer::Refused(refusal, place) => print_answer(number(refusal) as u64, place as u64, 0),
+        Answer::Accepted(count) => print_answer(answer, 0, 0, count as u64),
+        Answer::Refused(refusal, place) => print_answer(
+            answer,
+            number(refusal) as u64,
+            place as u64,
+            0,
+        ),
     }
 }
 
