@@ -9,7 +9,7 @@ use Rattle.model.proofs.Designs.{kindTwo, lease}
 use Rattle.filing_model.specs.declared.Earlier.{Earlier}
 use Rattle.filing_model.specs.declared.Earlier.the-variants.{First, Second, Neither}
 use Rattle.filing_model.specs.Order.{comesBefore}
-use Rattle.filing_model.specs.Calls.{file, earlier, handedBack}
+use Rattle.filing_model.specs.Calls.{file, earlier, handedBack, handedFrom}
 use Rattle.filing_model.proofs.Opened.{filing, told}
 use Rattle.filing_model.proofs.Boundaries.Forms.{nested, nestedWith, nestedFiled}
 
@@ -56,3 +56,7 @@ shows-refused = unfold filing in refl
 -- "as it was lent", and "an empty part of the first"
 shows-handed : handedBack lease nested First ∷ handedBack lease nested Second ∷ handedBack lease nested Neither ∷ [] ≡ lease ∷ nested ∷ [] ∷ []
 shows-handed = unfold filing in refl
+
+-- what is handed back begins where its image does, and the empty part where the first one does
+shows-handed-from : handedFrom 7 9 First ∷ handedFrom 7 9 Second ∷ handedFrom 7 9 Neither ∷ [] ≡ 7 ∷ 9 ∷ 7 ∷ []
+shows-handed-from = refl

@@ -7,7 +7,7 @@ use mathlib.Core.List.{List, [], _∷_, _++_, map}
 use lib.Dec.{ltb, eqb}
 use lib.ListN.{length, replicate, getD}
 use Rattle.model.specs.declared.Found.the-variants.{At}
-use Rattle.model.specs.Indices.{allBelow, someBelow, lowest, lowestFailing, lowestOf, occurrences, tabulate, joinBelow, recursively}
+use Rattle.model.specs.Indices.{allBelow, someBelow, lowest, lowestFailing, lowestOf, occurrences, tabulateFrom, tabulate, filledTo, joinBelow, recursively}
 use Rattle.model.specs.Image.{Register, State, Node, Design, noNode, word16At, word32At, rowOf, registerOf, stateOf, nodeOf, constantOf, count, offset, Registers, Commands, Expressions}
 use Rattle.model.specs.Lattice.{flowsTo, rowInside, reflexive, antisymmetric, transitive, leastFull, joined}
 use Rattle.model.specs.States.{registerKept, stateKept, isChild, hasChild, defaultTarget, siblingOrSelf, within}
@@ -35,6 +35,13 @@ shows-many
     : occurrences 5 (replicate 300 5 ++ (2047 ∷ [])) ∷ occurrences 5 (261 ∷ 5 ∷ 1029 ∷ []) ∷ length (tabulate (λ i. i) 300) ∷ getD (tabulate (λ i. i) 300) 299 0 ∷ getD (joinBelow (λ i. i ∷ []) 300) 299 0 ∷ []
     ≡ 300 ∷ 1 ∷ 300 ∷ 299 ∷ 299 ∷ []
 shows-many = unfold checks in refl
+
+-- a table that is filled up to an entry: not beyond it, and no further than it is long
+shows-filled
+    : filledTo (λ k. k + 5) 2 (9 ∷ 9 ∷ 9 ∷ []) ∷ filledTo (λ k. k + 5) 0 (9 ∷ []) ∷ filledTo (λ k. k + 5) 3 (9 ∷ 9 ∷ []) ∷ []
+    ≡ (5 ∷ 6 ∷ 9 ∷ []) ∷ (9 ∷ []) ∷ (5 ∷ 6 ∷ []) ∷ []
+unfolding filledTo tabulate tabulateFrom
+shows-filled = refl
 
 -- recursion from the highest node down to the lowest
 shows-recursion-from-2047 : recursively 0 (λ n below. suc (below (n - 1))) 2047 ≡ 2048
