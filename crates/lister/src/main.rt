@@ -3,9 +3,10 @@
 // Behind a write that failed it writes one line to standard error, and ends.
 //
 // No contract can speak of what the system takes. The contracts speak of what it is handed: the
-// listing is a list of pieces, `print` alone hands one over, and asks that it is the next of them,
-// and `handed` counts them. So what stands on standard output is the listing, or a beginning of it
-// where a write failed (`output-listed`). Whether a write failed is the system's answer, and free.
+// listing is a list of pieces, `print` alone hands one over, and asks that it is the next of them;
+// `handed` counts them, and no other line changes it. So what stands on standard output is the
+// listing, or a beginning of it where a write failed (`output-listed`). Whether a write failed is
+// the system's answer, and free.
 use design::Design;
 use design::scopes::SCOPES;
 use listing::lines::header;
