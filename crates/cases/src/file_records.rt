@@ -11,7 +11,6 @@ use crate::print;
 use crate::print_bytes;
 use crate::print_number;
 use filing_model::Earlier;
-ghost use Prim.Native.Nat.{_≤_};
 ghost use mathlib.Core.Path.{_≡_};
 ghost use lib.ListN.{length};
 ghost use Rattle.filing_model.specs.Calls.{file as fileOf};

@@ -8,7 +8,6 @@ use crate::next;
 use crate::print;
 use crate::print_bytes;
 use gates::Gates;
-ghost use Prim.Native.Nat.{_≤_};
 ghost use mathlib.Core.Path.{_≡_};
 ghost use lib.ListN.{length};
 ghost use Rattle.gates_model.specs.Calls.{gatesReset, gatesCycle};

@@ -13,7 +13,6 @@ use crate::print;
 use crate::print_areas;
 use crate::print_bytes;
 use crate::print_number;
-ghost use Prim.Native.Nat.{_≤_};
 ghost use mathlib.Core.Path.{_≡_};
 ghost use lib.ListN.{length};
 ghost use Rattle.journal_model.specs.Calls.{runJournalled, stepBack};

@@ -9,7 +9,6 @@ use crate::paint;
 use crate::print;
 use crate::print_bytes;
 use crate::print_number;
-ghost use Prim.Native.Nat.{_≤_};
 ghost use mathlib.Core.Path.{_≡_};
 ghost use lib.ListN.{length};
 ghost use Rattle.pruning_model.specs.Calls.{prune as pruneOf};

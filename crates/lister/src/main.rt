@@ -15,7 +15,7 @@ use listing::lines::refusal_line;
 use listing::starts::start;
 use model::Answer;
 use model::Refusal;
-ghost use Prim.Native.Nat.{_+_, _*_, _<_, _≤_};
+ghost use Prim.Native.Nat.{_+_, _*_, _<_};
 ghost use mathlib.Core.Path.{_≡_};
 ghost use lib.ListN.{length, drop};
 ghost use Rattle.model.specs.declared.Answer.the-variants.{Refused};
