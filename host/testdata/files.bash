@@ -304,7 +304,8 @@ signals() {
 
 # A reader of standard output that has stopped holds the cycles, but not the end.
 held_output() {
-    local got=0
+    # The one that ends after five seconds, under valgrind too.
+    local got=0 host=$folder/outstation
     mkfifo "$made/pipe"
     exec {reader}<>"$made/pipe"
     "${under[@]}" $host "$names/long.table" $numbers/two_groups.trace --forever >"$made/pipe" \
