@@ -58,5 +58,5 @@ shows-handed : handedBack lease nested First ∷ handedBack lease nested Second 
 shows-handed = unfold filing in refl
 
 -- what is handed back begins where its image does, and the empty part where the first one does
-shows-handed-from : handedFrom 7 9 First ∷ handedFrom 7 9 Second ∷ handedFrom 7 9 Neither ∷ [] ≡ 7 ∷ 9 ∷ 7 ∷ []
+shows-handed-from : _≡_ {A = List ℕ} (handedFrom 7 9 First ∷ handedFrom 7 9 Second ∷ handedFrom 7 9 Neither ∷ []) (7 ∷ 9 ∷ 7 ∷ [])
 shows-handed-from = refl
