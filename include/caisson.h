@@ -450,8 +450,9 @@ caisson_answer caisson_reset(const uint8_t *image, size_t image_len,
  * else. A value too large is refused, not cut; docs/FORMAT.md says where the width stands in the
  * image. The call takes the register area only and judges all of it: every register must be within its
  * width, and stays so. No design changes a port: it keeps the value until the next write to it, a
- * record of a replay for it, the next reset, or going back to a cycle before the write. Refusals: the image checks, then 14 for the area's length, 14 for a value too large in
- * it, then 13, then 17 for the value given, both at the register number given.
+ * record of a replay for it, the next reset, or going back to a cycle before the write. Refusals: the
+ * image checks, then 14 for the area's length, 14 for a value too large in it, then 13, then 17 for the
+ * value given, both at the register number given.
  */
 CAISSON_LOOK_AT_ANSWER
 caisson_answer caisson_write_port(const uint8_t *image, size_t image_len,
@@ -648,7 +649,7 @@ caisson_answer caisson_file(const uint8_t *image, size_t image_len, /* the image
 
 /*
  * The proved call behind caisson_earlier, for hosts that have no use of the function below: it puts the part into
- * *part. What *part holds before must be a part of readable memory too, as {first, 0} is; it is not read.
+ * *part. What *part holds before must be a slice as said above, as {first, 0} is; it is not read.
  */
 void caisson_earlier_part(const uint8_t *first, size_t first_len,   /* one image */
                           const uint8_t *second, size_t second_len, /* and another */
@@ -710,7 +711,7 @@ static inline caisson_part caisson_earlier(const uint8_t *first, size_t first_le
  * equal in the values that are marked trusted. Let each cycle of the two be lent inputs that are equal
  * where the table marks them trusted, and be accepted in both. Then the areas are again equal in this way after
  * any number of cycles: what is marked trusted does not depend on what is not. A cycle that is refused changes
- * nothing, and an untrusted input alone may be why: where it is refused in one run only, the areas differ.
+ * nothing, and an untrusted input alone may be why: where it is refused in one run only, the areas may differ.
  */
 
 /*
