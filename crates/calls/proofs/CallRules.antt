@@ -22,7 +22,7 @@ use Rattle.model.specs.Answers.{numberOf}
 use Rattle.model.specs.Verdict.{verdict, refusedAt, _before_}
 use Rattle.model.specs.Values.{fits, wordsOf, bytesOf}
 use Rattle.model.specs.Machine.{resetAreas}
-use Rattle.model.specs.Calls.{Lent, Left, LeftRegisters, lengthAnswer, registerAreaAnswer, contentsAnswer, isWritable, portAnswer, valueAnswer, cyclesAnswer, lentOf, registersLength, targetsLength, resetAnswer, reset, runAnswer, run, writePortAnswer, writePort}
+use Rattle.model.specs.Calls.{Lent, Left, lengthAnswer, registerAreaAnswer, contentsAnswer, isWritable, portAnswer, valueAnswer, cyclesAnswer, lentOf, registersLength, targetsLength, resetAnswer, reset, runAnswer, run, writePortAnswer, writePort, leftAs}
 use Rattle.model.proofs.Laws.Booleans.{not-true, not-false, and-first, and-second}
 use Rattle.model.proofs.Laws.Words.{bytes-of-words}
 use Rattle.design.specs.declared.Design.{Design}
@@ -37,9 +37,9 @@ use Rattle.design.proofs.ResetRules.{states-few}
 use Rattle.design.proofs.ScopeRules.{empty-scopes, scopes-stay, no-parameters}
 use Rattle.design.proofs.WordRules.{words-put, length-put}
 use Rattle.design.proofs.WidthRules.{width-is}
-use Rattle.running.specs.Stages.{leftAs, soundOn, runSound}
+use Rattle.running.specs.Stages.{soundOn, runSound}
 use Rattle.running.proofs.RunningRules.{sound-before}
-use Rattle.calls.specs.Stages.{leftRegistersAs, resetOn, writePortOn, runOn}
+use Rattle.calls.specs.Stages.{resetOn, writePortOn, runOn}
 
 -- ---- the lengths that an image asks for
 pub area-fits : {image : List ℕ} {x : Design} → Describes image x → Fits w64 (4 * x .registers)
@@ -96,12 +96,12 @@ right-lengths {image} registers targets d h k =
     (eq-eqb (length registers) (4 * length (designOf image .registers)) (omega arith), eq-eqb (length targets) (3 * length (designOf image .states)) (omega arith))
 
 -- ---- reset
-pub reset-refuses : (d : Table) (registers targets : List ℕ) → lengthAnswer d (lends registers targets) ≡ Refused Area 0 → leftAs (Refused Area 0) registers targets ≡ resetOn d (lends registers targets)
+pub reset-refuses : (d : Table) (registers targets : List ℕ) → lengthAnswer d (lends registers targets) ≡ Refused Area 0 → leftAs (Refused Area 0) (lends registers targets) ≡ resetOn d (lends registers targets)
 unfolding resetOn
 reset-refuses d registers targets h = rw h
 
 pub reset-makes : (d : Table) (registers targets registers₀ targets₀ : List ℕ) → lengthAnswer d (lends registers₀ targets₀) ≡ Accepted 0 → lends registers targets ≡ lentOf (resetAreas d)
-    → leftAs (Accepted 0) registers targets ≡ resetOn d (lends registers₀ targets₀)
+    → leftAs (Accepted 0) (lends registers targets) ≡ resetOn d (lends registers₀ targets₀)
 unfolding resetOn
 reset-makes d registers targets registers₀ targets₀ h k = rw h (ap (λ (lent : Lent). record { answer = Accepted 0; lent = lent }) k)
 
@@ -132,21 +132,21 @@ module _ (d : Table) (r : ℕ) {w : Bool} (e : w ≡ isWritable d r) where
 
 -- ---- port write, behind the contents
 module _ (d : Table) (registers : List ℕ) (r v : ℕ) where
-  pub write-refuses : registerAreaAnswer d registers ≡ Refused Area 0 → leftRegistersAs (Refused Area 0) registers ≡ writePortOn d registers r v
+  pub write-refuses : registerAreaAnswer d registers ≡ Refused Area 0 → leftAs (Refused Area 0) registers ≡ writePortOn d registers r v
   unfolding writePortOn _before_
   write-refuses h = rw h
 
   module _ (right : registerAreaAnswer d registers ≡ Accepted 0) where
-    pub write-refuses-contents : {p : ℕ} → contentsAnswer d registers ≡ Refused Area p → leftRegistersAs (Refused Area p) registers ≡ writePortOn d registers r v
+    pub write-refuses-contents : {p : ℕ} → contentsAnswer d registers ≡ Refused Area p → leftAs (Refused Area p) registers ≡ writePortOn d registers r v
     unfolding writePortOn _before_
     write-refuses-contents h = rw (right, h)
 
     module _ (fit : contentsAnswer d registers ≡ Accepted 0) where
-      pub write-refuses-port : portAnswer d r ≡ Refused NoPort r → leftRegistersAs (Refused NoPort r) registers ≡ writePortOn d registers r v
+      pub write-refuses-port : portAnswer d r ≡ Refused NoPort r → leftAs (Refused NoPort r) registers ≡ writePortOn d registers r v
       unfolding writePortOn _before_
       write-refuses-port h = rw (right, fit, h)
 
-      pub write-refuses-value : portAnswer d r ≡ Accepted 0 → valueAnswer d r v ≡ Refused PortValue r → leftRegistersAs (Refused PortValue r) registers ≡ writePortOn d registers r v
+      pub write-refuses-value : portAnswer d r ≡ Accepted 0 → valueAnswer d r v ≡ Refused PortValue r → leftAs (Refused PortValue r) registers ≡ writePortOn d registers r v
       unfolding writePortOn _before_
       write-refuses-value h k = rw (right, fit, h, k)
 
@@ -180,7 +180,7 @@ module _ {image : List ℕ} {x : Design} (known : RecordsKept image x) (r : ℕ)
     pub write-makes : (registers after : List ℕ) → not b ≡ false → after ≡ putWord registers r v → AreBytes after → length registers ≡ 4 * x .registers
         → contentsAnswer (designOf image) registers ≡ Accepted 0
         → v < 2 ^ 32
-        → leftRegistersAs (Accepted 0) after ≡ writePortOn (designOf image) registers r v
+        → leftAs (Accepted 0) after ≡ writePortOn (designOf image) registers r v
     unfolding writePortOn _before_
     write-makes registers after k wrote bytes area fit small =
         let n = length (designOf image .registers) in
@@ -190,7 +190,7 @@ module _ {image : List ℕ} {x : Design} (known : RecordsKept image x) (r : ℕ)
         let made : after ≡ bytesOf (set (wordsOf n registers) r v) = sym (bytes-of-words n after bytes (omega arith)) ∙ ap bytesOf words in
         rw
         (long-area registers (known .describes) area, fit, port-accepts (designOf image) r p q, value-accepts k)
-        (ap (λ (area : List ℕ). leftRegistersAs (Accepted 0) area) made)
+        (ap (λ (area : List ℕ). leftAs (Accepted 0) area) made)
 
 -- ---- run
 -- a table of scopes for the most states
@@ -209,13 +209,13 @@ module _ {image table : List ℕ} {x : Design} (d : Describes image x) (fresh : 
     pub scopes-fresh : Scopes (designOf image) table
     scopes-fresh = rw fresh (empty-scopes d (no-parameters (designOf image) (not-true b h) is))
 
-pub run-refuses : (d : Table) (registers targets : List ℕ) (n : ℕ) → lengthAnswer d (lends registers targets) ≡ Refused Area 0 → leftAs (Refused Area 0) registers targets ≡ runOn d (lends registers targets) n
+pub run-refuses : (d : Table) (registers targets : List ℕ) (n : ℕ) → lengthAnswer d (lends registers targets) ≡ Refused Area 0 → leftAs (Refused Area 0) (lends registers targets) ≡ runOn d (lends registers targets) n
 unfolding runOn _before_
 run-refuses d registers targets n h = rw h
 
 -- ---- run, behind the lengths
 module _ (d : Table) (registers targets : List ℕ) (n : ℕ) {a : Answer} where
-  pub run-refuses-unsound : {r : Refusal} {p : ℕ} → a ≡ Refused r p → a ≡ soundOn d (lends registers targets) → lengthAnswer d (lends registers targets) ≡ Accepted 0 → leftAs (Refused r p) registers targets ≡ runOn d (lends registers targets) n
+  pub run-refuses-unsound : {r : Refusal} {p : ℕ} → a ≡ Refused r p → a ≡ soundOn d (lends registers targets) → lengthAnswer d (lends registers targets) ≡ Accepted 0 → leftAs (Refused r p) (lends registers targets) ≡ runOn d (lends registers targets) n
   unfolding runOn _before_
   run-refuses-unsound h judged right = rw (right, ← judged, h)
 
@@ -230,11 +230,11 @@ number-of e h = rw e h
 -- ---- the image first
 module _ (image : List ℕ) {a : Answer} (e : a ≡ verdict image) where
   module _ {r : Refusal} {p : ℕ} (h : a ≡ Refused r p) where
-    pub refused-reset : (registers targets : List ℕ) → leftAs (Refused r p) registers targets ≡ reset image (lends registers targets)
+    pub refused-reset : (registers targets : List ℕ) → leftAs (Refused r p) (lends registers targets) ≡ reset image (lends registers targets)
     unfolding reset resetAnswer _before_
     refused-reset registers targets = rw (← e, h)
 
-    pub refused-write : (registers : List ℕ) (n v : ℕ) → leftRegistersAs (Refused r p) registers ≡ writePort image registers n v
+    pub refused-write : (registers : List ℕ) (n v : ℕ) → leftAs (Refused r p) registers ≡ writePort image registers n v
     unfolding writePort writePortAnswer _before_
     refused-write registers n v = rw (← e, h)
 
@@ -246,7 +246,7 @@ module _ (image : List ℕ) {a : Answer} (e : a ≡ verdict image) where
     unfolding targetsLength _before_
     refused-targets-length = rw (← e, h)
 
-    pub refused-run : (registers targets : List ℕ) (n : ℕ) → leftAs (Refused r p) registers targets ≡ run image (lends registers targets) n
+    pub refused-run : (registers targets : List ℕ) (n : ℕ) → leftAs (Refused r p) (lends registers targets) ≡ run image (lends registers targets) n
     unfolding run runAnswer _before_
     refused-run registers targets n = rw (← e, h)
 
@@ -263,7 +263,7 @@ module _ (image : List ℕ) {a : Answer} (e : a ≡ verdict image) where
     unfolding reset resetAnswer resetOn _before_
     accepted-reset lent k = rw (← e, h) k
 
-    pub accepted-write : {left : LeftRegisters} (registers : List ℕ) (r v : ℕ) → left ≡ writePortOn (designOf image) registers r v → left ≡ writePort image registers r v
+    pub accepted-write : {left : Left (List ℕ)} (registers : List ℕ) (r v : ℕ) → left ≡ writePortOn (designOf image) registers r v → left ≡ writePort image registers r v
     unfolding writePort writePortAnswer writePortOn _before_
     accepted-write registers r v k = rw (← e, h) k
 

@@ -1,4 +1,4 @@
--- What a port write leaves, as its answer and the bytes of the area; and the calls of `Rattle.model.specs.Calls` from the point where the image is accepted on.
+-- The calls of `Rattle.model.specs.Calls` from the point where the image is accepted on.
 use Prim.Native.Nat.{ℕ}
 use mathlib.Core.List.{List}
 use lib.ListN.{length, set}
@@ -8,23 +8,20 @@ use Rattle.model.specs.Image.{Design as Table}
 use Rattle.model.specs.Verdict.{_before_}
 use Rattle.model.specs.Values.{wordsOf, bytesOf}
 use Rattle.model.specs.Machine.{resetAreas, afterCycles}
-use Rattle.model.specs.Calls.{Lent, Left, LeftRegisters, leaves, leavesRegisters, lengthAnswer, registerAreaAnswer, contentsAnswer, portAnswer, valueAnswer, cyclesAnswer, areasOf, lentOf}
+use Rattle.model.specs.Calls.{Lent, Left, leaves, lengthAnswer, registerAreaAnswer, contentsAnswer, portAnswer, valueAnswer, cyclesAnswer, areasOf, lentOf}
 use Rattle.running.specs.Stages.{soundOn}
 
-abbrev pub leftRegistersAs : Answer → List ℕ → LeftRegisters
-leftRegistersAs answer registers = record { answer = answer; registers = registers }
-
-unfoldable pub resetOn : Table → Lent → Left
+unfoldable pub resetOn : Table → Lent → Left Lent
 resetOn d lent = leaves (lengthAnswer d lent) lent (lentOf (resetAreas d))
 
-unfoldable pub writePortOn : Table → List ℕ → ℕ → ℕ → LeftRegisters
+unfoldable pub writePortOn : Table → List ℕ → ℕ → ℕ → Left (List ℕ)
 writePortOn d registers r v =
-    leavesRegisters
+    leaves
     (registerAreaAnswer d registers before contentsAnswer d registers before portAnswer d r before valueAnswer d r v)
     registers
     (bytesOf (set (wordsOf (length (d .registers)) registers) r v))
 
-unfoldable pub runOn : Table → Lent → ℕ → Left
+unfoldable pub runOn : Table → Lent → ℕ → Left Lent
 runOn d lent n =
     leaves
     (lengthAnswer d lent before soundOn d lent before cyclesAnswer n before Accepted n)

@@ -7,10 +7,8 @@ pub mod runs;
 
 use model::Answer;
 ghost use mathlib.Core.Path.{_≡_};
-ghost use Rattle.model.specs.Calls.{check as checkOf, registersLength, targetsLength, reset as resetOf, writePort, run as runOf};
+ghost use Rattle.model.specs.Calls.{check as checkOf, registersLength, targetsLength, reset as resetOf, writePort, run as runOf, leftAs};
 ghost use Rattle.design.specs.Resets.{lends};
-ghost use Rattle.running.specs.Stages.{leftAs};
-ghost use Rattle.calls.specs.Stages.{leftRegistersAs};
 
 // Accepts an image exactly when it keeps the rules, or refuses it with the first number that applies, in the
 // order of the checks (1 to 8, 16, 19, 9, then 10 to 12 as the bodies are read), and its place.
@@ -44,7 +42,7 @@ pub fn targets_length(image: &[u8]) -> Answer
 
 // Writes the reset values and the default targets, and clears the bindings behind them.
 pub fn reset(image: &[u8], registers: &mut [u8], targets: &mut [u8]) -> Answer
-    ensures { λ a. ⌜ leftAs a (now (registers .exit)) (now (targets .exit)) ≡ resetOf (now (image .entry)) (lends (now (registers .entry)) (now (targets .entry))) ⌝ }
+    ensures { λ a. ⌜ leftAs a (lends (now (registers .exit)) (now (targets .exit))) ≡ resetOf (now (image .entry)) (lends (now (registers .entry)) (now (targets .entry))) ⌝ }
 {
     let verdict = checker::verdict(image);
     match verdict {
@@ -55,7 +53,7 @@ pub fn reset(image: &[u8], registers: &mut [u8], targets: &mut [u8]) -> Answer
 
 // Sets a register that is a port to a value.
 pub fn write_port(image: &[u8], registers: &mut [u8], register: u32, value: u32) -> Answer
-    ensures { λ a. ⌜ leftRegistersAs a (now (registers .exit)) ≡ writePort (now (image .entry)) (now (registers .entry)) register value ⌝ }
+    ensures { λ a. ⌜ leftAs a (now (registers .exit)) ≡ writePort (now (image .entry)) (now (registers .entry)) register value ⌝ }
 {
     let verdict = checker::verdict(image);
     match verdict {
@@ -66,7 +64,7 @@ pub fn write_port(image: &[u8], registers: &mut [u8], register: u32, value: u32)
 
 // Runs so many cycles.
 pub fn run(image: &[u8], registers: &mut [u8], targets: &mut [u8], count: u32) -> Answer
-    ensures { λ a. ⌜ leftAs a (now (registers .exit)) (now (targets .exit)) ≡ runOf (now (image .entry)) (lends (now (registers .entry)) (now (targets .entry))) count ⌝ }
+    ensures { λ a. ⌜ leftAs a (lends (now (registers .exit)) (now (targets .exit))) ≡ runOf (now (image .entry)) (lends (now (registers .entry)) (now (targets .entry))) count ⌝ }
 {
     let verdict = checker::verdict(image);
     match verdict {

@@ -14,10 +14,10 @@ ghost use Rattle.model.specs.declared.Answer.the-variants.{Accepted};
 ghost use Rattle.model.specs.Limits.{wordLength};
 ghost use Rattle.model.specs.Image.{designOf};
 ghost use Rattle.model.specs.Rules.{Keeps};
-ghost use Rattle.model.specs.Calls.{contentsAnswer, isWritable};
+ghost use Rattle.model.specs.Calls.{contentsAnswer, isWritable, leftAs};
 ghost use Rattle.design.specs.Describes.{Describes};
 ghost use Rattle.design.specs.Kept.{RecordsKept};
-ghost use Rattle.calls.specs.Stages.{leftRegistersAs, writePortOn};
+ghost use Rattle.calls.specs.Stages.{writePortOn};
 
 // Register r is there, and is a port.
 fn writable(image: &[u8], design: Design, r: usize) -> bool
@@ -33,7 +33,7 @@ fn writable(image: &[u8], design: Design, r: usize) -> bool
 // A port write on an area whose length and contents are right.
 fn write_within(image: &[u8], design: Design, registers: &mut [u8], r: usize, value: u32) -> Answer
     requires { ⌜ RecordsKept (now image) design × (length (now registers) ≡ wordLength * design .registers) × (contentsAnswer (designOf (now image)) (now registers) ≡ Accepted 0) ⌝ }
-    ensures { λ a. ⌜ leftRegistersAs a (now (registers .exit)) ≡ writePortOn (designOf (now (image .entry))) (now (registers .entry)) r value ⌝ }
+    ensures { λ a. ⌜ leftAs a (now (registers .exit)) ≡ writePortOn (designOf (now (image .entry))) (now (registers .entry)) r value ⌝ }
 {
     if !writable(image, design, r) {
         return Answer::Refused(Refusal::NoPort, r);
@@ -48,7 +48,7 @@ fn write_within(image: &[u8], design: Design, registers: &mut [u8], r: usize, va
 
 pub fn write_port(image: &[u8], registers: &mut [u8], register: u32, value: u32) -> Answer
     requires { ⌜ Keeps (now image) ⌝ }
-    ensures { λ a. ⌜ leftRegistersAs a (now (registers .exit)) ≡ writePortOn (designOf (now (image .entry))) (now (registers .entry)) register value ⌝ }
+    ensures { λ a. ⌜ leftAs a (now (registers .exit)) ≡ writePortOn (designOf (now (image .entry))) (now (registers .entry)) register value ⌝ }
 {
     let design = Design::read(image);
     if !register_area_kept(design, registers.len()) {

@@ -7,12 +7,12 @@ ghost use mathlib.Core.Path.{_≡_};
 ghost use Rattle.model.specs.Image.{designOf};
 ghost use Rattle.model.specs.Rules.{Keeps};
 ghost use Rattle.design.specs.Resets.{lends};
-ghost use Rattle.running.specs.Stages.{leftAs};
 ghost use Rattle.calls.specs.Stages.{resetOn};
+ghost use Rattle.model.specs.Calls.{leftAs};
 
 pub fn reset(image: &[u8], registers: &mut [u8], targets: &mut [u8]) -> Answer
     requires { ⌜ Keeps (now image) ⌝ }
-    ensures { λ a. ⌜ leftAs a (now (registers .exit)) (now (targets .exit)) ≡ resetOn (designOf (now (image .entry))) (lends (now (registers .entry)) (now (targets .entry))) ⌝ }
+    ensures { λ a. ⌜ leftAs a (lends (now (registers .exit)) (now (targets .exit))) ≡ resetOn (designOf (now (image .entry))) (lends (now (registers .entry)) (now (targets .entry))) ⌝ }
 {
     let design = Design::read(image);
     if !areas_kept(design, registers.len(), targets.len()) {

@@ -18,8 +18,8 @@ ghost use Rattle.model.specs.Rules.{Keeps};
 ghost use Rattle.design.specs.Describes.{Describes};
 ghost use Rattle.design.specs.Resets.{Defaults, lends};
 ghost use Rattle.design.specs.Scopes.{scopeLength, withScopes, Scopes};
-ghost use Rattle.running.specs.Stages.{leftAs};
 ghost use Rattle.calls.specs.Stages.{runOn};
+ghost use Rattle.model.specs.Calls.{leftAs};
 
 // A run on areas of the right lengths.
 fn run_on(
@@ -32,7 +32,7 @@ fn run_on(
     count: u32,
 ) -> Answer
     requires { ⌜ Keeps (now image) × Describes (now image) design × Defaults (designOf (now image)) (now defaults) × Scopes (designOf (now image)) (now «in_scope») × (length (now registers) ≡ wordLength * design .registers) × (length (now targets) ≡ targetLength * design .states) ⌝ }
-    ensures { λ a. ⌜ leftAs a (now (registers .exit)) (now (targets .exit)) ≡ runOn (designOf (now (image .entry))) (lends (now (registers .entry)) (now (targets .entry))) count ⌝ }
+    ensures { λ a. ⌜ leftAs a (lends (now (registers .exit)) (now (targets .exit))) ≡ runOn (designOf (now (image .entry))) (lends (now (registers .entry)) (now (targets .entry))) count ⌝ }
 {
     let judged = judge(image, design, defaults, registers, targets);
     match judged {
@@ -69,7 +69,7 @@ fn with_tables(
     count: u32,
 ) -> Answer
     requires { ⌜ Keeps (now image) × Describes (now image) design × (length (now registers) ≡ wordLength * design .registers) × (length (now targets) ≡ targetLength * design .states) ⌝ }
-    ensures { λ a. ⌜ leftAs a (now (registers .exit)) (now (targets .exit)) ≡ runOn (designOf (now (image .entry))) (lends (now (registers .entry)) (now (targets .entry))) count ⌝ }
+    ensures { λ a. ⌜ leftAs a (lends (now (registers .exit)) (now (targets .exit))) ≡ runOn (designOf (now (image .entry))) (lends (now (registers .entry)) (now (targets .entry))) count ⌝ }
 {
     let mut defaults = [0u8; Design::STATES];
     default_targets(image, design, &mut defaults);
@@ -88,7 +88,7 @@ fn with_tables(
 
 pub fn run(image: &[u8], registers: &mut [u8], targets: &mut [u8], count: u32) -> Answer
     requires { ⌜ Keeps (now image) ⌝ }
-    ensures { λ a. ⌜ leftAs a (now (registers .exit)) (now (targets .exit)) ≡ runOn (designOf (now (image .entry))) (lends (now (registers .entry)) (now (targets .entry))) count ⌝ }
+    ensures { λ a. ⌜ leftAs a (lends (now (registers .exit)) (now (targets .exit))) ≡ runOn (designOf (now (image .entry))) (lends (now (registers .entry)) (now (targets .entry))) count ⌝ }
 {
     let design = Design::read(image);
     if !areas_kept(design, registers.len(), targets.len()) {

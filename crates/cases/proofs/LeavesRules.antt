@@ -7,41 +7,37 @@ use Rattle.model.specs.declared.Refusal.{Refusal}
 use Rattle.model.specs.declared.Answer.{Answer}
 use Rattle.model.specs.declared.Answer.the-variants.{Refused}
 use Rattle.model.specs.Answers.{numberOf, numbersOf}
-use Rattle.model.specs.Calls.{Lent, Left, LeftRegisters, reset, writePort, run}
-use Rattle.model.specs.Raising.{LeftOut, leftOutAs, raise}
+use Rattle.model.specs.Calls.{Lent, Left, reset, writePort, run, leftAs}
+use Rattle.model.specs.Raising.{raise}
 use Rattle.design.specs.Resets.{lends}
-use Rattle.running.specs.Stages.{leftAs}
-use Rattle.calls.specs.Stages.{leftRegistersAs}
 use Rattle.pruning_model.specs.Calls.{prune}
 use Rattle.filing_model.specs.Calls.{file}
-use Rattle.gates_model.specs.Calls.{LeftFlipFlops}
-use Rattle.gates.specs.Stages.{leftAs as leftFlipFlopsAs}
-use Rattle.journal_model.specs.Calls.{LentJournal, LeftJournal, runJournalled, stepBack}
-use Rattle.journal.specs.Stages.{lendsJournal, leftJournalAs}
+use Rattle.journal_model.specs.Calls.{LentJournal, runJournalled, stepBack}
+use Rattle.journal.specs.Stages.{lendsJournal}
 use Rattle.cases.specs.Leaves.{numbered, painted, afterCall, afterJournalCall}
 
-pub areas-left : {a : Answer} {registers targets : List ℕ} {left : Left} → leftAs a registers targets ≡ left → lends registers targets ≡ left .lent
+pub areas-left : {a : Answer} {registers targets : List ℕ} {left : Left} → leftAs a (lends registers targets) ≡ left → lends registers targets ≡ left .lent
 areas-left e = ap (λ (l : Left). l .lent) e
 
-pub registers-left : {a : Answer} {registers : List ℕ} {left : LeftRegisters} → leftRegistersAs a registers ≡ left → registers ≡ left .registers
-registers-left e = ap (λ (l : LeftRegisters). l .registers) e
+pub registers-left : {a : Answer} {registers : List ℕ} {left : Left (List ℕ)} → leftAs a registers ≡ left → registers ≡ left .lent
+registers-left e = ap (λ (l : Left (List ℕ)). l .lent) e
 
-pub journal-left : {a : Answer} {registers targets journal : List ℕ} {left : LeftJournal} → leftJournalAs a registers targets journal ≡ left → lendsJournal registers targets journal ≡ left .lent
-journal-left e = ap (λ (l : LeftJournal). l .lent) e
+pub journal-left : {a : Answer} {registers targets journal : List ℕ} {left : Left LentJournal} → leftAs a (lendsJournal registers targets journal) ≡ left → lendsJournal registers targets journal ≡ left .lent
+journal-left e = ap (λ (l : Left LentJournal). l .lent) e
 
-pub flipflops-left : {a : Answer} {area : List ℕ} {left : LeftFlipFlops} → leftFlipFlopsAs a area ≡ left → area ≡ left .flipflops
-flipflops-left e = ap (λ (l : LeftFlipFlops). l .flipflops) e
+pub flipflops-left : {a : Answer} {area : List ℕ} {left : Left (List ℕ)} → leftAs a area ≡ left → area ≡ left .lent
+flipflops-left e = ap (λ (l : Left (List ℕ)). l .lent) e
 
 -- an area that is painted, and written to by a call
 module _ (image : List ℕ) (byte n : ℕ) {a : Answer} {old out : List ℕ} (e : old ≡ painted byte n) where
-  pub raise-left : leftOutAs a out ≡ raise image old → out ≡ raise image (painted byte n) .out
-  raise-left h = ap (λ (l : LeftOut). l .out) (h ∙ ap (raise image) e)
+  pub raise-left : leftAs a out ≡ raise image old → out ≡ raise image (painted byte n) .lent
+  raise-left h = ap (λ (l : Left (List ℕ)). l .lent) (h ∙ ap (raise image) e)
 
-  pub prune-left : leftOutAs a out ≡ prune image old → out ≡ prune image (painted byte n) .out
-  prune-left h = ap (λ (l : LeftOut). l .out) (h ∙ ap (prune image) e)
+  pub prune-left : leftAs a out ≡ prune image old → out ≡ prune image (painted byte n) .lent
+  prune-left h = ap (λ (l : Left (List ℕ)). l .lent) (h ∙ ap (prune image) e)
 
-  pub file-left : leftOutAs a out ≡ file image old → out ≡ file image (painted byte n) .out
-  file-left h = ap (λ (l : LeftOut). l .out) (h ∙ ap (file image) e)
+  pub file-left : leftAs a out ≡ file image old → out ≡ file image (painted byte n) .lent
+  file-left h = ap (λ (l : Left (List ℕ)). l .lent) (h ∙ ap (file image) e)
 
 -- ---- a refusal in its numbers
 pub refused-numbered : {answer : Answer} {refusal : Refusal} {n place : ℕ} → answer ≡ Refused refusal place → n ≡ numberOf refusal → numbersOf answer ≡ numbered n place 0
@@ -57,7 +53,7 @@ module _ (kind a b : ℕ) (image : List ℕ) (lent : Lent) {left : Lent} where
   unfolding afterCall
   after-run n m h = h ∙ sym (rw (ne-eqb kind 3 n, ne-eqb kind 4 m))
 
-pub after-write : (kind a b : ℕ) (image before targets : List ℕ) {registers : List ℕ} → kind ≡ 4 → registers ≡ writePort image before a b .registers → lends registers targets ≡ afterCall kind a b image (lends before targets)
+pub after-write : (kind a b : ℕ) (image before targets : List ℕ) {registers : List ℕ} → kind ≡ 4 → registers ≡ writePort image before a b .lent → lends registers targets ≡ afterCall kind a b image (lends before targets)
 unfolding afterCall
 after-write kind a b image before targets e h = ap (λ (after : List ℕ). lends after targets) h ∙ sym (rw e)
 

@@ -32,7 +32,7 @@ afterCall kind a b image lent =
     (reset image lent .lent)
     (cond
     (eqb kind 4)
-    (record { registers = writePort image (lent .registers) a b .registers; targets = lent .targets })
+    (record { registers = writePort image (lent .registers) a b .lent; targets = lent .targets })
     (run image lent a .lent))
 
 -- the areas and the journal behind the call of a kind from 12 to 13, with the number a of its record

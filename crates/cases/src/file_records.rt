@@ -18,7 +18,7 @@ ghost use Rattle.cases.specs.Fits.{imageRoom, Fits, StepFits};
 ghost use Rattle.cases.specs.Leaves.{painted, secondOf};
 
 fn file(image: &[u8], out: &mut [u8], byte: u8) -> bool
-    ensures { λ _. ⌜ now (out .exit) ≡ fileOf (now (image .entry)) (painted byte (length (now (out .entry)))) .out ⌝ }
+    ensures { λ _. ⌜ now (out .exit) ≡ fileOf (now (image .entry)) (painted byte (length (now (out .entry)))) .lent ⌝ }
 {
     paint(out, byte);
     let answer = filing::file(image, out);

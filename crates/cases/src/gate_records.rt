@@ -26,14 +26,14 @@ fn check(table: &[u8]) -> bool {
 }
 
 fn reset(table: &[u8], flipflops: &mut [u8]) -> bool
-    ensures { λ _. ⌜ now (flipflops .exit) ≡ gatesReset (now (table .entry)) (now (flipflops .entry)) .flipflops ⌝ }
+    ensures { λ _. ⌜ now (flipflops .exit) ≡ gatesReset (now (table .entry)) (now (flipflops .entry)) .lent ⌝ }
 {
     let answer = gates::reset(table, flipflops);
     print(b"gates reset") && answered(answer) && print_bytes(b"  flipflops", flipflops)
 }
 
 fn cycle(table: &[u8], inputs: &[u8], flipflops: &mut [u8]) -> bool
-    ensures { λ _. ⌜ now (flipflops .exit) ≡ gatesCycle (now (table .entry)) (now (inputs .entry)) (now (flipflops .entry)) .flipflops ⌝ }
+    ensures { λ _. ⌜ now (flipflops .exit) ≡ gatesCycle (now (table .entry)) (now (inputs .entry)) (now (flipflops .entry)) .lent ⌝ }
 {
     let answer = gates::cycle(table, inputs, flipflops);
     print(b"gates cycle") && answered(answer) && print_bytes(b"  flipflops", flipflops)

@@ -237,7 +237,7 @@ fn paint(area: &mut [u8], byte: u8)
 }
 
 fn raise(image: &[u8], out: &mut [u8], byte: u8) -> bool
-    ensures { λ _. ⌜ now (out .exit) ≡ raiseOf (now (image .entry)) (painted byte (length (now (out .entry)))) .out ⌝ }
+    ensures { λ _. ⌜ now (out .exit) ≡ raiseOf (now (image .entry)) (painted byte (length (now (out .entry)))) .lent ⌝ }
 {
     paint(out, byte);
     let answer = raising::raise(image, out);

@@ -16,7 +16,7 @@ ghost use Rattle.cases.specs.Fits.{imageRoom, Fits, StepFits};
 ghost use Rattle.cases.specs.Leaves.{painted};
 
 fn prune(image: &[u8], out: &mut [u8], byte: u8) -> bool
-    ensures { λ _. ⌜ now (out .exit) ≡ pruneOf (now (image .entry)) (painted byte (length (now (out .entry)))) .out ⌝ }
+    ensures { λ _. ⌜ now (out .exit) ≡ pruneOf (now (image .entry)) (painted byte (length (now (out .entry)))) .lent ⌝ }
 {
     paint(out, byte);
     let answer = pruning::prune(image, out);

@@ -9,7 +9,7 @@ use Rattle.model.specs.declared.Answer.{Answer}
 use Rattle.model.specs.declared.Answer.the-variants.{Accepted, Refused}
 use Rattle.model.specs.Rules.{Keeps}
 use Rattle.model.specs.Verdict.{_before_, verdict}
-use Rattle.model.specs.Raising.{LeftOut, leftOutAs, accepts}
+use Rattle.model.specs.Raising.{accepts}
 use Rattle.model.proofs.Exact.{verdict-exact}
 use Rattle.model.proofs.Laws.Booleans.{not-true, not-false}
 use Rattle.model.proofs.Raising.Theorem.{accepts-exact}
@@ -20,14 +20,15 @@ use Rattle.filing_model.specs.Order.{comesBefore}
 use Rattle.filing_model.specs.Calls.{fileAnswer, file, earlier, handedBack, handedFrom}
 use Rattle.filing_model.proofs.Earliest.{earlier-refused, earlier-second, earlier-not-second}
 use Rattle.filing.specs.Stages.{fileOn}
+use Rattle.model.specs.Calls.{leftAs, Left}
 
 -- ---- the verdict, and all that follows
 module _ (image : List ℕ) {a : Answer} (is : a ≡ verdict image) where
-  pub verdict-refuses : {r : Refusal} {p : ℕ} (out : List ℕ) → a ≡ Refused r p → leftOutAs (Refused r p) out ≡ file image out
+  pub verdict-refuses : {r : Refusal} {p : ℕ} (out : List ℕ) → a ≡ Refused r p → leftAs (Refused r p) out ≡ file image out
   unfolding file fileAnswer _before_
   verdict-refuses out h = rw (← is, h)
 
-  pub verdict-passes : {left : LeftOut} {n : ℕ} (out : List ℕ) → a ≡ Accepted n → left ≡ fileOn image out → left ≡ file image out
+  pub verdict-passes : {left : Left (List ℕ)} {n : ℕ} (out : List ℕ) → a ≡ Accepted n → left ≡ fileOn image out → left ≡ file image out
   unfolding file fileAnswer fileOn _before_
   verdict-passes out h k = rw (← is, h) k
 

@@ -12,13 +12,13 @@ use Rattle.model.specs.declared.Answer.the-variants.{Accepted, Refused}
 use Rattle.model.specs.Image.{byteAt}
 use Rattle.model.specs.Rules.{Keeps}
 use Rattle.model.specs.Verdict.{_before_, refusedAt}
-use Rattle.model.specs.Raising.{leftOutAs}
 use Rattle.model.proofs.Exact.{verdict-exact}
 use Rattle.encoding.specs.Parts.{over}
 use Rattle.encoding.proofs.PartRules.{PutSo, put-begins, put-more, put-inside, put-done, over-beginning}
 use Rattle.filing_model.specs.Filed.{filedImage}
 use Rattle.filing_model.proofs.Images.{filed-long}
 use Rattle.filing.specs.Stages.{fileOn}
+use Rattle.model.specs.Calls.{leftAs}
 
 pub form-long : (image : List ℕ) → ((i : ℕ) → Fits w8 (getD image i 0)) → Keeps image → length (filedImage image) ≡ length image
 form-long image bytes keeps = filed-long image (λ i. bytes i .fits) (verdict-exact image .1 keeps)
@@ -52,10 +52,10 @@ module _ {image old now : List ℕ} {i : ℕ} (put : FormPut image old i now) wh
 
 -- ---- the output area, and all that follows
 module _ (image : List ℕ) (bytes : (i : ℕ) → Fits w8 (getD image i 0)) where
-  pub area-refuses : (out : List ℕ) → length out < length image → Keeps image → leftOutAs (Refused OutputArea 0) out ≡ fileOn image out
+  pub area-refuses : (out : List ℕ) → length out < length image → Keeps image → leftAs (Refused OutputArea 0) out ≡ fileOn image out
   unfolding fileOn refusedAt _before_
   area-refuses out h keeps = rw (form-long image bytes keeps, lt-leb (length image) (length out) h)
 
-  pub area-passes : {after : List ℕ} (out : List ℕ) → after ≡ over (filedImage image) out → length image ≤ length out → Keeps image → leftOutAs (Accepted (length image)) after ≡ fileOn image out
+  pub area-passes : {after : List ℕ} (out : List ℕ) → after ≡ over (filedImage image) out → length image ≤ length out → Keeps image → leftAs (Accepted (length image)) after ≡ fileOn image out
   unfolding fileOn refusedAt _before_
   area-passes out e h keeps = rw (e, form-long image bytes keeps, le-leb (length image) (length out) h)

@@ -6,13 +6,13 @@ use lib.ListN.{length}
 use Rattle.model.specs.declared.Refusal.the-variants.{OutputArea}
 use Rattle.model.specs.declared.Answer.the-variants.{Accepted}
 use Rattle.model.specs.Verdict.{_before_, refusedAt, atZeroUnless}
-use Rattle.model.specs.Raising.{LeftOut, leavesOut}
 use Rattle.encoding.specs.Parts.{over}
 use Rattle.filing_model.specs.Filed.{filedImage}
+use Rattle.model.specs.Calls.{Left, leaves}
 
-unfoldable pub fileOn : List ℕ → List ℕ → LeftOut
+unfoldable pub fileOn : List ℕ → List ℕ → Left (List ℕ)
 fileOn image out =
-    leavesOut
+    leaves
     (refusedAt OutputArea (atZeroUnless (leb (length (filedImage image)) (length out))) before Accepted (length (filedImage image)))
     out
     (over (filedImage image) out)

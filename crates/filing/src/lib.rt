@@ -11,12 +11,13 @@ use filing_model::Earlier;
 use model::Answer;
 ghost use mathlib.Core.Path.{_≡_};
 ghost use Rattle.model.specs.Verdict.{verdict as verdictOf};
-ghost use Rattle.model.specs.Raising.{accepts as acceptsIn, leftOutAs};
+ghost use Rattle.model.specs.Raising.{accepts as acceptsIn};
 ghost use Rattle.filing_model.specs.Calls.{file as fileOf, earlier as earlierOf, handedBack, handedFrom};
+ghost use Rattle.model.specs.Calls.{leftAs};
 
 // The filing form of an image, over the beginning of the output area.
 pub fn file(image: &[u8], out: &mut [u8]) -> Answer
-    ensures { λ a. ⌜ leftOutAs a (now (out .exit)) ≡ fileOf (now (image .entry)) (now (out .entry)) ⌝ }
+    ensures { λ a. ⌜ leftAs a (now (out .exit)) ≡ fileOf (now (image .entry)) (now (out .entry)) ⌝ }
 {
     let verdict = checker::verdict(image);
     match verdict {

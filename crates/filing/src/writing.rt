@@ -9,12 +9,12 @@ ghost use mathlib.Core.Path.{_≡_};
 ghost use lib.ListN.{length};
 ghost use Rattle.model.specs.Image.{designOf};
 ghost use Rattle.model.specs.Rules.{Keeps};
-ghost use Rattle.model.specs.Raising.{leftOutAs};
 ghost use Rattle.design.specs.Kept.{Structured};
 ghost use Rattle.encoding.specs.Parts.{over};
 ghost use Rattle.filing_model.specs.Filed.{filedImage};
 ghost use Rattle.filing_steps.specs.Tables.{FormTables};
 ghost use Rattle.filing.specs.Stages.{fileOn};
+ghost use Rattle.model.specs.Calls.{leftAs};
 
 // All bytes of the form.
 fn write(
@@ -79,7 +79,7 @@ fn write_accepted(image: &[u8], out: &mut [u8])
 // Filing an accepted image. The form is as long as the image.
 pub fn file_accepted(image: &[u8], out: &mut [u8]) -> Answer
     requires { ⌜ Keeps (now image) ⌝ }
-    ensures { λ a. ⌜ leftOutAs a (now (out .exit)) ≡ fileOn (now (image .entry)) (now (out .entry)) ⌝ }
+    ensures { λ a. ⌜ leftAs a (now (out .exit)) ≡ fileOn (now (image .entry)) (now (out .entry)) ⌝ }
 {
     if out.len() < image.len() {
         return Answer::Refused(Refusal::OutputArea, 0);

@@ -3,13 +3,11 @@ use Prim.Native.Nat.{ℕ}
 use mathlib.Core.Path.{_≡_}
 use mathlib.Core.List.{List}
 use lib.ListN.{length}
-use Rattle.model.specs.Answers.{numbersOf}
-use Rattle.model.specs.Refusals.{AnswersBy}
+use Rattle.model.specs.Refusals.{inNumbers, Exactly}
 use Rattle.model.proofs.Laws.Equivalences.{at-most-iff}
 use Rattle.model.proofs.Laws.Broken.{Decides, decides-before, decides-none}
 use Rattle.model.proofs.Laws.Finds.{finds-zero}
-use Rattle.model.proofs.Refused.{stage, image-decides, answers-by}
-use Rattle.model.proofs.Laws.LeftOut.{left-answer, left-out}
+use Rattle.model.proofs.Refused.{stage, image-decides, exactly}
 use Rattle.filing_model.specs.Filed.{filedImage}
 use Rattle.filing_model.specs.Calls.{fileAnswer, file}
 use Rattle.filing_model.specs.Rules.{fileTable}
@@ -19,10 +17,6 @@ module _ (image out : List ℕ) where
   unfolding fileAnswer
   file-decides = decides-before (image-decides image) (λ kept. stage (finds-zero at-most-iff) (decides-none (length (filedImage image))))
 
-  pub file-answers : AnswersBy (fileTable image out) (length (filedImage image)) (numbersOf (file image out .answer))
+  pub file-exactly : Exactly (fileTable image out) (length (filedImage image)) out (inNumbers (file image out))
   unfolding file
-  file-answers = rw (left-answer (fileAnswer image out)) (answers-by file-decides)
-
-  pub file-refused : (numbersOf (file image out .answer) .number ≡ 0 → ⊥) → file image out .out ≡ out
-  unfolding file
-  file-refused refused = left-out (fileAnswer image out) out _ refused
+  file-exactly = exactly _ file-decides

@@ -3,7 +3,7 @@ use Prim.Native.Nat.{ℕ}
 use mathlib.Core.List.{List}
 use Rattle.model.specs.Answers.{Numbers, numbersOf}
 use Rattle.model.specs.Neighbours.{unnumberedExpr, unnumbered}
-use Rattle.model.specs.Raising.{LeftOut}
+use Rattle.model.specs.Calls.{Left}
 use Rattle.model.specs.Indices.{joinEach}
 use Rattle.model.proofs.Opened.{everything}
 use Rattle.encoding.specs.Encoding.{word16Bytes, word32Bytes, registerBytes, stateBytes, nodeBytes, recordsBytes, directoryBytes, imageOf}
@@ -19,5 +19,5 @@ unfolding everything unnumberedExpr unnumbered word16Bytes word32Bytes registerB
 filing = 0
 
 -- all that filing leaves: what the host is told, and every byte of the output area
-abbrev pub told : LeftOut → Numbers × List ℕ
-told left = (numbersOf (left .answer), left .out)
+abbrev pub told : Left (List ℕ) → Numbers × List ℕ
+told left = (numbersOf (left .answer), left .lent)

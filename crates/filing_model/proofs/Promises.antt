@@ -12,7 +12,7 @@ use Rattle.model.specs.Answers.{numbersOf}
 use Rattle.model.specs.Verdict.{verdict}
 use Rattle.model.specs.Trees.{bodyOf}
 use Rattle.model.specs.Raising.{accepts}
-use Rattle.model.specs.Refusals.{AnswersBy}
+use Rattle.model.specs.Refusals.{inNumbers, Exactly}
 use Rattle.renumbering.specs.Runs.{SameRuns}
 use Rattle.filing_model.specs.declared.Earlier.the-variants.{First, Neither}
 use Rattle.filing_model.specs.Filed.{filed, filedImage}
@@ -24,7 +24,7 @@ use Rattle.filing_model.proofs.Trees.{Nodes, bodiesWritten}
 use Rattle.filing_model.proofs.Images.{filed-accepted, filed-long, filed-runs, filed-same}
 use Rattle.filing_model.proofs.Forms as forms
 use Rattle.filing_model.proofs.Order as order
-use Rattle.filing_model.proofs.Exact.{file-answers, file-refused}
+use Rattle.filing_model.proofs.Exact as exact
 use Rattle.filing_model.proofs.Written as written
 use Rattle.filing_model.proofs.Earliest as earliest
 
@@ -104,17 +104,13 @@ lent-in-either-order = earliest.earlier-swapped
 -- ---- writing the form
 -- "Writing the form into too short an area is 24, after the image checks": accepted with the length of the form as its count exactly when every rule of its table is kept, and
 -- refused exactly by the first that is broken.
-pub file-exactly : (image out : List ℕ) → AnswersBy (fileTable image out) (length (filedImage image)) (numbersOf (file image out .answer))
-file-exactly = file-answers
-
--- 01, demand 1: "No lent byte changes" on a refusal.
-pub file-refused-leaves : (image out : List ℕ) → (numbersOf (file image out .answer) .number ≡ 0 → ⊥) → file image out .out ≡ out
-file-refused-leaves = file-refused
+pub file-exactly : (image out : List ℕ) → Exactly (fileTable image out) (length (filedImage image)) out (inNumbers (file image out))
+file-exactly = exact.file-exactly
 
 -- The form stands at the beginning of the output area,
-pub file-writes : (image out : List ℕ) → numbersOf (file image out .answer) .number ≡ 0 → take (length (filedImage image)) (file image out .out) ≡ filedImage image
+pub file-writes : (image out : List ℕ) → numbersOf (file image out .answer) .number ≡ 0 → take (length (filedImage image)) (file image out .lent) ≡ filedImage image
 file-writes = written.file-writes
 
 -- "bytes beyond the form keep their values."
-pub beyond-keeps : (image out : List ℕ) (i : ℕ) → length (filedImage image) ≤ i → byteAt (file image out .out) i ≡ byteAt out i
+pub beyond-keeps : (image out : List ℕ) (i : ℕ) → length (filedImage image) ≤ i → byteAt (file image out .lent) i ≡ byteAt out i
 beyond-keeps = written.beyond-keeps

@@ -8,8 +8,8 @@ use Rattle.model.specs.declared.Answer.{Answer}
 use Rattle.model.specs.declared.Answer.the-variants.{Accepted, Refused}
 use Rattle.model.specs.Image.{byteAt}
 use Rattle.model.specs.Answers.{numbersOf}
-use Rattle.model.specs.Raising.{leavesOut}
-use Rattle.model.proofs.Laws.LeftOut.{left-made}
+use Rattle.model.specs.Calls.{leaves}
+use Rattle.model.proofs.Laws.Left.{left-made}
 use Rattle.encoding.specs.Parts.{over}
 use Rattle.encoding.proofs.PartRules.{beyond-over}
 use Rattle.filing_model.specs.Filed.{filedImage}
@@ -17,17 +17,17 @@ use Rattle.filing_model.specs.Calls.{fileAnswer, file}
 
 module _ (image out : List ℕ) where
   -- the form stands at the beginning
-  pub file-writes : numbersOf (file image out .answer) .number ≡ 0 → take (length (filedImage image)) (file image out .out) ≡ filedImage image
+  pub file-writes : numbersOf (file image out .answer) .number ≡ 0 → take (length (filedImage image)) (file image out .lent) ≡ filedImage image
   unfolding file over
   file-writes accepted =
       ap (take (length (filedImage image))) (left-made (fileAnswer image out) out _ accepted)
       ∙ take-append-seam (filedImage image) (drop (length (filedImage image)) out)
 
   -- "bytes beyond the form keep their values", accepted or refused
-  pub beyond-keeps : (i : ℕ) → length (filedImage image) ≤ i → byteAt (file image out .out) i ≡ byteAt out i
+  pub beyond-keeps : (i : ℕ) → length (filedImage image) ≤ i → byteAt (file image out .lent) i ≡ byteAt out i
   unfolding file
   beyond-keeps i behind = go (fileAnswer image out)
     where
-      go : (a : Answer) → byteAt (leavesOut a out (over (filedImage image) out) .out) i ≡ byteAt out i
+      go : (a : Answer) → byteAt (leaves a out (over (filedImage image) out) .lent) i ≡ byteAt out i
       go (Accepted n) = beyond-over (filedImage image) out i behind
       go (Refused r p) = refl

@@ -9,12 +9,13 @@ use Rattle.model.specs.declared.Refusal.the-variants.{OutputArea}
 use Rattle.model.specs.declared.Answer.{Answer}
 use Rattle.model.specs.declared.Answer.the-variants.{Accepted}
 use Rattle.model.specs.Verdict.{_before_, refusedAt, atZeroUnless, verdict}
-use Rattle.model.specs.Raising.{LeftOut, leavesOut, accepts}
+use Rattle.model.specs.Raising.{accepts}
 use Rattle.encoding.specs.Parts.{over}
 use Rattle.filing_model.specs.declared.Earlier.{Earlier}
 use Rattle.filing_model.specs.declared.Earlier.the-variants.{First, Second, Neither}
 use Rattle.filing_model.specs.Filed.{filedImage}
 use Rattle.filing_model.specs.Order.{comesBefore}
+use Rattle.model.specs.Calls.{Left, leaves}
 
 module _ (image out : List ℕ) where
   -- "Writing the form into too short an area is 24, after the image checks". Decided: at place 0, and the count is the bytes of the form.
@@ -25,8 +26,8 @@ module _ (image out : List ℕ) where
       before Accepted (length (filedImage image))
 
   -- "bytes beyond the form keep their values"
-  unfoldable pub file : LeftOut
-  file = leavesOut fileAnswer out (over (filedImage image) out)
+  unfoldable pub file : Left (List ℕ)
+  file = leaves fileAnswer out (over (filedImage image) out)
 
 module _ (first second : List ℕ) where
   -- "Of two lent images the earlier one is handed back ..., the first of them if equal, and an empty part of the first if either is refused."

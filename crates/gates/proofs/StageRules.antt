@@ -23,16 +23,17 @@ use Rattle.gates_model.specs.Signals.{IsSound}
 use Rattle.gates_model.specs.Verdict.{tableAnswer}
 use Rattle.gates_model.specs.Cycle.{signalAt, sources, cycled, started}
 use Rattle.gates_model.specs.Rules.{TableKeeps, LentKeeps}
-use Rattle.gates_model.specs.Calls.{LeftFlipFlops, inputLent, flipFlopLent, areaAnswer, lengthsAnswer, lentKept, lentAnswer, gatesCheck, gatesReset, gatesResetAnswer, gatesCycle, gatesCycleAnswer}
+use Rattle.gates_model.specs.Calls.{inputLent, flipFlopLent, areaAnswer, lengthsAnswer, lentKept, lentAnswer, gatesCheck, gatesReset, gatesResetAnswer, gatesCycle, gatesCycleAnswer}
 use Rattle.gates_model.proofs.Exact.{accepted-keeps, lent-iff}
 use Rattle.gates_model.proofs.Laws.Kinds.{kind-input, kind-flipflop}
 use Rattle.gates_model.proofs.Laws.Wires.{source-input, source-flipflop}
 use Rattle.gates.specs.declared.Gates.{Gates}
 use Rattle.gates.specs.Describes.{Describes, Accepts}
 use Rattle.gates.specs.Codes.{Lends, lentIn}
-use Rattle.gates.specs.Stages.{leftAs, resetOn, cycleOn, lentOn, RightLengths}
+use Rattle.gates.specs.Stages.{resetOn, cycleOn, lentOn, RightLengths}
 use Rattle.gates.proofs.Laws.{inputs-count, flipflops-count}
 use Rattle.gates.proofs.AreaRules.{lent-input, lent-flipflop}
+use Rattle.model.specs.Calls.{leftAs, Left}
 
 -- rules that are the same below n fail at the same place
 failing-same : (rule other : ℕ → Bool) (n : ℕ) → ((w : ℕ) → w < n → rule w ≡ other w) → lowestFailing rule n ≡ lowestFailing other n
@@ -81,7 +82,7 @@ module _ {table : List ℕ} {x : Gates} (d : Describes table x) where
             area-long = eqb-true (length area) (2 * x .flipflops) (and-second (eqb (length inputs) (x .inputs)) (eqb (length area) (2 * x .flipflops)) both);
           }
 
-      pub then-lent : {left : LeftFlipFlops} → left ≡ lentOn (tableOf table) inputs area → left ≡ cycleOn (tableOf table) inputs area
+      pub then-lent : {left : Left (List ℕ)} → left ≡ lentOn (tableOf table) inputs area → left ≡ cycleOn (tableOf table) inputs area
       unfolding cycleOn lentOn lengthsAnswer refusedAt _before_
       then-lent k = rw (lengths-test, not-false b h) k
 
@@ -162,10 +163,10 @@ module _ (table : List ℕ) {a : Answer} (e : a ≡ tableAnswer table) where
     pub keeps-known : TableKeeps table
     keeps-known = accepted-keeps table (sym e ∙ h)
 
-    pub accepted-reset : {left : LeftFlipFlops} (area : List ℕ) → left ≡ resetOn (tableOf table) area → left ≡ gatesReset table area
+    pub accepted-reset : {left : Left (List ℕ)} (area : List ℕ) → left ≡ resetOn (tableOf table) area → left ≡ gatesReset table area
     unfolding gatesReset gatesResetAnswer resetOn _before_
     accepted-reset area k = rw (← e, h) k
 
-    pub accepted-cycle : {left : LeftFlipFlops} (inputs area : List ℕ) → left ≡ cycleOn (tableOf table) inputs area → left ≡ gatesCycle table inputs area
+    pub accepted-cycle : {left : Left (List ℕ)} (inputs area : List ℕ) → left ≡ cycleOn (tableOf table) inputs area → left ≡ gatesCycle table inputs area
     unfolding gatesCycle gatesCycleAnswer cycleOn _before_
     accepted-cycle inputs area k = rw (← e, h) k

@@ -17,7 +17,7 @@ ghost use Rattle.gates_model.specs.Rules.{DirectoryKeeps};
 ghost use Rattle.gates_model.specs.Calls.{gatesCheck, gatesReset, gatesCycle};
 ghost use Rattle.gates.specs.Records.{markIn, flipFlopIn, gateIn, inputEnd, flipFlopEnd, gateEnd};
 ghost use Rattle.gates.specs.Describes.{Describes};
-ghost use Rattle.gates.specs.Stages.{leftAs};
+ghost use Rattle.model.specs.Calls.{leftAs};
 
 // What a table's directory says: how many records each section has, and where it begins. The
 // inputs begin behind the directory.

@@ -13,7 +13,8 @@ ghost use Rattle.gates_model.specs.Limits.{signalLength, flipFlopsMax};
 ghost use Rattle.gates_model.specs.Tables.{tableOf};
 ghost use Rattle.gates_model.specs.Rules.{TableKeeps};
 ghost use Rattle.gates.specs.Describes.{Accepts};
-ghost use Rattle.gates.specs.Stages.{leftAs, resetOn, cycleOn, lentOn, RightLengths};
+ghost use Rattle.gates.specs.Stages.{resetOn, cycleOn, lentOn, RightLengths};
+ghost use Rattle.model.specs.Calls.{leftAs};
 
 // An area of so many bytes holds the flip-flops.
 fn area_kept(gates: Gates, area: usize) -> bool

@@ -8,19 +8,20 @@ use Rattle.model.specs.declared.Refusal.{Refusal}
 use Rattle.model.specs.declared.Answer.the-variants.{Accepted, Refused}
 use Rattle.model.specs.Image.{byteAt}
 use Rattle.model.specs.Answers.{numbersOf}
-use Rattle.model.specs.Refusals.{AllKept, AnswersBy}
+use Rattle.model.specs.Refusals.{AllKept, AnswersBy, inNumbers, Exactly}
 use Rattle.model.proofs.Laws.Equivalences.{less-iff, at-most-iff, equal-iff, and-iff, and-three-iff}
 use Rattle.model.proofs.Laws.Verdict.{refused-is-not-accepted}
 use Rattle.model.proofs.Laws.Broken.{Decides, decides-one, decides-before}
 use Rattle.model.proofs.Laws.Finds.{finds-each, finds-zero}
-use Rattle.model.proofs.Refused.{answers-by}
+use Rattle.model.proofs.Refused.{answers-by, exactly}
 use Rattle.gates_model.specs.Tables.{Section, Inputs, FlipFlops, Gates, sectionKept, offsetsKept, directoryKept, Table, tableOf, markAt}
 use Rattle.gates_model.specs.Signals.{IsSound}
 use Rattle.gates_model.specs.Verdict.{isBit, inputKept, flipFlopKept, gateKept, wireKept, tableAnswer}
 use Rattle.gates_model.specs.Cycle.{signalIn}
-use Rattle.gates_model.specs.Calls.{areaAnswer, lengthsAnswer, lentKept, lentAnswer, gatesCheck, gatesResetAnswer, gatesCycleAnswer}
+use Rattle.gates_model.specs.Calls.{areaAnswer, lengthsAnswer, lentKept, lentAnswer, gatesCheck, gatesResetAnswer, gatesCycleAnswer, gatesReset, gatesCycle}
 use Rattle.gates_model.specs.Rules.{SectionKeeps, DirectoryKeeps, FlipFlopKeeps, GateKeeps, WireKeeps, LentKeeps, TableKeeps, checkTable, resetTable, cycleTable}
 use Rattle.gates_model.proofs.Laws.Kinds.{kind-iff}
+use Rattle.gates_model.specs.Runs.{Call, resets, cycles, perform, callTable}
 
 section-iff : (table : List ℕ) (s : Section) → (sectionKept table s ≡ true) ↔ SectionKeeps table s
 unfolding sectionKept
@@ -114,8 +115,7 @@ check-answers table = answers-by (table-decides table)
 pub check-exact : (table : List ℕ) → (numbersOf (gatesCheck table) ≡ record { number = 0; place = 0; count = 0 }) ↔ TableKeeps table
 check-exact table = Iff·trans (check-answers table .accepted) (keeps-table table .1, keeps-table table .0)
 
-pub reset-answers : (table area : List ℕ) → AnswersBy (resetTable table area) 0 (numbersOf (gatesResetAnswer table area))
-reset-answers table area = answers-by (reset-decides table area)
-
-pub cycle-answers : (table inputs area : List ℕ) → AnswersBy (cycleTable table inputs area) 0 (numbersOf (gatesCycleAnswer table inputs area))
-cycle-answers table inputs area = answers-by (cycle-decides table inputs area)
+pub call-exactly : (table area : List ℕ) (call : Call) → Exactly (callTable table area call) 0 area (inNumbers (perform table area call))
+unfolding perform gatesReset gatesCycle
+call-exactly table area resets = exactly _ (reset-decides table area)
+call-exactly table area (cycles inputs) = exactly _ (cycle-decides table inputs area)

@@ -3,7 +3,6 @@ pub mod Laws
 pub mod Exact
 pub mod Marks
 pub mod Independence
-pub mod Unchanged
 pub mod Promises
 pub mod Worked
 pub mod Opened

@@ -5,11 +5,12 @@ use Rattle.model.specs.Indices.{lowest, lowestFailing, tabulateFrom, tabulate}
 use Rattle.model.specs.Image.{recordsOf}
 use Rattle.model.specs.Verdict.{_before_, refusedAt}
 use Rattle.model.specs.Answers.{Numbers, numbersOf}
+use Rattle.model.specs.Calls.{Left}
 use Rattle.gates_model.specs.Tables.{sectionKept, offsetsKept, directoryKept, sectionOf, tableOf}
 use Rattle.gates_model.specs.Signals.{nand}
 use Rattle.gates_model.specs.Verdict.{inputKept, flipFlopKept, gateKept, wireKept, tableAnswer}
 use Rattle.gates_model.specs.Cycle.{bytesOf, sources, settled, signals, cycled, started}
-use Rattle.gates_model.specs.Calls.{LeftFlipFlops, areaAnswer, lengthsAnswer, lentKept, lentAnswer, gatesCheck, gatesResetAnswer, gatesReset, gatesCycleAnswer, gatesCycle}
+use Rattle.gates_model.specs.Calls.{areaAnswer, lengthsAnswer, lentKept, lentAnswer, gatesCheck, gatesResetAnswer, gatesReset, gatesCycleAnswer, gatesCycle}
 use Rattle.gates_model.specs.Runs.{perform, atEnd, trustedInputs, remains, areasAfter}
 
 unfoldable pub everything : ℕ
@@ -28,5 +29,5 @@ abbrev pub judged : List ℕ → Numbers
 judged table = numbersOf (gatesCheck table)
 
 -- all that a call leaves: what the host is told, and every lent byte
-abbrev pub told : LeftFlipFlops → Numbers × List ℕ
-told left = (numbersOf (left .answer), left .flipflops)
+abbrev pub told : Left (List ℕ) → Numbers × List ℕ
+told left = (numbersOf (left .answer), left .lent)

@@ -6,16 +6,15 @@ use mathlib.Core.Logic.{_↔_}
 use mathlib.Core.List.{List}
 use Rattle.model.specs.declared.Refusal.{Refusal}
 use Rattle.model.specs.Answers.{numberOf, numbersOf}
-use Rattle.model.specs.Refusals.{FirstBroken, AnswersBy}
+use Rattle.model.specs.Refusals.{FirstBroken, inNumbers, Exactly}
 use Rattle.gates_model.specs.Tables.{Table, tableOf}
 use Rattle.gates_model.specs.Signals.{Signal, nand, IsSound, Unaffected}
 use Rattle.gates_model.specs.Cycle.{cycled}
 use Rattle.gates_model.specs.Calls.{gatesCheck}
 use Rattle.gates_model.specs.Rules.{TableKeeps, checkTable}
 use Rattle.gates_model.specs.Runs.{Agree, FedAlike, afterCycles, Call, perform, callTable, atEnd, remains, areasAfter, AgreeEach}
-use Rattle.gates_model.proofs.Exact.{check-exact, check-answers}
+use Rattle.gates_model.proofs.Exact.{check-exact, check-answers, call-exactly}
 use Rattle.gates_model.proofs.Marks.{marks-exact}
-use Rattle.gates_model.proofs.Unchanged.{call-answers, refused-area}
 use Rattle.gates_model.proofs.Independence.Wires.{cycle-agrees}
 use Rattle.gates_model.proofs.Independence.Runs.{cycles-agree, runs-independent}
 
@@ -30,13 +29,9 @@ pub refused-exactly :
     → (numbersOf (gatesCheck table) ≡ record { number = numberOf refusal; place = place; count = 0 }) ↔ FirstBroken (checkTable table) refusal place
 refused-exactly table = check-answers table .refused
 
--- The other calls, each by its own table of refusals.
-pub calls-exactly : (table area : List ℕ) (call : Call) → AnswersBy (callTable table area call) 0 (numbersOf (perform table area call .answer))
-calls-exactly = call-answers
-
--- Demand 1: no lent byte changes on a refusal.
-pub refused-leaves : (table area : List ℕ) (call : Call) → (numbersOf (perform table area call .answer) .number ≡ 0 → ⊥) → perform table area call .flipflops ≡ area
-refused-leaves = refused-area
+-- The other calls, each by its own table of refusals. Demand 1: no lent byte changes on a refusal.
+pub calls-exactly : (table area : List ℕ) (call : Call) → Exactly (callTable table area call) 0 area (inNumbers (perform table area call))
+calls-exactly = call-exactly
 
 -- The rule of the marks is exact for one gate: an output is marked trusted exactly when no choice of the untrusted inputs' values changes it.
 pub marks-exactly : (a b : Signal) → IsSound a → IsSound b → (nand a b .mark ≡ 0) ↔ Unaffected a b

@@ -7,24 +7,14 @@ use lib.Dec.{eqb}
 use lib.ListN.{length}
 use Rattle.model.specs.declared.Refusal.the-variants.{Area, GateWire}
 use Rattle.model.specs.declared.Answer.{Answer}
-use Rattle.model.specs.declared.Answer.the-variants.{Accepted, Refused}
 use Rattle.model.specs.Indices.{lowestFailing}
 use Rattle.model.specs.Image.{byteAt}
 use Rattle.model.specs.Verdict.{_before_, refusedAt, atZeroUnless}
+use Rattle.model.specs.Calls.{Left, leaves}
 use Rattle.gates_model.specs.Limits.{signalLength}
 use Rattle.gates_model.specs.Tables.{Table, tableOf, firstGate}
 use Rattle.gates_model.specs.Verdict.{isBit, byKind, tableAnswer}
 use Rattle.gates_model.specs.Cycle.{signalIn, cycled, started}
-
--- what a call leaves: its answer, and every byte of the flip-flops' area
-pub record LeftFlipFlops : Type 0 where
-  pub answer : Answer
-  pub flipflops : List ℕ
-
--- On an acceptance the area is as the call makes it. On a refusal no lent byte changes.
-abbrev pub leavesFlipFlops : Answer → List ℕ → List ℕ → LeftFlipFlops
-leavesFlipFlops (Accepted count) area made = record { answer = Accepted count; flipflops = made }
-leavesFlipFlops (Refused refusal place) area made = record { answer = Refused refusal place; flipflops = area }
 
 -- a value, or a value and a mark, in range
 abbrev pub inputLent : List ℕ → ℕ → Bool
@@ -63,8 +53,8 @@ module _ (table area : List ℕ) where
   unfoldable pub gatesResetAnswer : Answer
   gatesResetAnswer = tableAnswer table before areaAnswer (tableOf table) area
 
-  unfoldable pub gatesReset : LeftFlipFlops
-  gatesReset = leavesFlipFlops gatesResetAnswer area (started (tableOf table))
+  unfoldable pub gatesReset : Left (List ℕ)
+  gatesReset = leaves gatesResetAnswer area (started (tableOf table))
 
 module _ (table inputs area : List ℕ) where
   -- "a wrong length is 14, after 26 for the table and before 26 for these"
@@ -74,5 +64,5 @@ module _ (table inputs area : List ℕ) where
       before lengthsAnswer (tableOf table) inputs area
       before lentAnswer (tableOf table) inputs area
 
-  unfoldable pub gatesCycle : LeftFlipFlops
-  gatesCycle = leavesFlipFlops gatesCycleAnswer area (cycled (tableOf table) inputs area)
+  unfoldable pub gatesCycle : Left (List ℕ)
+  gatesCycle = leaves gatesCycleAnswer area (cycled (tableOf table) inputs area)

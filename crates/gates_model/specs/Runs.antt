@@ -14,8 +14,9 @@ use Rattle.model.specs.Refusals.{Pass}
 use Rattle.gates_model.specs.Tables.{Table, tableOf, markAt}
 use Rattle.gates_model.specs.Signals.{Signal}
 use Rattle.gates_model.specs.Cycle.{signalIn, cycled}
-use Rattle.gates_model.specs.Calls.{LeftFlipFlops, gatesReset, gatesCycle}
+use Rattle.gates_model.specs.Calls.{gatesReset, gatesCycle}
 use Rattle.gates_model.specs.Rules.{resetTable, cycleTable}
+use Rattle.model.specs.Calls.{Left}
 
 -- "equal in marks and trusted values"
 pub record SignalsAgree (a b : Signal) : Type 0 where
@@ -41,7 +42,7 @@ pub data Call : Type 0 where
   resets : Call
   cycles : List ℕ → Call
 
-unfoldable pub perform : List ℕ → List ℕ → Call → LeftFlipFlops
+unfoldable pub perform : List ℕ → List ℕ → Call → Left (List ℕ)
 perform table area resets = gatesReset table area
 perform table area (cycles inputs) = gatesCycle table inputs area
 
@@ -53,7 +54,7 @@ callTable table area (cycles inputs) = cycleTable table inputs area
 -- the area after all calls of a list
 unfoldable pub atEnd : List ℕ → List ℕ → List Call → List ℕ
 atEnd table area [] = area
-atEnd table area (call ∷ more) = atEnd table (perform table area call .flipflops) more
+atEnd table area (call ∷ more) = atEnd table (perform table area call .lent) more
 
 -- What remains of an accepted call: that it was a reset, or that it was a cycle and its inputs where the table marks them trusted.
 pub data Trace : Type 0 where
@@ -75,13 +76,13 @@ kept (Refused refusal place) x xs = xs
 unfoldable pub remains : List ℕ → List ℕ → List Call → List Trace
 remains table area [] = []
 remains table area (call ∷ more) =
-    kept (perform table area call .answer) (traceOf (tableOf table) call) (remains table (perform table area call .flipflops) more)
+    kept (perform table area call .answer) (traceOf (tableOf table) call) (remains table (perform table area call .lent) more)
 
 -- the areas after each accepted call
 unfoldable pub areasAfter : List ℕ → List ℕ → List Call → List (List ℕ)
 areasAfter table area [] = []
 areasAfter table area (call ∷ more) =
-    kept (perform table area call .answer) (perform table area call .flipflops) (areasAfter table (perform table area call .flipflops) more)
+    kept (perform table area call .answer) (perform table area call .lent) (areasAfter table (perform table area call .lent) more)
 
 -- areas that agree one by one
 pub data AgreeEach (t : Table) : List (List ℕ) → List (List ℕ) → Type 0 where

@@ -16,20 +16,20 @@ use Rattle.model.specs.declared.Answer.the-variants.{Accepted, Refused}
 use Rattle.model.specs.Image.{Design as Table, designOf}
 use Rattle.model.specs.Verdict.{verdict, refusedAt, atZeroUnless, _before_}
 use Rattle.model.specs.Machine.{cycles, afterCycles}
-use Rattle.model.specs.Calls.{Lent, leaves, lengthAnswer, cyclesAnswer, areasOf, lentOf, resetAnswer, runAnswer, run}
+use Rattle.model.specs.Calls.{Lent, leaves, lengthAnswer, cyclesAnswer, areasOf, lentOf, resetAnswer, runAnswer, run, leftAs, Left}
 use Rattle.model.specs.Parties.{RightLengths}
 use Rattle.model.proofs.Laws.Verdict.{found-nothing}
 use Rattle.running.specs.Stages.{soundOn}
 use Rattle.running.proofs.RunningRules.{sound-before}
 use Rattle.journal_model.specs.Journals.{countIn, journalWith, savedLength, savedIn, hasRoom, savedBefore}
-use Rattle.journal_model.specs.Calls.{LentJournal, LeftJournal, leavesJournal, roomAnswer, stepsAnswer, savedBack, runJournalledAnswer, runJournalled, savedAnswer, restored, stepBackAnswer, stepBack}
+use Rattle.journal_model.specs.Calls.{LentJournal, roomAnswer, stepsAnswer, savedBack, runJournalledAnswer, runJournalled, savedAnswer, restored, stepBackAnswer, stepBack}
 use Rattle.journal_model.specs.Rules.{RoomKeeps}
 use Rattle.journal_model.proofs.Laws.{sized-in, sized-at, length-savedIn, room-iff}
-use Rattle.journal.specs.Stages.{lendsJournal, leftJournalAs, journalledCycles, runJournalledOn, steppedBack, savedJudged, steppedBackBy, stepBackOn}
+use Rattle.journal.specs.Stages.{lendsJournal, journalledCycles, runJournalledOn, steppedBack, savedJudged, steppedBackBy, stepBackOn}
 
 -- ---- a journalled run
 -- areas that a refused run leaves are those lent, whatever it would make
-ran-as : (a behind : Answer) (lent : LentJournal) (made : Lent) (journal : List ℕ) → leavesJournal (a before behind) lent (record { areas = leaves a (lent .areas) made .lent; journal = journal }) ≡ leavesJournal (a before behind) lent (record { areas = made; journal = journal })
+ran-as : (a behind : Answer) (lent : LentJournal) (made : Lent) (journal : List ℕ) → leaves (a before behind) lent (record { areas = leaves a (lent .areas) made .lent; journal = journal }) ≡ leaves (a before behind) lent (record { areas = made; journal = journal })
 unfolding _before_
 ran-as (Refused r p) behind lent made journal = refl
 ran-as (Accepted n) behind lent made journal = refl
@@ -57,7 +57,7 @@ module _ (image : List ℕ) {c : ℕ} (accepted : verdict image ≡ Accepted c) 
       ap (λ (answer : Answer). answer before behind) (run-judges areas n) ∙ count-between (lengthAnswer d areas) (soundOn d areas) (cyclesAnswer n) behind n in
       sym
       (ran-as (runAnswer image areas n) behind lent (lentOf (afterCycles d n (areasOf d areas))) (journalWith (savedIn d (lent .journal) ++ savedBefore areas (cycles d n (areasOf d areas))) (lent .journal))
-      ∙ ap (λ (answer : Answer). leavesJournal answer lent (record { areas = lentOf (afterCycles d n (areasOf d areas)); journal = journalWith (savedIn d (lent .journal) ++ savedBefore areas (cycles d n (areasOf d areas))) (lent .journal) })) answers)
+      ∙ ap (λ (answer : Answer). leaves answer lent (record { areas = lentOf (afterCycles d n (areasOf d areas)); journal = journalWith (savedIn d (lent .journal) ++ savedBefore areas (cycles d n (areasOf d areas))) (lent .journal) })) answers)
 
 -- ---- a step back
 -- what is behind two answers counts only where they accept
@@ -129,22 +129,22 @@ module _ (image : List ℕ) {c : ℕ} (accepted : verdict image ≡ Accepted c) 
       let steps = stepsAnswer (lent .journal) k in
       let behind : (room before steps before savedJudged d lent k before Accepted k) ≡ (room before steps before savedAnswer image lent k before Accepted k) =
       behind-both room steps (λ i j h g. saved-judges lent k (room-accepted d (lent .journal) h) (steps-accepted (lent .journal) k g)) in
-      ap (λ (answer : Answer). leavesJournal (lengthAnswer d (lent .areas) before answer) lent (steppedBackBy d lent k)) behind
-      ∙ ap (λ (answer : Answer). leavesJournal (answer before room before steps before savedAnswer image lent k before Accepted k) lent (steppedBackBy d lent k)) (reset-judges (lent .areas))
-      ∙ ap (λ (made : LentJournal). leavesJournal (resetAnswer image (lent .areas) before room before steps before savedAnswer image lent k before Accepted k) lent made) (restores lent k)
+      ap (λ (answer : Answer). leaves (lengthAnswer d (lent .areas) before answer) lent (steppedBackBy d lent k)) behind
+      ∙ ap (λ (answer : Answer). leaves (answer before room before steps before savedAnswer image lent k before Accepted k) lent (steppedBackBy d lent k)) (reset-judges (lent .areas))
+      ∙ ap (λ (made : LentJournal). leaves (resetAnswer image (lent .areas) before room before steps before savedAnswer image lent k before Accepted k) lent made) (restores lent k)
 
 -- ---- the calls
 module _ (image : List ℕ) {a : Answer} (e : a ≡ verdict image) where
   module _ {r : Refusal} {p : ℕ} (h : a ≡ Refused r p) (registers targets journal : List ℕ) where
-    pub refused-run : (n : ℕ) → leftJournalAs (Refused r p) registers targets journal ≡ runJournalled image (lendsJournal registers targets journal) n
+    pub refused-run : (n : ℕ) → leftAs (Refused r p) (lendsJournal registers targets journal) ≡ runJournalled image (lendsJournal registers targets journal) n
     unfolding runJournalled runJournalledAnswer runAnswer _before_
     refused-run n = rw (← e, h)
 
-    pub refused-step : (k : ℕ) → leftJournalAs (Refused r p) registers targets journal ≡ stepBack image (lendsJournal registers targets journal) k
+    pub refused-step : (k : ℕ) → leftAs (Refused r p) (lendsJournal registers targets journal) ≡ stepBack image (lendsJournal registers targets journal) k
     unfolding stepBack stepBackAnswer resetAnswer _before_
     refused-step k = rw (← e, h)
 
-  module _ {c : ℕ} (h : a ≡ Accepted c) {left : LeftJournal} (lent : LentJournal) where
+  module _ {c : ℕ} (h : a ≡ Accepted c) {left : Left LentJournal} (lent : LentJournal) where
     pub accepted-run : (n : ℕ) → left ≡ runJournalledOn (designOf image) lent n → left ≡ runJournalled image lent n
     accepted-run n k = k ∙ run-as image (sym e ∙ h) lent n
 

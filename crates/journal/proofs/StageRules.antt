@@ -16,7 +16,7 @@ use Rattle.model.specs.Image.{Design as Table, AreBytes, designOf}
 use Rattle.model.specs.Rules.{Keeps}
 use Rattle.model.specs.Verdict.{refusedAt, _before_}
 use Rattle.model.specs.Machine.{cycles, afterCycles}
-use Rattle.model.specs.Calls.{lengthAnswer, cyclesAnswer, areasOf}
+use Rattle.model.specs.Calls.{lengthAnswer, cyclesAnswer, areasOf, leftAs, Left}
 use Rattle.model.proofs.Laws.Booleans.{not-true, not-false}
 use Rattle.design.specs.declared.Design.{Design}
 use Rattle.design.specs.Describes.{Describes}
@@ -26,12 +26,12 @@ use Rattle.running.specs.Stages.{soundOn}
 use Rattle.running.proofs.RunningRules.{bytes-left}
 use Rattle.calls.proofs.CallRules.{right-lengths}
 use Rattle.journal_model.specs.Journals.{countLength, countIn, journalWith, savedLength, savedIn, hasRoom, savedBefore}
-use Rattle.journal_model.specs.Calls.{LeftJournal, roomAnswer, stepsAnswer}
+use Rattle.journal_model.specs.Calls.{roomAnswer, stepsAnswer}
 use Rattle.journal_model.specs.Rules.{RoomKeeps}
 use Rattle.journal_model.proofs.Laws.{room-iff}
 use Rattle.journal_saving.proofs.SavingRules.{saved-size}
 use Rattle.journal.specs.Returning.{Returning}
-use Rattle.journal.specs.Stages.{lendsJournal, leftJournalAs, journalledCycles, runJournalledOn, runJournalledSound, stepBackOn}
+use Rattle.journal.specs.Stages.{lendsJournal, journalledCycles, runJournalledOn, runJournalledSound, stepBackOn}
 
 -- ---- room
 module _ {image : List ℕ} {x : Design} (known : Describes image x) (journal : List ℕ) (n : ℕ) {b : Bool} (e : b ≡ hasRoom (4 * x .registers + 3 * x .states) (countIn journal + n) (length journal)) where
@@ -51,23 +51,23 @@ room-accepts d journal n keeps = rw (room-iff d journal n .1 keeps)
 
 -- ---- a journalled run
 module _ (d : Table) (registers targets journal : List ℕ) (n : ℕ) where
-  pub run-refuses : lengthAnswer d (lends registers targets) ≡ Refused Area 0 → leftJournalAs (Refused Area 0) registers targets journal ≡ runJournalledOn d (lendsJournal registers targets journal) n
+  pub run-refuses : lengthAnswer d (lends registers targets) ≡ Refused Area 0 → leftAs (Refused Area 0) (lendsJournal registers targets journal) ≡ runJournalledOn d (lendsJournal registers targets journal) n
   unfolding runJournalledOn _before_
   run-refuses h = rw h
 
   module _ {a : Answer} where
     pub run-refuses-unsound : {r : Refusal} {p : ℕ} → a ≡ Refused r p → a ≡ soundOn d (lends registers targets) → lengthAnswer d (lends registers targets) ≡ Accepted 0
-        → leftJournalAs (Refused r p) registers targets journal ≡ runJournalledOn d (lendsJournal registers targets journal) n
+        → leftAs (Refused r p) (lendsJournal registers targets journal) ≡ runJournalledOn d (lendsJournal registers targets journal) n
     unfolding runJournalledOn _before_
     run-refuses-unsound h judged right = rw (right, ← judged, h)
 
-    pub run-passes : {left : LeftJournal} {c : ℕ} → left ≡ runJournalledSound d (lendsJournal registers targets journal) n → a ≡ Accepted c → a ≡ soundOn d (lends registers targets)
+    pub run-passes : {left : Left LentJournal} {c : ℕ} → left ≡ runJournalledSound d (lendsJournal registers targets journal) n → a ≡ Accepted c → a ≡ soundOn d (lends registers targets)
         → lengthAnswer d (lends registers targets) ≡ Accepted 0
         → left ≡ runJournalledOn d (lendsJournal registers targets journal) n
     unfolding runJournalledOn runJournalledSound _before_
     run-passes k h judged right = rw (right, ← judged, h) k
 
-  pub count-refuses : {b : Bool} → b ≡ leb n cyclesMax → not b ≡ true → leftJournalAs (Refused CycleCount 0) registers targets journal ≡ runJournalledSound d (lendsJournal registers targets journal) n
+  pub count-refuses : {b : Bool} → b ≡ leb n cyclesMax → not b ≡ true → leftAs (Refused CycleCount 0) (lendsJournal registers targets journal) ≡ runJournalledSound d (lendsJournal registers targets journal) n
   unfolding runJournalledSound cyclesAnswer refusedAt _before_
   count-refuses {b} e h = rw (← e, not-true b h)
 
@@ -76,14 +76,14 @@ count-small {n} {b} e h = leb-true n cyclesMax (sym e ∙ not-false b h)
 
 -- behind the count: the room, and the cycles
 module _ {image : List ℕ} {x : Design} {table scopes registers targets : List ℕ} (running : Running image x table scopes registers targets) (journal : List ℕ) {n : ℕ} (few : n ≤ cyclesMax) {r : Bool} (room : r ≡ hasRoom (4 * x .registers + 3 * x .states) (countIn journal + n) (length journal)) where
-  pub room-refuses : not r ≡ true → leftJournalAs (Refused JournalArea 0) registers targets journal ≡ runJournalledSound (designOf image) (lendsJournal registers targets journal) n
+  pub room-refuses : not r ≡ true → leftAs (Refused JournalArea 0) (lendsJournal registers targets journal) ≡ runJournalledSound (designOf image) (lendsJournal registers targets journal) n
   unfolding runJournalledSound cyclesAnswer refusedAt _before_
   room-refuses h = rw (le-leb n cyclesMax few, lacks-room (running .known .describes) journal n room h)
 
   pub run-makes : (registers′ targets′ : List ℕ) {journal′ : List ℕ} → not r ≡ false → AreBytes registers′ → Running image x table scopes registers′ targets′
       → areasIn (designOf image) registers′ targets′ ≡ afterCycles (designOf image) n (areasIn (designOf image) registers targets)
       → journal′ ≡ journalWith (savedIn (designOf image) journal ++ savedBefore (lends registers targets) (cycles (designOf image) n (areasIn (designOf image) registers targets))) journal
-      → leftJournalAs (Accepted n) registers′ targets′ journal′ ≡ runJournalledSound (designOf image) (lendsJournal registers targets journal) n
+      → leftAs (Accepted n) (lendsJournal registers′ targets′ journal′) ≡ runJournalledSound (designOf image) (lendsJournal registers targets journal) n
   unfolding runJournalledSound journalledCycles cyclesAnswer areasOf refusedAt _before_
   run-makes registers′ targets′ h bytes left areas saved =
       let lent = bytes-left registers′ targets′ bytes left areas in
@@ -91,7 +91,7 @@ module _ {image : List ℕ} {x : Design} {table scopes registers targets : List 
 
 -- ---- a step back
 module _ (d : Table) (registers targets journal : List ℕ) (k : ℕ) where
-  pub step-refuses : lengthAnswer d (lends registers targets) ≡ Refused Area 0 → leftJournalAs (Refused Area 0) registers targets journal ≡ stepBackOn d (lendsJournal registers targets journal) k
+  pub step-refuses : lengthAnswer d (lends registers targets) ≡ Refused Area 0 → leftAs (Refused Area 0) (lendsJournal registers targets journal) ≡ stepBackOn d (lendsJournal registers targets journal) k
   unfolding stepBackOn _before_
   step-refuses h = rw h
 
@@ -99,7 +99,7 @@ module _ {image : List ℕ} {x : Design} (registers targets journal : List ℕ) 
   right : lengthAnswer (designOf image) (lends registers targets) ≡ Accepted 0
   right = right-lengths registers targets known area states
 
-  pub step-lacks-room : not r ≡ true → leftJournalAs (Refused JournalArea 0) registers targets journal ≡ stepBackOn (designOf image) (lendsJournal registers targets journal) k
+  pub step-lacks-room : not r ≡ true → leftAs (Refused JournalArea 0) (lendsJournal registers targets journal) ≡ stepBackOn (designOf image) (lendsJournal registers targets journal) k
   unfolding stepBackOn _before_
   step-lacks-room h = rw (right, lacks-room known journal 0 room h)
 
@@ -110,11 +110,11 @@ module _ {image : List ℕ} {x : Design} (registers targets journal : List ℕ) 
     pub step-counts : countLength ≤ length journal
     step-counts = keeps .counts
 
-    pub step-too-far : {n : ℕ} → n ≡ countIn journal → n < k → leftJournalAs (Refused StepsBack 0) registers targets journal ≡ stepBackOn (designOf image) (lendsJournal registers targets journal) k
+    pub step-too-far : {n : ℕ} → n ≡ countIn journal → n < k → leftAs (Refused StepsBack 0) (lendsJournal registers targets journal) ≡ stepBackOn (designOf image) (lendsJournal registers targets journal) k
     unfolding stepBackOn stepsAnswer refusedAt _before_
     step-too-far counted l = rw (right, room-accepts (designOf image) journal 0 keeps, lt-leb k (countIn journal) (omega arith))
 
-    pub step-none : k ≡ 0 → leftJournalAs (Accepted 0) registers targets journal ≡ stepBackOn (designOf image) (lendsJournal registers targets journal) k
+    pub step-none : k ≡ 0 → leftAs (Accepted 0) (lendsJournal registers targets journal) ≡ stepBackOn (designOf image) (lendsJournal registers targets journal) k
     unfolding stepBackOn stepsAnswer refusedAt _before_
     step-none e = rw (e, right, room-accepts (designOf image) journal 0 keeps, le-leb 0 (countIn journal) (omega arith))
 

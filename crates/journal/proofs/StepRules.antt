@@ -13,7 +13,7 @@ use Rattle.model.specs.declared.Answer.{Answer}
 use Rattle.model.specs.declared.Answer.the-variants.{Accepted, Refused}
 use Rattle.model.specs.Image.{Design as Table, designOf}
 use Rattle.model.specs.Verdict.{refusedAt, _before_}
-use Rattle.model.specs.Calls.{lengthAnswer}
+use Rattle.model.specs.Calls.{lengthAnswer, leftAs, leaves}
 use Rattle.design.specs.declared.Design.{Design}
 use Rattle.design.specs.Describes.{Describes}
 use Rattle.design.specs.Resets.{lends}
@@ -22,14 +22,14 @@ use Rattle.design.proofs.Laws.{registers-count, states-count}
 use Rattle.running.specs.Stages.{soundOn}
 use Rattle.calls.proofs.CallRules.{right-lengths}
 use Rattle.journal_model.specs.Journals.{countLength, countIn, recounted, savedLength, savedOf}
-use Rattle.journal_model.specs.Calls.{LentJournal, leavesJournal, stepsAnswer, savedBack}
+use Rattle.journal_model.specs.Calls.{LentJournal, stepsAnswer, savedBack}
 use Rattle.journal_model.specs.Rules.{RoomKeeps}
 use Rattle.journal_model.proofs.Laws.{saved-back-bytes}
 use Rattle.journal_saving.specs.Bytes.{partOf}
 use Rattle.journal_saving.proofs.JournalRules.{count-put}
 use Rattle.journal_saving.proofs.SavingRules.{saved-size, one-inside}
 use Rattle.journal.specs.Returning.{Returning}
-use Rattle.journal.specs.Stages.{lendsJournal, leftJournalAs, steppedBack, stepBackOn}
+use Rattle.journal.specs.Stages.{lendsJournal, steppedBack, stepBackOn}
 use Rattle.journal.proofs.StageRules.{room-accepts}
 
 positive : (k : ℕ) → (k ≡ 0 → ⊥) → 0 < k
@@ -88,7 +88,7 @@ module _ {image : List ℕ} {x : Design} (known : Describes image x) (journal : 
 -- ---- the step
 -- behind 21 and 22 only the saved state is left to judge
 step-judges : (d : Table) (lent : LentJournal) (k : ℕ) → (k ≡ 0 → ⊥) → lengthAnswer d (lent .areas) ≡ Accepted 0 → RoomKeeps d (lent .journal) 0 → k ≤ countIn (lent .journal)
-    → stepBackOn d lent k ≡ leavesJournal (soundOn d (savedBack d (lent .journal) k) before Accepted k) lent (steppedBack d lent k)
+    → stepBackOn d lent k ≡ leaves (soundOn d (savedBack d (lent .journal) k) before Accepted k) lent (steppedBack d lent k)
 unfolding stepBackOn stepsAnswer refusedAt _before_
 step-judges d lent zero some right room l = absurd (some refl)
 step-judges d lent (suc k) some right room l = rw (right, room-accepts d (lent .journal) 0 room, le-leb (suc k) (countIn (lent .journal)) l)
@@ -101,7 +101,7 @@ module _ {image : List ℕ} {x : Design} {registers targets journal : List ℕ} 
   back-counts = back .room .counts
 
   judges : stepBackOn (designOf image) (lendsJournal registers targets journal) k
-      ≡ leavesJournal (soundOn (designOf image) (savedBack (designOf image) journal k) before Accepted k) (lendsJournal registers targets journal) (steppedBack (designOf image) (lendsJournal registers targets journal) k)
+      ≡ leaves (soundOn (designOf image) (savedBack (designOf image) journal k) before Accepted k) (lendsJournal registers targets journal) (steppedBack (designOf image) (lendsJournal registers targets journal) k)
   judges = step-judges (designOf image) (lendsJournal registers targets journal) k (back .some) (right-lengths registers targets (back .describes) (back .area) (back .states)) (back .room) (back .counted)
 
   module _ {n at : ℕ} (counted : n ≡ countIn journal) (stands : at ≡ 4 + (4 * x .registers + 3 * x .states) * (n - k)) where
@@ -132,7 +132,7 @@ module _ {image : List ℕ} {x : Design} {registers targets journal : List ℕ} 
         omega arith
 
     pub step-unsound : {a : Answer} {r : Refusal} {p : ℕ} → a ≡ Refused r p → a ≡ soundOn (designOf image) (savedOf (designOf image) (drop at journal))
-        → leftJournalAs (Refused r p) registers targets journal ≡ stepBackOn (designOf image) (lendsJournal registers targets journal) k
+        → leftAs (Refused r p) (lendsJournal registers targets journal) ≡ stepBackOn (designOf image) (lendsJournal registers targets journal) k
     unfolding _before_
     step-unsound h judged = rw (judges, saved-is, ← judged, h)
 
@@ -140,7 +140,7 @@ module _ {image : List ℕ} {x : Design} {registers targets journal : List ℕ} 
         → registers′ ≡ partOf at (length registers) journal
         → targets′ ≡ partOf (at + length registers) (length targets) journal
         → journal′ ≡ putWord journal 0 (n - k)
-        → leftJournalAs (Accepted k) registers′ targets′ journal′ ≡ stepBackOn (designOf image) (lendsJournal registers targets journal) k
+        → leftAs (Accepted k) (lendsJournal registers′ targets′ journal′) ≡ stepBackOn (designOf image) (lendsJournal registers targets journal) k
     unfolding steppedBack _before_
     step-made registers′ targets′ h judged taken taken′ lowered =
         let left = restored (back .describes) journal at registers targets taken taken′ (back .area) (back .states) in

@@ -1,4 +1,4 @@
--- What a call with a journal leaves, as its answer and the bytes of the areas; and the calls of `Rattle.journal_model.specs.Calls` from the point where the image is
+-- The calls of `Rattle.journal_model.specs.Calls` from the point where the image is
 -- accepted on.
 use Prim.Native.Nat.{ℕ, zero, suc, _-_}
 use mathlib.Core.List.{List, _++_}
@@ -7,17 +7,14 @@ use Rattle.model.specs.declared.Answer.the-variants.{Accepted}
 use Rattle.model.specs.Image.{Design as Table}
 use Rattle.model.specs.Verdict.{_before_}
 use Rattle.model.specs.Machine.{cycles, afterCycles}
-use Rattle.model.specs.Calls.{lengthAnswer, cyclesAnswer, areasOf, lentOf}
+use Rattle.model.specs.Calls.{lengthAnswer, cyclesAnswer, areasOf, lentOf, Left, leaves}
 use Rattle.journal_model.specs.Journals.{countIn, journalWith, recounted, savedIn, savedBefore}
-use Rattle.journal_model.specs.Calls.{LentJournal, LeftJournal, leavesJournal, roomAnswer, stepsAnswer, savedBack}
+use Rattle.journal_model.specs.Calls.{LentJournal, roomAnswer, stepsAnswer, savedBack}
 use Rattle.design.specs.Resets.{lends}
 use Rattle.running.specs.Stages.{soundOn}
 
 abbrev pub lendsJournal : List ℕ → List ℕ → List ℕ → LentJournal
 lendsJournal registers targets journal = record { areas = lends registers targets; journal = journal }
-
-abbrev pub leftJournalAs : Answer → List ℕ → List ℕ → List ℕ → LeftJournal
-leftJournalAs answer registers targets journal = record { answer = answer; lent = lendsJournal registers targets journal }
 
 module _ (d : Table) (lent : LentJournal) where
   -- the areas and the journal after n journalled cycles
@@ -28,16 +25,16 @@ module _ (d : Table) (lent : LentJournal) where
         journal = journalWith (savedIn d (lent .journal) ++ savedBefore (lent .areas) (cycles d n (areasOf d (lent .areas)))) (lent .journal);
       }
 
-  unfoldable pub runJournalledOn : ℕ → LeftJournal
+  unfoldable pub runJournalledOn : ℕ → Left LentJournal
   runJournalledOn n =
-      leavesJournal
+      leaves
       (lengthAnswer d (lent .areas) before soundOn d (lent .areas) before cyclesAnswer n before roomAnswer d (lent .journal) n before Accepted n)
       lent
       (journalledCycles n)
 
   -- and once both areas are sound
-  unfoldable pub runJournalledSound : ℕ → LeftJournal
-  runJournalledSound n = leavesJournal (cyclesAnswer n before roomAnswer d (lent .journal) n before Accepted n) lent (journalledCycles n)
+  unfoldable pub runJournalledSound : ℕ → Left LentJournal
+  runJournalledSound n = leaves (cyclesAnswer n before roomAnswer d (lent .journal) n before Accepted n) lent (journalledCycles n)
 
   -- the areas and the journal once a step back by more than none restored them
   unfoldable pub steppedBack : ℕ → LentJournal
@@ -51,9 +48,9 @@ module _ (d : Table) (lent : LentJournal) where
   steppedBackBy zero = lent
   steppedBackBy (suc k) = steppedBack (suc k)
 
-  unfoldable pub stepBackOn : ℕ → LeftJournal
+  unfoldable pub stepBackOn : ℕ → Left LentJournal
   stepBackOn k =
-      leavesJournal
+      leaves
       (lengthAnswer d (lent .areas) before roomAnswer d (lent .journal) 0 before stepsAnswer (lent .journal) k before savedJudged k before Accepted k)
       lent
       (steppedBackBy k)

@@ -6,7 +6,8 @@ mod steps;
 use model::Answer;
 ghost use mathlib.Core.Path.{_≡_};
 ghost use Rattle.journal_model.specs.Calls.{runJournalled, stepBack};
-ghost use Rattle.journal.specs.Stages.{lendsJournal, leftJournalAs};
+ghost use Rattle.journal.specs.Stages.{lendsJournal};
+ghost use Rattle.model.specs.Calls.{leftAs};
 
 // Runs so many cycles, and saves both areas before each.
 pub fn run_journalled(
@@ -16,7 +17,7 @@ pub fn run_journalled(
     journal: &mut [u8],
     count: u32,
 ) -> Answer
-    ensures { λ a. ⌜ leftJournalAs a (now (registers .exit)) (now (targets .exit)) (now (journal .exit)) ≡ runJournalled (now (image .entry)) (lendsJournal (now (registers .entry)) (now (targets .entry)) (now (journal .entry))) count ⌝ }
+    ensures { λ a. ⌜ leftAs a (lendsJournal (now (registers .exit)) (now (targets .exit)) (now (journal .exit))) ≡ runJournalled (now (image .entry)) (lendsJournal (now (registers .entry)) (now (targets .entry)) (now (journal .entry))) count ⌝ }
 {
     let verdict = checker::verdict(image);
     match verdict {
@@ -33,7 +34,7 @@ pub fn step_back(
     journal: &mut [u8],
     k: u32,
 ) -> Answer
-    ensures { λ a. ⌜ leftJournalAs a (now (registers .exit)) (now (targets .exit)) (now (journal .exit)) ≡ stepBack (now (image .entry)) (lendsJournal (now (registers .entry)) (now (targets .entry)) (now (journal .entry))) k ⌝ }
+    ensures { λ a. ⌜ leftAs a (lendsJournal (now (registers .exit)) (now (targets .exit)) (now (journal .exit))) ≡ stepBack (now (image .entry)) (lendsJournal (now (registers .entry)) (now (targets .entry)) (now (journal .entry))) k ⌝ }
 {
     let verdict = checker::verdict(image);
     match verdict {

@@ -21,7 +21,8 @@ ghost use Rattle.design.specs.Describes.{Describes};
 ghost use Rattle.design.specs.Resets.{Defaults};
 ghost use Rattle.design.specs.Scopes.{Scopes};
 ghost use Rattle.machine.specs.Cycles.{Running};
-ghost use Rattle.journal.specs.Stages.{lendsJournal, leftJournalAs, runJournalledOn, runJournalledSound};
+ghost use Rattle.journal.specs.Stages.{lendsJournal, runJournalledOn, runJournalledSound};
+ghost use Rattle.model.specs.Calls.{leftAs};
 
 // A journalled run of a count that is kept, on sound areas.
 fn run_counted(
@@ -35,7 +36,7 @@ fn run_counted(
     count: u32,
 ) -> Answer
     requires { ⌜ (count ≤ cyclesMax) × Running (now image) design (now defaults) (now «in_scope») (now registers) (now targets) ⌝ }
-    ensures { λ a. ⌜ leftJournalAs a (now (registers .exit)) (now (targets .exit)) (now (journal .exit)) ≡ runJournalledSound (designOf (now (image .entry))) (lendsJournal (now (registers .entry)) (now (targets .entry)) (now (journal .entry))) count ⌝ }
+    ensures { λ a. ⌜ leftAs a (lendsJournal (now (registers .exit)) (now (targets .exit)) (now (journal .exit))) ≡ runJournalledSound (designOf (now (image .entry))) (lendsJournal (now (registers .entry)) (now (targets .entry)) (now (journal .entry))) count ⌝ }
 {
     if !has_room(design, journal, count) {
         return Answer::Refused(Refusal::JournalArea, 0);
@@ -65,7 +66,7 @@ fn run_sound(
     count: u32,
 ) -> Answer
     requires { ⌜ Running (now image) design (now defaults) (now «in_scope») (now registers) (now targets) ⌝ }
-    ensures { λ a. ⌜ leftJournalAs a (now (registers .exit)) (now (targets .exit)) (now (journal .exit)) ≡ runJournalledSound (designOf (now (image .entry))) (lendsJournal (now (registers .entry)) (now (targets .entry)) (now (journal .entry))) count ⌝ }
+    ensures { λ a. ⌜ leftAs a (lendsJournal (now (registers .exit)) (now (targets .exit)) (now (journal .exit))) ≡ runJournalledSound (designOf (now (image .entry))) (lendsJournal (now (registers .entry)) (now (targets .entry)) (now (journal .entry))) count ⌝ }
 {
     if !count_kept(count) {
         return Answer::Refused(Refusal::CycleCount, 0);
@@ -94,7 +95,7 @@ fn run_on(
     count: u32,
 ) -> Answer
     requires { ⌜ Keeps (now image) × Describes (now image) design × Defaults (designOf (now image)) (now defaults) × Scopes (designOf (now image)) (now «in_scope») × (length (now registers) ≡ wordLength * design .registers) × (length (now targets) ≡ targetLength * design .states) ⌝ }
-    ensures { λ a. ⌜ leftJournalAs a (now (registers .exit)) (now (targets .exit)) (now (journal .exit)) ≡ runJournalledOn (designOf (now (image .entry))) (lendsJournal (now (registers .entry)) (now (targets .entry)) (now (journal .entry))) count ⌝ }
+    ensures { λ a. ⌜ leftAs a (lendsJournal (now (registers .exit)) (now (targets .exit)) (now (journal .exit))) ≡ runJournalledOn (designOf (now (image .entry))) (lendsJournal (now (registers .entry)) (now (targets .entry)) (now (journal .entry))) count ⌝ }
 {
     let judged = judge(image, design, defaults, registers, targets);
     match judged {
@@ -122,7 +123,7 @@ fn with_tables(
     count: u32,
 ) -> Answer
     requires { ⌜ Keeps (now image) × Describes (now image) design × (length (now registers) ≡ wordLength * design .registers) × (length (now targets) ≡ targetLength * design .states) ⌝ }
-    ensures { λ a. ⌜ leftJournalAs a (now (registers .exit)) (now (targets .exit)) (now (journal .exit)) ≡ runJournalledOn (designOf (now (image .entry))) (lendsJournal (now (registers .entry)) (now (targets .entry)) (now (journal .entry))) count ⌝ }
+    ensures { λ a. ⌜ leftAs a (lendsJournal (now (registers .exit)) (now (targets .exit)) (now (journal .exit))) ≡ runJournalledOn (designOf (now (image .entry))) (lendsJournal (now (registers .entry)) (now (targets .entry)) (now (journal .entry))) count ⌝ }
 {
     let mut defaults = [0u8; Design::STATES];
     default_targets(image, design, &mut defaults);
@@ -148,7 +149,7 @@ pub fn run_journalled(
     count: u32,
 ) -> Answer
     requires { ⌜ Keeps (now image) ⌝ }
-    ensures { λ a. ⌜ leftJournalAs a (now (registers .exit)) (now (targets .exit)) (now (journal .exit)) ≡ runJournalledOn (designOf (now (image .entry))) (lendsJournal (now (registers .entry)) (now (targets .entry)) (now (journal .entry))) count ⌝ }
+    ensures { λ a. ⌜ leftAs a (lendsJournal (now (registers .exit)) (now (targets .exit)) (now (journal .exit))) ≡ runJournalledOn (designOf (now (image .entry))) (lendsJournal (now (registers .entry)) (now (targets .entry)) (now (journal .entry))) count ⌝ }
 {
     let design = Design::read(image);
     if !areas_kept(design, registers.len(), targets.len()) {

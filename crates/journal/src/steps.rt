@@ -22,7 +22,8 @@ ghost use Rattle.running.specs.Stages.{soundOn};
 ghost use Rattle.journal_model.specs.Journals.{countLength, savedLength, savedOf};
 ghost use Rattle.journal_saving.specs.Bytes.{partOf};
 ghost use Rattle.journal.specs.Returning.{Returning};
-ghost use Rattle.journal.specs.Stages.{lendsJournal, leftJournalAs, stepBackOn};
+ghost use Rattle.journal.specs.Stages.{lendsJournal, stepBackOn};
+ghost use Rattle.model.specs.Calls.{leftAs};
 
 // The saved state at a place of the journal, judged where it lies.
 fn judge_saved(image: &[u8], design: Design, journal: &[u8], at: usize) -> Answer
@@ -63,7 +64,7 @@ fn step_counted(
     k: u32,
 ) -> Answer
     requires { ⌜ Returning (now image) design (now registers) (now targets) (now journal) k ⌝ }
-    ensures { λ a. ⌜ leftJournalAs a (now (registers .exit)) (now (targets .exit)) (now (journal .exit)) ≡ stepBackOn (designOf (now (image .entry))) (lendsJournal (now (registers .entry)) (now (targets .entry)) (now (journal .entry))) k ⌝ }
+    ensures { λ a. ⌜ leftAs a (lendsJournal (now (registers .exit)) (now (targets .exit)) (now (journal .exit))) ≡ stepBackOn (designOf (now (image .entry))) (lendsJournal (now (registers .entry)) (now (targets .entry)) (now (journal .entry))) k ⌝ }
 {
     let count = saved_count(journal) - k;
     let at = saved_place(design, count);
@@ -87,7 +88,7 @@ fn step_on(
     k: u32,
 ) -> Answer
     requires { ⌜ Keeps (now image) × Describes (now image) design × (length (now registers) ≡ wordLength * design .registers) × (length (now targets) ≡ targetLength * design .states) ⌝ }
-    ensures { λ a. ⌜ leftJournalAs a (now (registers .exit)) (now (targets .exit)) (now (journal .exit)) ≡ stepBackOn (designOf (now (image .entry))) (lendsJournal (now (registers .entry)) (now (targets .entry)) (now (journal .entry))) k ⌝ }
+    ensures { λ a. ⌜ leftAs a (lendsJournal (now (registers .exit)) (now (targets .exit)) (now (journal .exit))) ≡ stepBackOn (designOf (now (image .entry))) (lendsJournal (now (registers .entry)) (now (targets .entry)) (now (journal .entry))) k ⌝ }
 {
     if !has_room(design, journal, 0) {
         return Answer::Refused(Refusal::JournalArea, 0);
@@ -109,7 +110,7 @@ pub fn step_back(
     k: u32,
 ) -> Answer
     requires { ⌜ Keeps (now image) ⌝ }
-    ensures { λ a. ⌜ leftJournalAs a (now (registers .exit)) (now (targets .exit)) (now (journal .exit)) ≡ stepBackOn (designOf (now (image .entry))) (lendsJournal (now (registers .entry)) (now (targets .entry)) (now (journal .entry))) k ⌝ }
+    ensures { λ a. ⌜ leftAs a (lendsJournal (now (registers .exit)) (now (targets .exit)) (now (journal .exit))) ≡ stepBackOn (designOf (now (image .entry))) (lendsJournal (now (registers .entry)) (now (targets .entry)) (now (journal .entry))) k ⌝ }
 {
     let design = Design::read(image);
     if !areas_kept(design, registers.len(), targets.len()) {

@@ -23,14 +23,15 @@ use Rattle.model.proofs.Laws.Found.{zero-unless-iff}
 use Rattle.model.proofs.Laws.Numbers.{no-number-zero}
 use Rattle.model.proofs.Laws.Verdict.{refused-is-not-accepted, first-accepts, later-accepts, found-nothing}
 use Rattle.model.proofs.Laws.Broken.{Decides, all-kept-append}
-use Rattle.model.proofs.Refused.{image-decides, reset-decides, run-decides, call-answers}
+use Rattle.model.proofs.Refused.{image-decides, reset-decides, run-decides, call-exactly}
 use Rattle.model.proofs.Independence.Calls.{reset-leaves}
 use Rattle.model.proofs.Grouping.{Ready, Refuses, ready-or-refuses, ready-run, ready-good, cycles-good, good-ready}
 use Rattle.journal_model.specs.Journals.{countLength, countIn, journalWith, recounted, savedLength, savedIn, savedBefore}
 use Rattle.journal_model.specs.Calls.{LentJournal, roomAnswer, stepsAnswer, savedBack, runJournalledAnswer, runJournalled, savedAnswer, stepBackAnswer, restored, stepBack}
 use Rattle.journal_model.specs.Rules.{RoomKeeps}
 use Rattle.journal_model.proofs.Laws.{AllSized, sized-append, sized-in, length-savedIn, length-run-saved, count-with, saved-in-with, length-with, before-sized, room-iff}
-use Rattle.journal_model.proofs.Exact.{left-journal-answer, run-journalled-decides, step-back-decides}
+use Rattle.journal_model.proofs.Exact.{run-journalled-decides, step-back-decides}
+use Rattle.model.proofs.Laws.Left.{left-answer}
 
 -- an answer of number 0 is the acceptance with its count
 accepted-answer : {a : Answer} {n : ℕ} {passes : List Pass} → Decides a n passes → numbersOf a .number ≡ 0 → a ≡ Accepted n
@@ -48,7 +49,7 @@ counted-answer decides e = accepted-answer decides (ap (λ (a : Answer). numbers
 module _ (image : List ℕ) (lent : Lent) (n : ℕ) where
   ready-accepts : Ready image lent → n ≤ cyclesMax → runAnswer image lent n ≡ Accepted n
   unfolding perform
-  ready-accepts ready l = run-decides image lent n .accepts .1 (call-answers image lent (runs n) .accepted .0 (rw (ready-run image lent ready n l)))
+  ready-accepts ready l = run-decides image lent n .accepts .1 (call-exactly image lent (runs n) .answers .accepted .0 (rw (ready-run image lent ready n l)))
 
   accepts-ready : runAnswer image lent n ≡ Accepted n → Ready image lent
   unfolding run
@@ -58,7 +59,7 @@ module _ (image : List ℕ) (lent : Lent) (n : ℕ) where
       go (inl ready) = ready
       go (inr refuses) =
           let told : run image lent n .answer ≡ Accepted n = rw e in
-          absurd (refused-is-not-accepted (refuses .refusal) (refuses .place) n (sym (ap (λ (left : Left). left .answer) (refuses .refused n)) ∙ told))
+          absurd (refused-is-not-accepted (refuses .refusal) (refuses .place) n (sym (ap (λ (left : Left Lent). left .answer) (refuses .refused n)) ∙ told))
 
   accepts-few : runAnswer image lent n ≡ Accepted n → n ≤ cyclesMax
   unfolding runAnswer cyclesAnswer
@@ -85,7 +86,7 @@ module _ (image : List ℕ) (lent : LentJournal) (n : ℕ) where
   pub accepted-runs : numbersOf (runJournalled image lent n .answer) .number ≡ 0 → RunsJournalled image lent n
   unfolding runJournalled runJournalledAnswer roomAnswer
   accepted-runs e =
-      let whole = accepted-answer (run-journalled-decides image lent n) (rw (left-journal-answer (runJournalledAnswer image lent n)) at e) in
+      let whole = accepted-answer (run-journalled-decides image lent n) (rw (left-answer (runJournalledAnswer image lent n)) at e) in
       let ran = counted-answer (run-decides image (lent .areas) n) (first-accepts (runAnswer image (lent .areas) n) _ whole .1) in
       record {
         ready = accepts-ready image (lent .areas) n ran;
@@ -183,7 +184,7 @@ module _ (image : List ℕ) (lent : LentJournal) where
   unfolding stepBack stepBackAnswer roomAnswer stepsAnswer
   accepted-goes-back k e =
       let d = designOf image in
-      let whole = accepted-answer (step-back-decides image lent k) (rw (left-journal-answer (stepBackAnswer image lent k)) at e) in
+      let whole = accepted-answer (step-back-decides image lent k) (rw (left-answer (stepBackAnswer image lent k)) at e) in
       let first = counted-answer (reset-decides image (lent .areas)) (first-accepts (resetAnswer image (lent .areas)) _ whole .1) in
       let kept = all-kept-append (imageTable image) ((Area asks at 0 (RightLengths d (lent .areas)) ∷ []) ∷ []) .0 (reset-decides image (lent .areas) .accepts .0 first) in
       let journal = later-accepts _ _ whole in
@@ -199,7 +200,7 @@ module _ (image : List ℕ) (lent : LentJournal) where
   reset-accepts : verdict image ≡ Accepted 0 → RightLengths (designOf image) (lent .areas) → resetAnswer image (lent .areas) ≡ Accepted 0
   unfolding perform
   reset-accepts accepted lengths =
-      reset-decides image (lent .areas) .accepts .1 (call-answers image (lent .areas) resets .accepted .0 (rw (reset-leaves image accepted (lent .areas) lengths)))
+      reset-decides image (lent .areas) .accepts .1 (call-exactly image (lent .areas) resets .answers .accepted .0 (rw (reset-leaves image accepted (lent .areas) lengths)))
 
   goes-back-accepts : (k : ℕ) → GoesBack image lent k → stepBackAnswer image lent k ≡ Accepted k
   unfolding stepBackAnswer roomAnswer stepsAnswer refusedAt _before_
@@ -214,7 +215,7 @@ module _ (image : List ℕ) (lent : LentJournal) where
 
   pub back-accepts : (k : ℕ) → GoesBack image lent k → stepBack image lent k .answer ≡ Accepted k
   unfolding stepBack
-  back-accepts k g = left-journal-answer (stepBackAnswer image lent k) lent (restored image lent k) ∙ goes-back-accepts k g
+  back-accepts k g = left-answer (stepBackAnswer image lent k) lent (restored image lent k) ∙ goes-back-accepts k g
 
   pub back-leaves : (k : ℕ) → 0 < k → GoesBack image lent k → stepBack image lent k .lent ≡ afterBack (designOf image) lent k
   unfolding stepBack restored

@@ -2,6 +2,4 @@
 pub mod Rooms
 pub mod Steps
 pub mod Unsound
-pub mod Lists
-pub mod Elsewhere
 pub mod FarEnds

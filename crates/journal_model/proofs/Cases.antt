@@ -4,19 +4,14 @@ use mathlib.Core.Path.{_≡_, refl}
 use mathlib.Core.List.{List, [], _∷_, _++_, map}
 use lib.ListN.{replicate}
 use Rattle.model.specs.Calls.{Lent, run}
-use Rattle.model.specs.Parties.{resets, writes, runs}
 use Rattle.model.proofs.Opened.{anyLent}
 use Rattle.model.proofs.Designs.{lease, oneGroup, smallest}
 use Rattle.journal_model.specs.Calls.{LentJournal, runJournalled, stepBack}
-use Rattle.journal_model.specs.Lists.{JournalCall, calls, journals, goesBack, journalsAtEnd}
 use Rattle.journal_model.proofs.Opened.{journalling, lends, told, areasLeft, acceptedWith, journalOf, spare, leaseAreas, leaseSaved, after0, after1, after2, after3, after4, saved0, saved1, saved2, saved3}
 
--- the lease design after a reset, with an empty journal that has room for four cycles and three bytes more; and what a list of calls leaves of both
+-- an empty journal of the lease design that has room for four cycles and three bytes more
 abbrev empty : List ℕ
 empty = journalOf 0 (spare 95 ∷ [])
-
-abbrev leaves : List JournalCall → LentJournal
-leaves list = journalsAtEnd lease (lends after0 empty) list
 
 -- ---- a journalled run
 -- "saves both areas, registers first, before every cycle into a third lent area, whose first 4 bytes count the saved cycles, oldest first behind them; its other
@@ -37,10 +32,6 @@ shows-areas-of-a-run = unfold journalling in refl
 -- a run of 0 saves nothing
 shows-journalled-none : told (runJournalled lease (lends after1 empty) 0) ≡ acceptedWith 0 after1 empty
 shows-journalled-none = unfold journalling in refl
-
--- behind what it counts already: a second run goes on where the first ended
-shows-second-run : leaves (journals 1 ∷ journals 2 ∷ []) ≡ lends after3 (journalOf 3 (saved0 ∷ saved1 ∷ saved2 ∷ spare 26 ∷ []))
-shows-second-run = unfold journalling in refl
 
 -- "its bytes are taken as lent": what is counted is kept byte by byte, sound or not
 shows-counted-kept
@@ -65,48 +56,6 @@ shows-back-by-all = unfold journalling in refl
 -- "With k of 0 nothing changes"
 shows-back-by-none : told (stepBack lease (lends after3 threeSaved) 0) ≡ acceptedWith 0 after3 threeSaved
 shows-back-by-none = unfold journalling in refl
-
--- back twice, each time from what is counted then
-shows-back-twice
-    : map leaves ((journals 3 ∷ goesBack 1 ∷ goesBack 1 ∷ []) ∷ (journals 3 ∷ goesBack 2 ∷ []) ∷ [])
-    ≡ lends after1 (journalOf 1 (saved0 ∷ saved1 ∷ saved2 ∷ spare 26 ∷ []))
-    ∷ lends after1 (journalOf 1 (saved0 ∷ saved1 ∷ saved2 ∷ spare 26 ∷ []))
-    ∷ []
-shows-back-twice = unfold journalling in refl
-
--- and forth again: a run saves over the states that going back has freed
-shows-forth-again
-    : leaves (journals 3 ∷ goesBack 2 ∷ calls (writes 1 7) ∷ journals 1 ∷ [])
-    ≡ lends (leaseAreas 2 7 2 4) (journalOf 2 (saved0 ∷ leaseSaved 3 7 2 3 ∷ saved2 ∷ spare 26 ∷ []))
-shows-forth-again = unfold journalling in refl
-
--- going back within a run that began with a count: from the count now, and not from that at the start of the last run
-shows-from-count-now
-    : map (λ (k : ℕ). leaves (journals 1 ∷ journals 2 ∷ goesBack k ∷ []) .areas) (1 ∷ 2 ∷ 3 ∷ []) ≡ after2 ∷ after1 ∷ after0 ∷ []
-shows-from-count-now = unfold journalling in refl
-
--- "cycles run without it are not counted": the first and the fourth are
-shows-not-counted
-    : map (λ (list : List JournalCall). leaves (journals 1 ∷ calls (runs 2) ∷ journals 1 ∷ list)) ([] ∷ (goesBack 1 ∷ []) ∷ (goesBack 2 ∷ []) ∷ [])
-    ≡ lends after4 (journalOf 2 (saved0 ∷ saved3 ∷ spare 49 ∷ []))
-    ∷ lends after3 (journalOf 1 (saved0 ∷ saved3 ∷ spare 49 ∷ []))
-    ∷ lends after0 (journalOf 0 (saved0 ∷ saved3 ∷ spare 49 ∷ []))
-    ∷ []
-shows-not-counted = unfold journalling in refl
-
--- a reset and a port write leave the journal as it is, and one goes back over both
-shows-back-over-reset
-    : map (λ (list : List JournalCall). leaves (journals 2 ∷ calls resets ∷ calls (writes 1 7) ∷ list)) ([] ∷ (goesBack 1 ∷ []) ∷ [])
-    ≡ lends (leaseAreas 3 7 1 3) (journalOf 2 (saved0 ∷ saved1 ∷ spare 49 ∷ []))
-    ∷ lends after1 (journalOf 1 (saved0 ∷ saved1 ∷ spare 49 ∷ []))
-    ∷ []
-shows-back-over-reset = unfold journalling in refl
-
--- "both areas": a port has again the value that it had before the cycle, and each state its target
-shows-port-restored
-    : map (λ (list : List JournalCall). leaves (calls (runs 1) ∷ calls (writes 1 7) ∷ journals 1 ∷ calls (writes 1 8) ∷ journals 1 ∷ list) .areas) ([] ∷ (goesBack 1 ∷ []) ∷ (goesBack 2 ∷ []) ∷ [])
-    ≡ leaseAreas 1 8 2 3 ∷ leaseAreas 2 8 2 4 ∷ leaseAreas 3 7 2 3 ∷ []
-shows-port-restored = unfold journalling in refl
 
 -- "its bytes are taken as lent": a journal that no run has written
 shows-by-hand

@@ -1,26 +1,16 @@
 -- The two calls refuse exactly: a journalled run judges as a run does and then its journal, and a step back as a reset does, then the journal, the steps and the saved
 -- state; each stage decides its pass of the table.
 use Prim.Native.Nat.{ℕ, zero, suc}
-use mathlib.Core.Path.{_≡_, refl}
 use mathlib.Core.List.{List, append-nil}
-use Rattle.model.specs.declared.Answer.{Answer}
-use Rattle.model.specs.declared.Answer.the-variants.{Accepted, Refused}
 use Rattle.model.specs.Image.{designOf}
-use Rattle.model.specs.Answers.{numbersOf}
-use Rattle.model.specs.Refusals.{AnswersBy}
+use Rattle.model.specs.Refusals.{inNumbers, Exactly}
 use Rattle.model.proofs.Laws.Equivalences.{at-most-iff}
 use Rattle.model.proofs.Laws.Broken.{Decides, decides-before, decides-none}
 use Rattle.model.proofs.Laws.Finds.{finds-zero}
-use Rattle.model.proofs.Refused.{stage, reset-decides, run-decides, answers-by, call-answers}
-use Rattle.journal_model.specs.Calls.{LentJournal, leavesJournal, roomAnswer, stepsAnswer, savedBack, runJournalledAnswer, runJournalled, savedAnswer, stepBackAnswer, stepBack}
-use Rattle.journal_model.specs.Lists.{JournalCall, calls, journals, goesBack, performJournalled}
-use Rattle.journal_model.specs.Rules.{runJournalledTable, savedTable, stepBackTable, journalTable, journalCount}
+use Rattle.model.proofs.Refused.{stage, reset-decides, run-decides, exactly}
+use Rattle.journal_model.specs.Calls.{LentJournal, roomAnswer, stepsAnswer, savedBack, runJournalledAnswer, runJournalled, savedAnswer, stepBackAnswer, stepBack}
+use Rattle.journal_model.specs.Rules.{runJournalledTable, savedTable, stepBackTable}
 use Rattle.journal_model.proofs.Laws.{room-iff}
-
--- a call leaves its answer
-pub left-journal-answer : (a : Answer) (lent made : LentJournal) → leavesJournal a lent made .answer ≡ a
-left-journal-answer (Accepted n) lent made = refl
-left-journal-answer (Refused r p) lent made = refl
 
 module _ (image : List ℕ) (lent : LentJournal) where
   pub run-journalled-decides : (n : ℕ) → Decides (runJournalledAnswer image lent n) n (runJournalledTable image lent n)
@@ -42,8 +32,10 @@ module _ (image : List ℕ) (lent : LentJournal) where
       (stage (finds-zero at-most-iff)
       (rw (append-nil (savedTable image lent k)) at (decides-before (saved-decides k) (λ sound. decides-none k)))))
 
-  pub journal-answers : (call : JournalCall) → AnswersBy (journalTable image lent call) (journalCount call) (numbersOf (performJournalled image lent call .answer))
-  unfolding performJournalled runJournalled stepBack
-  journal-answers (calls call) = call-answers image (lent .areas) call
-  journal-answers (journals n) = rw (left-journal-answer (runJournalledAnswer image lent n)) (answers-by (run-journalled-decides n))
-  journal-answers (goesBack k) = rw (left-journal-answer (stepBackAnswer image lent k)) (answers-by (step-back-decides k))
+  pub run-journalled-exactly : (n : ℕ) → Exactly (runJournalledTable image lent n) n lent (inNumbers (runJournalled image lent n))
+  unfolding runJournalled
+  run-journalled-exactly n = exactly _ (run-journalled-decides n)
+
+  pub step-back-exactly : (k : ℕ) → Exactly (stepBackTable image lent k) k lent (inNumbers (stepBack image lent k))
+  unfolding stepBack
+  step-back-exactly k = exactly _ (step-back-decides k)

@@ -7,18 +7,18 @@ use Rattle.model.specs.declared.Answer.the-variants.{Accepted}
 use Rattle.model.specs.Image.{Design, AreBytes, designOf}
 use Rattle.model.specs.Answers.{numbersOf}
 use Rattle.model.specs.Machine.{Areas, cycles, afterCycles}
-use Rattle.model.specs.Calls.{Lent, areasOf, lentOf}
+use Rattle.model.specs.Calls.{Lent, areasOf, lentOf, Left}
 use Rattle.model.proofs.Laws.Cycles.{after-sum}
 use Rattle.model.proofs.Exact.{verdict-exact}
 use Rattle.model.proofs.Independence.Calls.{areas-of-lent}
 use Rattle.model.proofs.Grouping.{ready-good, ready-back, cycles-good}
 use Rattle.journal_model.specs.Journals.{journalWith, savedIn, savedBefore}
-use Rattle.journal_model.specs.Calls.{LentJournal, LeftJournal, runJournalled}
+use Rattle.journal_model.specs.Calls.{LentJournal, runJournalled}
 use Rattle.journal_model.proofs.Laws.{before-sum, before-sized, with-more}
 use Rattle.journal_model.proofs.Accepted.{RunsJournalled, savedAfter, afterRun, accepted-runs, runs-leaves, room-fewer, after-sized, after-saved, after-room, after-ready}
 
 -- Two journalled runs, the second from what the first leaves, against one: both are accepted, each with its count, and leave the same three areas.
-pub record InHalves (n m : ℕ) (first second whole : LeftJournal) : Type 0 where
+pub record InHalves (n m : ℕ) (first second whole : Left LentJournal) : Type 0 where
   pub first-count : first .answer ≡ Accepted n
   pub second-count : second .answer ≡ Accepted m
   pub same : second .lent ≡ whole .lent

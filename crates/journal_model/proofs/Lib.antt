@@ -1,13 +1,11 @@
 -- The theorems about journals. `Promises` restates those that a reader looks for; the proved cases stand last.
 pub mod Laws
 pub mod Exact
-pub mod Unchanged
 pub mod Accepted
 pub mod Returning
 pub mod Halves
 pub mod Areas
 pub mod Others
-pub mod Independence
 pub mod Promises
 pub mod Opened
 pub mod Cases

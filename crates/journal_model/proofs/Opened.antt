@@ -4,16 +4,14 @@ use Prim.Native.Nat.{ℕ}
 use mathlib.Core.List.{List, [], _∷_, _++_}
 use lib.ListN.{replicate}
 use Rattle.model.specs.Answers.{Numbers, numbersOf}
-use Rattle.model.specs.Calls.{Lent}
-use Rattle.model.specs.Parties.{givenUnseen, remaining, withUnseen}
-use Rattle.model.proofs.Opened.{sights, lent, accepted, refused}
+use Rattle.model.specs.Calls.{Lent, Left}
+use Rattle.model.proofs.Opened.{everything, lent, accepted, refused}
 use Rattle.model.proofs.Designs.{word32, joined}
 use Rattle.journal_model.specs.Journals.{allSavedBytes, journalFront, journalWith, recounted, savedOf, savedIn, hasRoom, savedBefore}
-use Rattle.journal_model.specs.Calls.{LentJournal, LeftJournal, roomAnswer, stepsAnswer, savedBack, runJournalledAnswer, runJournalled, savedAnswer, stepBackAnswer, restored, stepBack}
-use Rattle.journal_model.specs.Lists.{performJournalled, journalEventsOf, journalEvents, journalsAtEnd, viewJournalled, remainingJournalled, journalStart, journalHistory, journalRemains, journalViews, journalSeenAtEnd}
+use Rattle.journal_model.specs.Calls.{LentJournal, roomAnswer, stepsAnswer, savedBack, runJournalledAnswer, runJournalled, savedAnswer, stepBackAnswer, restored, stepBack}
 
 unfoldable pub journalling : ℕ
-unfolding sights givenUnseen remaining withUnseen allSavedBytes journalFront journalWith recounted savedOf savedIn hasRoom savedBefore roomAnswer stepsAnswer savedBack runJournalledAnswer runJournalled savedAnswer stepBackAnswer restored stepBack performJournalled journalEventsOf journalEvents journalsAtEnd viewJournalled remainingJournalled journalStart journalHistory journalRemains journalViews journalSeenAtEnd
+unfolding everything allSavedBytes journalFront journalWith recounted savedOf savedIn hasRoom savedBefore roomAnswer stepsAnswer savedBack runJournalledAnswer runJournalled savedAnswer stepBackAnswer restored stepBack
 journalling = 0
 
 -- lent areas and a journal
@@ -21,14 +19,14 @@ abbrev pub lends : Lent → List ℕ → LentJournal
 lends areas journal = record { areas = areas; journal = journal }
 
 -- all that a call leaves: what the host is told, and every lent byte
-abbrev pub told : LeftJournal → Numbers × LentJournal
+abbrev pub told : Left LentJournal → Numbers × LentJournal
 told left = (numbersOf (left .answer), left .lent)
 
 -- what a call leaves of the areas, and of the journal
-abbrev pub areasLeft : LeftJournal → Lent
+abbrev pub areasLeft : Left LentJournal → Lent
 areasLeft left = left .lent .areas
 
-abbrev pub journalLeft : LeftJournal → List ℕ
+abbrev pub journalLeft : Left LentJournal → List ℕ
 journalLeft left = left .lent .journal
 
 -- an acceptance with these areas and this journal, and a refusal that leaves what was lent

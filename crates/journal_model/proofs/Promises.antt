@@ -8,39 +8,23 @@ use Rattle.model.specs.Image.{byteAt, AreBytes, designOf}
 use Rattle.model.specs.Answers.{numbersOf}
 use Rattle.model.specs.Ports.{PortsKept}
 use Rattle.model.specs.Calls.{run}
-use Rattle.model.specs.Refusals.{AnswersBy, WithinWidths}
+use Rattle.model.specs.Refusals.{inNumbers, Exactly, WithinWidths}
 use Rattle.journal_model.specs.Calls.{LentJournal, runJournalled, stepBack}
-use Rattle.journal_model.specs.Lists.{JournalCall, performJournalled, IndependentJournals, IndependentJournalNeighbours}
-use Rattle.journal_model.specs.Rules.{journalTable, journalCount}
-use Rattle.journal_model.proofs.Exact.{journal-answers}
-use Rattle.journal_model.proofs.Unchanged.{journal-refused, back-none}
-use Rattle.journal_model.proofs.Returning.{BackAt, back-by, Returned, back-whole, back-twice}
+use Rattle.journal_model.specs.Rules.{runJournalledTable, stepBackTable}
+use Rattle.journal_model.proofs.Exact as exact
+use Rattle.journal_model.proofs.Returning.{back-none, BackAt, back-by, Returned, back-whole, back-twice}
 use Rattle.journal_model.proofs.Halves.{InHalves, halves}
 use Rattle.journal_model.proofs.Others.{OtherByte, others-kept}
 use Rattle.journal_model.proofs.Areas.{as-run, run-within-widths, back-within-widths, run-ports-kept}
-use Rattle.journal_model.proofs.Independence.Lists.{journals-theorem, journals-across}
 
 -- "It refuses with 21, after 15, a journal under 4 bytes, or too short for its count and the cycles to run, or whose new count passes 32 bits, and with 22, after 21, a k
 -- above the count." "A saved state to be restored that is not sound is 14, judged after 22." Each call is accepted with its count exactly when every rule of its table is
--- kept, and refused exactly by the first that is broken.
-pub journal-calls-exactly : (image : List ℕ) (lent : LentJournal) (call : JournalCall)
-    → AnswersBy (journalTable image lent call) (journalCount call) (numbersOf (performJournalled image lent call .answer))
-journal-calls-exactly = journal-answers
+-- kept, and refused exactly by the first that is broken; 01, demand 1: "No lent byte changes" on a refusal, of all three areas.
+pub run-journalled-exactly : (image : List ℕ) (lent : LentJournal) (n : ℕ) → Exactly (runJournalledTable image lent n) n lent (inNumbers (runJournalled image lent n))
+run-journalled-exactly = exact.run-journalled-exactly
 
--- 01, demand 1: "No lent byte changes" on a refusal, of all three areas.
-pub journal-refused-leaves : (image : List ℕ) (lent : LentJournal) (call : JournalCall)
-    → (numbersOf (performJournalled image lent call .answer) .number ≡ 0 → ⊥)
-    → performJournalled image lent call .lent ≡ lent
-journal-refused-leaves = journal-refused
-
--- Demand 3: "Two matching lists that begin with empty journals which nobody else writes, journal the same cycles and go back by equal numbers at equal moments still give a
--- party equal views, and equal registers at or below its level at the end."
-pub independent-journals : IndependentJournals
-independent-journals = journals-theorem
-
--- 02, E14, "A neighbour edits his design": the same across two designs that have the same in common at a level.
-pub independent-journal-neighbours : IndependentJournalNeighbours
-independent-journal-neighbours = journals-across
+pub step-back-exactly : (image : List ℕ) (lent : LentJournal) (k : ℕ) → Exactly (stepBackTable image lent k) k lent (inNumbers (stepBack image lent k))
+step-back-exactly = exact.step-back-exactly
 
 -- "A journalled run is a run": where it is accepted, a run of the same areas is, with the same count, and leaves the same areas.
 pub journalled-as-run : (image : List ℕ) (lent : LentJournal) (n : ℕ) → numbersOf (runJournalled image lent n .answer) .number ≡ 0

@@ -11,18 +11,23 @@ use Rattle.model.specs.Limits.{valueCount}
 use Rattle.model.specs.Image.{Design, AreBytes, designOf}
 use Rattle.model.specs.Answers.{numbersOf}
 use Rattle.model.specs.Machine.{Areas, cycles, afterCycles}
-use Rattle.model.specs.Calls.{Lent, areasOf, lentOf, run}
+use Rattle.model.specs.Calls.{Lent, areasOf, lentOf, run, Left}
 use Rattle.model.proofs.Grouping.{ready-run, ready-back, none-left}
 use Rattle.journal_model.specs.Journals.{countLength, countIn, nothingSaved, savedLength, savedIn, savedBefore}
-use Rattle.journal_model.specs.Calls.{LentJournal, LeftJournal, savedBack, runJournalled, stepBack}
+use Rattle.journal_model.specs.Calls.{LentJournal, savedBack, runJournalled, stepBack, stepBackAnswer, restored}
 use Rattle.journal_model.specs.Rules.{RoomKeeps}
 use Rattle.journal_model.proofs.Laws.{length-savedIn, count-recounted, recounted-behind, recounted-twice, length-recounted, saved-recounted, before-fewer, before-at}
-use Rattle.journal_model.proofs.Unchanged.{back-none}
 use Rattle.journal_model.proofs.Accepted.{RunsJournalled, savedAfter, afterRun, accepted-runs, runs-leaves, after-count, after-saved, after-room, after-ready, GoesBack, afterBack, accepted-goes-back, back-accepts, back-leaves}
+use Rattle.model.proofs.Laws.Left.{left-same}
+
+-- "With k of 0 nothing changes", whatever is answered
+pub back-none : (image : List ℕ) (lent : LentJournal) → stepBack image lent 0 .lent ≡ lent
+unfolding stepBack restored
+back-none image lent = left-same (stepBackAnswer image lent 0) lent
 
 -- What a step back by k leaves after a journalled run of n: the areas that a run of n - k leaves, a journal that counts and saves what it leaves, and every byte
 -- behind the count as it was before the step.
-pub record BackAt (image : List ℕ) (lent ran : LentJournal) (k m : ℕ) (left : LeftJournal) : Type 0 where
+pub record BackAt (image : List ℕ) (lent ran : LentJournal) (k m : ℕ) (left : Left LentJournal) : Type 0 where
   pub answer : left .answer ≡ Accepted k
   pub areas : left .lent .areas ≡ run image (lent .areas) m .lent
   pub count : countIn (left .lent .journal) ≡ countIn (lent .journal) + m
@@ -104,7 +109,7 @@ pub back-by : (image : List ℕ) (lent : LentJournal) → AreBytes (lent .areas 
 back-by image lent bytes n k l e = let r = accepted-runs image lent n e in rw (runs-leaves image lent n r) (back-of-run image lent bytes n r k l)
 
 -- What a step back over a whole run leaves: the areas as they were, a journal that counts and saves what it did, and every byte behind the count as the run left it.
-pub record Returned (image : List ℕ) (lent ran : LentJournal) (n : ℕ) (left : LeftJournal) : Type 0 where
+pub record Returned (image : List ℕ) (lent ran : LentJournal) (n : ℕ) (left : Left LentJournal) : Type 0 where
   pub answer : left .answer ≡ Accepted n
   pub areas : left .lent .areas ≡ lent .areas
   pub count : countIn (left .lent .journal) ≡ countIn (lent .journal)

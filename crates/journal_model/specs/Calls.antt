@@ -5,27 +5,17 @@ use lib.Dec.{leb}
 use lib.ListN.{length, getD}
 use Rattle.model.specs.declared.Refusal.the-variants.{JournalArea, StepsBack}
 use Rattle.model.specs.declared.Answer.{Answer}
-use Rattle.model.specs.declared.Answer.the-variants.{Accepted, Refused}
+use Rattle.model.specs.declared.Answer.the-variants.{Accepted}
 use Rattle.model.specs.Image.{Design, designOf}
 use Rattle.model.specs.Verdict.{_before_, refusedAt, atZeroUnless}
 use Rattle.model.specs.Machine.{cycles}
-use Rattle.model.specs.Calls.{Lent, areasOf, resetAnswer, runAnswer, run}
+use Rattle.model.specs.Calls.{Lent, Left, leaves, areasOf, resetAnswer, runAnswer, run}
 use Rattle.journal_model.specs.Journals.{countIn, journalWith, recounted, nothingSaved, savedLength, savedIn, hasRoom, savedBefore}
 
 -- the bytes of the three areas that the host lends
 pub record LentJournal : Type 0 where
   pub areas : Lent
   pub journal : List ℕ
-
--- what a call leaves: its answer, and every byte of the three areas
-pub record LeftJournal : Type 0 where
-  pub answer : Answer
-  pub lent : LentJournal
-
--- 01: "No lent byte changes" on a refusal
-abbrev pub leavesJournal : Answer → LentJournal → LentJournal → LeftJournal
-leavesJournal (Accepted count) lent made = record { answer = Accepted count; lent = made }
-leavesJournal (Refused refusal place) lent made = record { answer = Refused refusal place; lent = lent }
 
 -- 21, place 0: there is no room for what the journal counts and n cycles more
 unfoldable pub roomAnswer : Design → List ℕ → ℕ → Answer
@@ -45,11 +35,11 @@ module _ (image : List ℕ) (lent : LentJournal) where
   runJournalledAnswer n = runAnswer image (lent .areas) n before roomAnswer (designOf image) (lent .journal) n before Accepted n
 
   -- "A journalled run is a run that also saves both areas .. before every cycle"
-  unfoldable pub runJournalled : ℕ → LeftJournal
+  unfoldable pub runJournalled : ℕ → Left LentJournal
   runJournalled n =
       let d = designOf image in
       let ran = cycles d n (areasOf d (lent .areas)) in
-      leavesJournal
+      leaves
       (runJournalledAnswer n)
       lent
       (record {
@@ -79,5 +69,5 @@ module _ (image : List ℕ) (lent : LentJournal) where
   restored (suc k) =
       record { areas = savedBack (designOf image) (lent .journal) (suc k); journal = recounted (countIn (lent .journal) - suc k) (lent .journal) }
 
-  unfoldable pub stepBack : ℕ → LeftJournal
-  stepBack k = leavesJournal (stepBackAnswer k) lent (restored k)
+  unfoldable pub stepBack : ℕ → Left LentJournal
+  stepBack k = leaves (stepBackAnswer k) lent (restored k)

@@ -6,10 +6,9 @@ use lib.ListN.{length}
 use Rattle.model.specs.declared.Refusal.the-variants.{JournalArea, StepsBack}
 use Rattle.model.specs.Limits.{valueCount}
 use Rattle.model.specs.Image.{Design, designOf}
-use Rattle.model.specs.Refusals.{Pass, _asks_, at, resetTable, runTable, callTable, callCount}
+use Rattle.model.specs.Refusals.{Pass, _asks_, at, resetTable, runTable}
 use Rattle.journal_model.specs.Journals.{countLength, countIn, savedLength}
 use Rattle.journal_model.specs.Calls.{LentJournal, savedBack}
-use Rattle.journal_model.specs.Lists.{JournalCall, calls, journals, goesBack}
 
 -- 21: "a journal under 4 bytes, or too short for its count and the cycles to run, or whose new count passes 32 bits"
 pub record RoomKeeps (d : Design) (journal : List ℕ) (n : ℕ) : Type 0 where
@@ -34,15 +33,3 @@ module _ (image : List ℕ) (lent : LentJournal) where
       ++ ((JournalArea asks at 0 (RoomKeeps (designOf image) (lent .journal) 0) ∷ [])
       ∷ (StepsBack asks at 0 (k ≤ countIn (lent .journal)) ∷ [])
       ∷ savedTable k)
-
-  -- the table of a call of a list
-  abbrev pub journalTable : JournalCall → List Pass
-  journalTable (calls call) = callTable image (lent .areas) call
-  journalTable (journals n) = runJournalledTable n
-  journalTable (goesBack k) = stepBackTable k
-
--- the count that it answers where it is accepted
-abbrev pub journalCount : JournalCall → ℕ
-journalCount (calls call) = callCount call
-journalCount (journals n) = n
-journalCount (goesBack k) = k

@@ -20,7 +20,7 @@ pub mod Verdict
 pub mod Firsts
 pub mod Passes
 pub mod Numbers
-pub mod LeftOut
+pub mod Left
 pub mod Among
 pub mod Broken
 pub mod Finds

@@ -3,7 +3,6 @@ pub mod Laws
 pub mod Exact
 pub mod Refused
 pub mod Independence
-pub mod Unchanged
 pub mod Grouping
 pub mod Writing
 pub mod Ports

@@ -20,14 +20,14 @@ use Rattle.model.specs.Flow.{labelsRead, namedLabel, flowsEach, flowFaul
 use Rattle.model.specs.Answers.{Numbers, numbersOf}
 use Rattle.model.specs.Verdict.{_before_, refusedAt, lowestNode, designStructure, structure, verdict}
 use Rattle.model.specs.Labelling.{labelsOf}
-use Rattle.model.specs.Raising.{leastAboveAll, joinOf, labelsReadBy, raisedBy, raisedByStates, raisedOnce, raisedTimes, raisedLabels, putLabels, raisedImage, LeftOut, raiseAnswer, raise}
+use Rattle.model.specs.Raising.{leastAboveAll, joinOf, labelsReadBy, raisedBy, raisedByStates, raisedOnce, raisedTimes, raisedLabels, putLabels, raisedImage, raiseAnswer, raise}
 use Rattle.model.specs.Signed.{signedValue, wordOf, belowSigned, shiftedRight, dividedSigned}
 use Rattle.model.specs.Values.{apply, wordsOf, bytesOf}
 use Rattle.model.specs.Bindings.{named, exprWith, cmdWith, boundIn, ownBound, bodyWith, labelWith, boundBy, onPath, byteSound, boundSound, bindingSound}
 use Rattle.model.specs.Machine.{Areas, Cycle, eval, exec, resetAreas, targetSound, cleared, goneTo, afterBody, runFrom, cycle, cycles, afterLast, afterCycles}
 use Rattle.model.specs.Calls.{Lent, Left, registerAreaAnswer, lengthAnswer, contentKept, contentsAnswer, targetsAnswer, bindingsAnswer, isWritable, portAnswer, valueAnswer, areasOf, lentOf, cyclesAnswer, check, registersLength, targetsLength, resetAnswer, reset, runAnswer, run, writePortAnswer, writePort}
 use Rattle.model.specs.Listing.{bytesOfText, decimal, spaced, header, line, lines, refusalLine, listed, listing}
-use Rattle.model.specs.Parties.{Event, wasReset, wasWritten, cycled, perform, eventsOf, events, atEnd, valuesSeen, walkSeen, view}
+use Rattle.model.specs.Parties.{Event, perform, eventsOf, events, atEnd, valuesSeen, walkSeen, view, cyclesOf}
 
 -- every definition of the image checks
 unfoldable pub checks : ℕ
@@ -36,7 +36,7 @@ checks = 0
 
 -- and with these every definition of the cycle, the calls, the lists of calls and the listing
 unfoldable pub everything : ℕ
-unfolding checks signedValue wordOf belowSigned shiftedRight dividedSigned apply wordsOf bytesOf named exprWith cmdWith boundIn ownBound bodyWith labelWith boundBy onPath byteSound boundSound bindingSound eval exec resetAreas targetSound cleared goneTo afterBody runFrom cycle cycles afterLast afterCycles registerAreaAnswer lengthAnswer contentKept contentsAnswer targetsAnswer bindingsAnswer isWritable portAnswer valueAnswer areasOf lentOf cyclesAnswer check registersLength targetsLength resetAnswer reset runAnswer run writePortAnswer writePort bytesOfText decimal spaced header line lines refusalLine listed listing perform eventsOf events atEnd
+unfolding checks signedValue wordOf belowSigned shiftedRight dividedSigned apply wordsOf bytesOf named exprWith cmdWith boundIn ownBound bodyWith labelWith boundBy onPath byteSound boundSound bindingSound eval exec resetAreas targetSound cleared goneTo afterBody runFrom cycle cycles afterLast afterCycles registerAreaAnswer lengthAnswer contentKept contentsAnswer targetsAnswer bindingsAnswer isWritable portAnswer valueAnswer areasOf lentOf cyclesAnswer check registersLength targetsLength resetAnswer reset runAnswer run writePortAnswer writePort bytesOfText decimal spaced header line lines refusalLine listed listing perform eventsOf events cyclesOf atEnd
 everything = 0
 
 -- and with these those of what a party sees
@@ -63,12 +63,8 @@ abbrev pub judged : List ℕ → Numbers
 judged image = numbersOf (verdict image)
 
 -- all that a call leaves: what the host is told, and every lent byte
-abbrev pub told : Left → Numbers × Lent
+abbrev pub told : {A : Type 0} → Left A → Numbers × A
 told left = (numbersOf (left .answer), left .lent)
-
--- the same of a call that writes a second area
-abbrev pub leftOut : LeftOut → Numbers × List ℕ
-leftOut left = (numbersOf (left .answer), left .out)
 
 -- lent areas and their values, with these registers bound, and with none: 02, E8: two bytes behind the targets for each state, "0 at reset"
 abbrev pub lentBound : List ℕ → List ℕ → List ℕ → Lent
@@ -89,13 +85,6 @@ areas registers targets = areasBound registers targets (noneBound targets)
 -- where the rows stop being a lattice
 abbrev pub faultOfRows : List ℕ → Found
 faultOfRows rows = lowestFailing (labelKept rows) (length rows)
-
--- the cycles of a list of calls
-abbrev pub cyclesOf : List Event → List Cycle
-cyclesOf [] = []
-cyclesOf (wasReset ∷ more) = cyclesOf more
-cyclesOf (wasWritten r v ∷ more) = cyclesOf more
-cyclesOf (cycled c ∷ more) = c ∷ cyclesOf more
 
 abbrev pub walks : List Event → List (List ℕ)
 walks es = map (λ (c : Cycle). c .walk) (cyclesOf es)

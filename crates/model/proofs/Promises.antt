@@ -13,16 +13,14 @@ use Rattle.model.specs.Answers.{numberOf, numbersOf}
 use Rattle.model.specs.Rules.{Keeps}
 use Rattle.model.specs.Ports.{PortsKept}
 use Rattle.model.specs.Calls.{Lent, check, registersLength, targetsLength, writePort, run}
-use Rattle.model.specs.Refusals.{AllKept, FirstBroken, imageTable, callTable, callCount, AnswersBy, WithinWidths}
+use Rattle.model.specs.Refusals.{AllKept, FirstBroken, imageTable, callTable, callCount, AnswersBy, inNumbers, Exactly, WithinWidths}
 use Rattle.model.specs.Rounding.{RoundedDown, RoundedTowardZero}
 use Rattle.model.specs.Signed.{signedValue, shiftCount, shiftedRight, dividedSigned}
 use Rattle.model.specs.Verdict.{verdict}
-use Rattle.model.specs.Parties.{Call, perform, atEnd, Use, start, Independent}
-use Rattle.model.specs.Neighbours.{IndependentNeighbours}
+use Rattle.model.specs.Parties.{Call, perform, atEnd, Beginning, start, Independent}
 use Rattle.model.proofs.Exact.{check-exact}
-use Rattle.model.proofs.Refused.{keeps-table, check-answers, registers-length-answers, targets-length-answers, call-answers}
-use Rattle.model.proofs.Independence.Theorem.{independent, independent-across}
-use Rattle.model.proofs.Unchanged.{refused-lent}
+use Rattle.model.proofs.Refused.{keeps-table, check-answers, registers-length-answers, targets-length-answers, call-exactly}
+use Rattle.model.proofs.Independence.Theorem.{independent}
 use Rattle.model.proofs.Grouping.{Grouped, grouped, none-left}
 use Rattle.model.proofs.Writing.{ChangesOnly, changes-only}
 use Rattle.model.proofs.Ports.{run-keeps-ports}
@@ -45,8 +43,9 @@ pub keeps-exactly : (image : List ℕ) → Keeps image ↔ AllKept (imageTable i
 keeps-exactly = keeps-table
 
 -- The other calls, each by its own table: accepted with its count exactly when every rule is kept, refused exactly by the first that is broken.
-pub calls-exactly : (image : List ℕ) (lent : Lent) (call : Call) → AnswersBy (callTable image lent call) (callCount call) (numbersOf (perform image lent call .answer))
-calls-exactly = call-answers
+-- Demand 1: "No lent byte changes" on a refusal.
+pub calls-exactly : (image : List ℕ) (lent : Lent) (call : Call) → Exactly (callTable image lent call) (callCount call) lent (inNumbers (perform image lent call))
+calls-exactly = call-exactly
 
 -- The lengths of the areas: an accepted image's, as the count, and else the image's refusal.
 pub registers-length-exactly : (image : List ℕ) → AnswersBy (imageTable image) (wordLength * length (designOf image .registers)) (numbersOf (registersLength image))
@@ -55,18 +54,10 @@ registers-length-exactly = registers-length-answers
 pub targets-length-exactly : (image : List ℕ) → AnswersBy (imageTable image) (targetLength * length (designOf image .states)) (numbersOf (targetsLength image))
 targets-length-exactly = targets-length-answers
 
--- Demand 1: "No lent byte changes" on a refusal.
-pub refused-leaves : (image : List ℕ) (lent : Lent) (call : Call) → (numbersOf (perform image lent call .answer) .number ≡ 0 → ⊥) → perform image lent call .lent ≡ lent
-refused-leaves = refused-lent
 
 -- Demand 3: "Matching lists have equal views, and equal registers at or below the level at their end."
 pub independent-parties : Independent
 independent-parties = independent
-
--- 02, E14, "A neighbour edits his design": demand 3 across two designs, "under the port and reset premises that already hold within one". `independent-parties` is the case
--- of one design and is drawn from it.
-pub independent-neighbours : IndependentNeighbours
-independent-neighbours = independent-across
 
 -- "An accepted run of n counts as n cycles": so a run may be cut. A run of n and then one of m leave what one of n + m leaves; all three are accepted, each
 -- with its count, or all are refused alike.
@@ -82,7 +73,7 @@ run-of-none = none-left
 -- "An accepted port write sets its register to its value and changes nothing else": whatever it answers, no byte outside its register's four changes, and
 -- where it is accepted these four are those of the value.
 pub write-changes-only : (image registers : List ℕ) → AreBytes registers → (r v : ℕ)
-    → ChangesOnly r v registers (numbersOf (writePort image registers r v .answer)) (writePort image registers r v .registers)
+    → ChangesOnly r v registers (numbersOf (writePort image registers r v .answer)) (writePort image registers r v .lent)
 write-changes-only = changes-only
 
 -- 02, E1, "Ports belong to the host": a run of any number of cycles, whatever it answers, leaves every byte of every port.
@@ -94,8 +85,8 @@ pub within-widths : (image : List ℕ) (lent : Lent) (call : Call) → numbersOf
 within-widths = accepted-within
 
 -- So in a list that starts as demand 3 has it the contents are never at fault: after any calls every register is within its width.
-pub lists-within-widths : (image : List ℕ) → verdict image ≡ Accepted 0 → (level : ℕ) (u : Use (designOf image)) (calls : List Call)
-    → WithinWidths (designOf image) (atEnd image (start image level u) calls .registers)
+pub lists-within-widths : (image : List ℕ) → verdict image ≡ Accepted 0 → (level : ℕ) (begins : Beginning (designOf image)) (calls : List Call)
+    → WithinWidths (designOf image) (atEnd image (start image level begins) calls .registers)
 lists-within-widths = list-within
 
 -- 02, E3, "arithmetic right shift": the integer of the result is the part's, divided by 2 to the power of the count and rounded down.

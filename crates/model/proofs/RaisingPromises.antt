@@ -11,15 +11,15 @@ use Rattle.model.specs.Image.{designOf, stateAt}
 use Rattle.model.specs.Parameters.{hasParameters}
 use Rattle.model.specs.Answers.{numbersOf}
 use Rattle.model.specs.Raising.{AcceptedRaising, LeastRaising, accepts, raisedOnce, raisedLabels, raisedImage, raise}
-use Rattle.model.specs.Refusals.{raiseTable, AnswersBy}
+use Rattle.model.specs.Refusals.{raiseTable, inNumbers, Exactly}
 use Rattle.model.specs.Verdict.{structure, verdict}
 use Rattle.model.proofs.Raising.Theorem.{exists-exactly, at-rest}
-use Rattle.model.proofs.Raising.Calls.{raise-answers, raise-parameters, raise-refused, raise-least, raise-comes-back, raise-twice, raise-whatever-held}
+use Rattle.model.proofs.Raising.Calls.{raise-answers, raise-parameters, raise-least, raise-comes-back, raise-twice, raise-whatever-held}
 
 -- "Given an image that passes all checks up to 9, 16 included"; "An output area not as long as the image is refusal 14, judged after the image checks. It refuses
 -- with 18, place 0 and after 14, exactly if no accepted raising exists." 02, E8: "raising refuses with 20, place 0, after its image checks and before 14, an image
 -- that has parameters." The call is accepted exactly when every rule of its table is kept, and refused exactly by the first that is broken.
-pub raise-exactly : (image out : List ℕ) → AnswersBy (raiseTable image out) 0 (numbersOf (raise image out .answer))
+pub raise-exactly : (image out : List ℕ) → Exactly (raiseTable image out) 0 out (inNumbers (raise image out))
 raise-exactly = raise-answers
 
 -- 02, E8: of an image that passes the checks up to 9, 20 is answered exactly if a state has a parameter.
@@ -35,7 +35,7 @@ raising-exists-exactly = exists-exactly
 
 -- "write into a second area the same image with inner register labels raised, never lowered, so that the whole is accepted. Port and state labels are fixed. The
 -- result is the least: every accepted raising gives each register a label at or above ours."
-pub raised-least : (image out : List ℕ) → numbersOf (raise image out .answer) .number ≡ 0 → LeastRaising image (raise image out .out)
+pub raised-least : (image out : List ℕ) → numbersOf (raise image out .answer) .number ≡ 0 → LeastRaising image (raise image out .lent)
 raised-least = raise-least
 
 -- The passes come to rest: one more would move nothing.
@@ -48,17 +48,13 @@ raised-at-rest = at-rest
 pub accepted-comes-back : (image out : List ℕ) → verdict image ≡ Accepted 0
     → ((s : ℕ) → s < length (designOf image .states) → stateAt (designOf image) s .parameters ≡ 0)
     → length out ≡ length image
-    → raise image out ≡ record { answer = Accepted 0; out = image }
+    → raise image out ≡ record { answer = Accepted 0; lent = image }
 accepted-comes-back = raise-comes-back
 
 -- So what was raised comes back from a second call as it is.
 pub raised-twice : (image out again : List ℕ) → numbersOf (raise image out .answer) .number ≡ 0 → length again ≡ length image
-    → raise (raise image out .out) again ≡ record { answer = Accepted 0; out = raise image out .out }
+    → raise (raise image out .lent) again ≡ record { answer = Accepted 0; lent = raise image out .lent }
 raised-twice = raise-twice
-
--- 01, demand 1: "No lent byte changes" on a refusal.
-pub raise-refused-leaves : (image out : List ℕ) → (numbersOf (raise image out .answer) .number ≡ 0 → ⊥) → raise image out .out ≡ out
-raise-refused-leaves = raise-refused
 
 -- What the second area held before does not matter: where the call is accepted, any other of the same length is left the same.
 pub raised-whatever-held : (image out other : List ℕ) → length other ≡ length out → numbersOf (raise image out .answer) .number ≡ 0 → raise image other ≡ raise image out

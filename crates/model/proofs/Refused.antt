@@ -18,10 +18,10 @@ use Rattle.model.specs.Verdict.{_before_, refusedAt, designStructure, st
 use Rattle.model.specs.Parameters.{allOf, ownParameters}
 use Rattle.model.specs.Bindings.{byteSound, boundSound, bindingSound}
 use Rattle.model.specs.Rules.{DirectoryKeeps, StateKeeps, Keeps}
-use Rattle.model.specs.Calls.{Lent, registerAreaKept, targetAreaKept, registerAreaAnswer, lengthAnswer, contentKept, contentsAnswer, targetsIn, bindingsIn, targetsAnswer, bindingsAnswer, isWritable, portAnswer, valueAnswer, cyclesAnswer, leaves, leavesRegisters, check, registersLength, targetsLength, resetAnswer, reset, runAnswer, run, writePortAnswer, writePort}
-use Rattle.model.specs.Parties.{RightLengths, Call, resets, writes, runs, perform}
+use Rattle.model.specs.Calls.{Lent, registerAreaKept, targetAreaKept, registerAreaAnswer, lengthAnswer, contentKept, contentsAnswer, targetsIn, bindingsIn, targetsAnswer, bindingsAnswer, isWritable, portAnswer, valueAnswer, cyclesAnswer, leaves, check, registersLength, targetsLength, resetAnswer, reset, runAnswer, run, writePortAnswer, writePort}
+use Rattle.model.specs.Parties.{RightLengths, Call, resets, writes, runs, perform, withTargets}
 use Rattle.model.specs.Standing.{ChildOf}
-use Rattle.model.specs.Refusals.{Pass, _asks_, TargetKeeps, BoundKeeps, BindingKeeps, AllKept, structureTable, imageTable, resetTable, writePortTable, runTable, callTable, callCount, AnswersBy}
+use Rattle.model.specs.Refusals.{Pass, _asks_, TargetKeeps, BoundKeeps, BindingKeeps, AllKept, structureTable, imageTable, resetTable, writePortTable, runTable, callTable, callCount, AnswersBy, inNumbers, Exactly}
 use Rattle.model.proofs.Laws.Equivalences.{less-iff, at-most-iff, equal-iff, refutes-iff, and-iff, and-three-iff, or-iff, implies-iff}
 use Rattle.model.proofs.Laws.Choices.{within-iff}
 use Rattle.model.proofs.Laws.Scopes.{all-own-iff}
@@ -41,6 +41,7 @@ use Rattle.model.proofs.Refused.Standing.{child-iff, has-child-iff}
 use Rattle.model.proofs.Refused.Shapes.{shape-finds}
 use Rattle.model.proofs.Refused.Scopes.{scope-finds}
 use Rattle.model.proofs.Refused.Flows.{flow-decides}
+use Rattle.model.proofs.Laws.Left.{leaves-exactly, left-in-exactly}
 pub mod Standing
 pub mod Shapes
 pub mod Scopes
@@ -159,14 +160,9 @@ pub answers-by : {a : Answer} {n : ℕ} {passes : List Pass} → Decides a n pas
 answers-by {a} {n} d =
     record { accepted = Iff·trans (told-accepted a n) (d .accepts); refused = λ refusal place. Iff·trans (told-refused a refusal place) (d .refuses refusal place) }
 
--- a call leaves its answer
-left-answer : (a : Answer) (lent made : Lent) → leaves a lent made .answer ≡ a
-left-answer (Accepted n) lent made = refl
-left-answer (Refused r p) lent made = refl
-
-left-registers-answer : (a : Answer) (registers made : List ℕ) → leavesRegisters a registers made .answer ≡ a
-left-registers-answer (Accepted n) registers made = refl
-left-registers-answer (Refused r p) registers made = refl
+-- and with what the call leaves
+pub exactly : {A : Type 0} {a : Answer} {n : ℕ} {passes : List Pass} {lent : A} (made : A) → Decides a n passes → Exactly passes n lent (inNumbers (leaves a lent made))
+exactly {a = a} {lent = lent} made d = leaves-exactly a lent made (answers-by d)
 
 module _ (image : List ℕ) where
   pub check-answers : AnswersBy (imageTable image) 0 (numbersOf (check image))
@@ -185,11 +181,11 @@ module _ (image : List ℕ) where
   unfolding targetsLength
   targets-length-answers = answers-by (length-decides (targetLength * length (designOf image .states)))
 
-  pub call-answers : (lent : Lent) (call : Call) → AnswersBy (callTable image lent call) (callCount call) (numbersOf (perform image lent call .answer))
+  pub call-exactly : (lent : Lent) (call : Call) → Exactly (callTable image lent call) (callCount call) lent (inNumbers (perform image lent call))
   unfolding perform reset writePort run
-  call-answers lent resets = rw (left-answer (resetAnswer image lent)) (answers-by (reset-decides image lent))
-  call-answers lent (writes r v) = rw (left-registers-answer (writePortAnswer image (lent .registers) r v)) (answers-by (write-port-decides image (lent .registers) r v))
-  call-answers lent (runs n) = rw (left-answer (runAnswer image lent n)) (answers-by (run-decides image lent n))
+  call-exactly lent resets = exactly _ (reset-decides image lent)
+  call-exactly lent (writes r v) = left-in-exactly (writePort image (lent .registers) r v) (withTargets (lent .targets)) (exactly _ (write-port-decides image (lent .registers) r v))
+  call-exactly lent (runs n) = exactly _ (run-decides image lent n)
 
 -- an acceptance of the image checks has count 0
 pub accepted-count : (image : List ℕ) {n : ℕ} → verdict image ≡ Accepted n → n ≡ 0

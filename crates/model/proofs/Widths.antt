@@ -17,8 +17,8 @@ use Rattle.model.specs.Values.{modulus, fits, wordsOf, bytesOf}
 use Rattle.model.specs.Verdict.{verdict, _before_}
 use Rattle.model.specs.Answers.{numbersOf}
 use Rattle.model.specs.Machine.{Areas, resetAreas, afterCycles}
-use Rattle.model.specs.Calls.{Lent, Left, leaves, leavesRegisters, contentKept, contentsAnswer, valueAnswer, areasOf, lentOf, resetAnswer, reset, runAnswer, run, writePortAnswer, writePort}
-use Rattle.model.specs.Parties.{Call, resets, writes, runs, perform, atEnd, givenUnseen, Use, withUnseen, start}
+use Rattle.model.specs.Calls.{Lent, Left, contentKept, contentsAnswer, valueAnswer, areasOf, lentOf, resetAnswer, reset, runAnswer, run, writePortAnswer, writePort}
+use Rattle.model.specs.Parties.{Call, resets, writes, runs, perform, atEnd, givenUnseen, withUnseen, start, Beginning}
 use Rattle.model.specs.Refusals.{WithinWidths}
 use Rattle.model.proofs.Laws.Booleans.{decide, true-or-false}
 use Rattle.model.proofs.Laws.Equivalences.{less-iff, equal-iff}
@@ -29,12 +29,12 @@ use Rattle.model.proofs.Laws.Numbers.{no-number-zero}
 use Rattle.model.proofs.Laws.Cycles.{reset-length}
 use Rattle.model.proofs.Laws.Words.{length-wordsOf, words-of-bytes-bounded}
 use Rattle.model.proofs.Exact.{verdict-exact}
-use Rattle.model.proofs.Refused.{accepted-count}
-use Rattle.model.proofs.Unchanged.{refused-lent}
+use Rattle.model.proofs.Refused.{accepted-count, call-exactly}
 use Rattle.model.proofs.Independence.Widths.{Fitting, fitting-each, fitting-bounded, set-fitting, reset-fitting}
 use Rattle.model.proofs.Independence.Calls.{reset-leaves}
 use Rattle.model.proofs.Independence.Runs.{length-given, given-fitting}
 use Rattle.model.proofs.Grouping.{Ready, Refuses, ready-or-refuses, ready-good, cycles-good}
+use Rattle.model.proofs.Laws.Left.{left-holds}
 
 -- values within the widths are so when they are written and read again
 written-within : (d : Design) → StructureKeeps d → (values : List ℕ) → length values ≡ length (d .registers) → Fitting (d .registers) values → WithinWidths d (bytesOf values)
@@ -48,19 +48,6 @@ keeps-first : (image : List ℕ) (later : Answer) {n : ℕ} → (verdict image b
 keeps-first image later e =
     let first = first-accepts (verdict image) later e in
     verdict-exact image .0 (first .1 ∙ ap Accepted (accepted-count image (first .1)))
-
--- what an accepted answer leaves is what the call makes
-left-within : (d : Design) (a : Answer) (lent made : Lent) → numbersOf (leaves a lent made .answer) .number ≡ 0
-    → ((n : ℕ) → a ≡ Accepted n → WithinWidths d (made .registers))
-    → WithinWidths d (leaves a lent made .lent .registers)
-left-within d (Accepted n) lent made e h = h n refl
-left-within d (Refused q p) lent made e h = absurd (no-number-zero q e)
-
-left-registers-within : (d : Design) (a : Answer) (registers made : List ℕ) → numbersOf (leavesRegisters a registers made .answer) .number ≡ 0
-    → ((n : ℕ) → a ≡ Accepted n → WithinWidths d made)
-    → WithinWidths d (leavesRegisters a registers made .registers)
-left-registers-within d (Accepted n) registers made e h = h n refl
-left-registers-within d (Refused q p) registers made e h = absurd (no-number-zero q e)
 
 found-kept : (b : Bool) (r : ℕ) → cond b Nowhere (At r) ≡ Nowhere → b ≡ true
 found-kept true r e = refl
@@ -102,15 +89,18 @@ module _ (image : List ℕ) where
           let good = cycles-good image (ready .accepted) n (areasOf d lent) (ready-good image lent ready) in
           written-within d (verdict-exact image .0 (ready .accepted) .design .structure) (afterCycles d n (areasOf d lent) .registers) (good .registers-length) (good .fitting)
       go (inr refuses) =
-          let answer = ap (λ (left : Left). left .answer) (refuses .refused n) in
+          let answer = ap (λ (left : Left Lent). left .answer) (refuses .refused n) in
           let told : run image lent n .answer ≡ Accepted c = rw e in
           absurd (refused-is-not-accepted (refuses .refusal) (refuses .place) c (sym answer ∙ told))
 
+  abbrev registers-within : Lent → Type 0
+  registers-within lent = WithinWidths d (lent .registers)
+
   pub accepted-within : (lent : Lent) (call : Call) → numbersOf (perform image lent call .answer) .number ≡ 0 → WithinWidths d (perform image lent call .lent .registers)
   unfolding perform reset writePort run lentOf
-  accepted-within lent resets e = left-within d (resetAnswer image lent) lent _ e (λ n h. reset-within lent h)
-  accepted-within lent (writes r v) e = left-registers-within d (writePortAnswer image (lent .registers) r v) (lent .registers) _ e (λ n h. write-within (lent .registers) r v h)
-  accepted-within lent (runs n) e = left-within d (runAnswer image lent n) lent _ e (λ c h. run-within lent n h)
+  accepted-within lent resets e = left-holds registers-within (resetAnswer image lent) lent _ e (λ n h. reset-within lent h)
+  accepted-within lent (writes r v) e = left-holds (WithinWidths d) (writePortAnswer image (lent .registers) r v) (lent .registers) _ e (λ n h. write-within (lent .registers) r v h)
+  accepted-within lent (runs n) e = left-holds registers-within (runAnswer image lent n) lent _ e (λ c h. run-within lent n h)
 
   -- ---- lists
   -- a call that is refused leaves what was within the widths
@@ -120,17 +110,17 @@ module _ (image : List ℕ) where
       go : (eqb (numbersOf (perform image lent call .answer) .number) 0 ≡ true) ⊎ (eqb (numbersOf (perform image lent call .answer) .number) 0 ≡ false)
           → WithinWidths d (perform image lent call .lent .registers)
       go (inl e) = accepted-within lent call (equal-iff .0 e)
-      go (inr e) = rw (refused-lent image lent call (λ z. true-or-false (eqb (numbersOf (perform image lent call .answer) .number) 0) (equal-iff .1 z) e)) within
+      go (inr e) = rw (call-exactly image lent call .keeps (λ z. true-or-false (eqb (numbersOf (perform image lent call .answer) .number) 0) (equal-iff .1 z) e)) within
 
   calls-within : (calls : List Call) (lent : Lent) → WithinWidths d (lent .registers) → WithinWidths d (atEnd image lent calls .registers)
   unfolding atEnd
   calls-within [] lent within = within
   calls-within (call ∷ more) lent within = calls-within more (perform image lent call .lent) (call-within lent call within)
 
-  -- from the start of a use, whatever calls are made
-  pub list-within : verdict image ≡ Accepted 0 → (level : ℕ) (u : Use d) (calls : List Call) → WithinWidths d (atEnd image (start image level u) calls .registers)
+  -- from a start, whatever calls are made
+  pub list-within : verdict image ≡ Accepted 0 → (level : ℕ) (begins : Beginning d) (calls : List Call) → WithinWidths d (atEnd image (start image level begins) calls .registers)
   unfolding start withUnseen lentOf areasOf
-  list-within accepted level u calls = calls-within calls (start image level u) (rw (reset-leaves image accepted (u .lent) (u .lengths), back) begun)
+  list-within accepted level begins calls = calls-within calls (start image level begins) (rw (reset-leaves image accepted (begins .lent) (begins .lengths), back) begun)
     where
       keeps : StructureKeeps d
       keeps = verdict-exact image .0 accepted .design .structure
@@ -143,5 +133,5 @@ module _ (image : List ℕ) where
           ap (λ (n : ℕ). wordsOf n (bytesOf values)) (sym (reset-length d))
           ∙ words-of-bytes-bounded values (fitting-bounded d keeps values (reset-fitting d keeps))
 
-      begun : WithinWidths d (bytesOf (givenUnseen d level (u .given) values))
-      begun = written-within d keeps (givenUnseen d level (u .given) values) (length-given d level (u .given) values) (given-fitting d level (u .given) values (reset-fitting d keeps) (u .within))
+      begun : WithinWidths d (bytesOf (givenUnseen d level (begins .given) values))
+      begun = written-within d keeps (givenUnseen d level (begins .given) values) (length-given d level (begins .given) values) (given-fitting d level (begins .given) values (reset-fitting d keeps) (begins .within))

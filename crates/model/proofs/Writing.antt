@@ -62,7 +62,7 @@ module _ (image registers : List ℕ) (r v : ℕ) {c : ℕ} (accepted : writePor
       writable false e = absurd (at-is-not-nowhere r e)
 
 pub changes-only : (image registers : List ℕ) → AreBytes registers → (r v : ℕ)
-    → ChangesOnly r v registers (numbersOf (writePort image registers r v .answer)) (writePort image registers r v .registers)
+    → ChangesOnly r v registers (numbersOf (writePort image registers r v .answer)) (writePort image registers r v .lent)
 unfolding writePort
 changes-only image registers bytes r v = go (writePortAnswer image registers r v) refl
   where
@@ -70,7 +70,7 @@ changes-only image registers bytes r v = go (writePortAnswer image registers r v
     words = wordsOf (length (designOf image .registers)) registers
 
     go : (a : Answer) → writePortAnswer image registers r v ≡ a
-        → ChangesOnly r v registers (numbersOf (writePort image registers r v .answer)) (writePort image registers r v .registers)
+        → ChangesOnly r v registers (numbersOf (writePort image registers r v .answer)) (writePort image registers r v .lent)
     go (Refused q p) e = rw e (nothing-changed r v registers _ (no-number-zero q))
     go (Accepted c) e =
         let there = register-there image registers r v e in

@@ -23,13 +23,20 @@ pub record Lent : Type 0 where
   pub registers : List ℕ
   pub targets : List ℕ
 
--- what a call leaves: its answer, and every byte of the two areas
-pub record Left : Type 0 where
+-- what a call leaves: its answer, and every byte of what it was lent
+pub record Left (A : Type 0) : Type 0 where
   pub answer : Answer
-  pub lent : Lent
+  pub lent : A
 
--- On an acceptance the areas are as the call makes them. On a refusal "No lent byte changes."
-abbrev pub leaves : Answer → Lent → Lent → Left
+-- what a call leaves that is lent a part of what the host has: the rest stays
+abbrev pub leftIn : {A B : Type 0} → (A → B) → Left A → Left B
+leftIn whole left = record { answer = left .answer; lent = whole (left .lent) }
+
+abbrev pub leftAs : {A : Type 0} → Answer → A → Left A
+leftAs answer lent = record { answer = answer; lent = lent }
+
+-- On an acceptance what was lent is as the call makes it. On a refusal "No lent byte changes."
+abbrev pub leaves : {A : Type 0} → Answer → A → A → Left A
 leaves (Accepted count) lent made = record { answer = Accepted count; lent = made }
 leaves (Refused refusal place) lent made = record { answer = Refused refusal place; lent = lent }
 
@@ -109,7 +116,7 @@ module _ (image : List ℕ) (lent : Lent) where
   unfoldable pub resetAnswer : Answer
   resetAnswer = verdict image before lengthAnswer (designOf image) lent
 
-  unfoldable pub reset : Left
+  unfoldable pub reset : Left Lent
   reset = leaves resetAnswer lent (lentOf (resetAreas (designOf image)))
 
   -- "Run answers the cycles done, always the number requested"
@@ -123,18 +130,10 @@ module _ (image : List ℕ) (lent : Lent) where
       before cyclesAnswer n
       before Accepted n
 
-  unfoldable pub run : ℕ → Left
+  unfoldable pub run : ℕ → Left Lent
   run n = leaves (runAnswer n) lent (lentOf (afterCycles (designOf image) n (areasOf (designOf image) lent)))
 
 -- port write: "it takes the register area only"
-pub record LeftRegisters : Type 0 where
-  pub answer : Answer
-  pub registers : List ℕ
-
-abbrev pub leavesRegisters : Answer → List ℕ → List ℕ → LeftRegisters
-leavesRegisters (Accepted count) registers made = record { answer = Accepted count; registers = made }
-leavesRegisters (Refused refusal place) registers made = record { answer = Refused refusal place; registers = registers }
-
 module _ (image registers : List ℕ) (r v : ℕ) where
   -- "port write judges 14 before 13"
   unfoldable pub writePortAnswer : Answer
@@ -146,5 +145,5 @@ module _ (image registers : List ℕ) (r v : ℕ) where
       before valueAnswer (designOf image) r v
 
   -- "An accepted port write sets its register to its value and changes nothing else."
-  unfoldable pub writePort : LeftRegisters
-  writePort = leavesRegisters writePortAnswer registers (bytesOf (set (wordsOf (length (designOf image .registers)) registers) r v))
+  unfoldable pub writePort : Left (List ℕ)
+  writePort = leaves writePortAnswer registers (bytesOf (set (wordsOf (length (designOf image .registers)) registers) r v))

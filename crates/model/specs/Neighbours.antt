@@ -1,18 +1,14 @@
--- 02, E14, 'A neighbour edits his design': what two designs have in common at a level, and demand 3 across the two. 01's demand 3 is the case of one design.
-use Prim.Native.Nat.{ℕ, _<_}
-use mathlib.Core.Path.{_≡_}
+-- 02, E14, 'A neighbour edits his design': what two designs have in common at a level. Demand 3 across the two stands where lists of all calls do (crate `lists_model`).
+use Prim.Native.Nat.{ℕ}
 use mathlib.Core.Bool.{Bool, _&&_, not, cond}
 use mathlib.Core.List.{List, [], _∷_, map}
 use lib.Dec.{ltb}
 use lib.ListN.{length}
-use Rattle.model.specs.declared.Answer.the-variants.{Accepted}
 use Rattle.model.specs.Limits.{parameterLabel}
 use Rattle.model.specs.Indices.{tabulate}
-use Rattle.model.specs.Image.{Design, Register, State, designOf}
+use Rattle.model.specs.Image.{Design, Register, State}
 use Rattle.model.specs.Lattice.{flowsTo, stateLabel}
 use Rattle.model.specs.Trees.{Expr, constant, register, binary, Cmd, skip, assign, sequence, fall, goto, branch, bodyOf}
-use Rattle.model.specs.Verdict.{verdict}
-use Rattle.model.specs.Parties.{Use, remains, views, seenAtEnd}
 
 -- "the same commands", apart from node numbers: an expression and a command with 0 for every node number
 unfoldable pub unnumberedExpr : Expr → Expr
@@ -68,17 +64,3 @@ common d level =
       states = map withoutCommand (d .states);
       bodies = tabulate (commonBody d level) (length (d .states));
     }
-
--- Demand 3 across two designs: "Then that level sees equal runs across the two designs, under the port and reset premises that already hold within one." The second
--- image is the first with some bodies edited; each list is made on its own image.
-abbrev pub IndependentNeighbours : Type 0
-IndependentNeighbours =
-    (image edited : List ℕ)
-    → verdict image ≡ Accepted 0
-    → verdict edited ≡ Accepted 0
-    → (level : ℕ)
-    → level < length (designOf image .rows)
-    → common (designOf image) level ≡ common (designOf edited) level
-    → (one : Use (designOf image)) (other : Use (designOf edited))
-    → remains image level one ≡ remains edited level other
-    → (views image level one ≡ views edited level other) × (seenAtEnd image level one ≡ seenAtEnd edited level other)

@@ -15,7 +15,7 @@ use Rattle.model.specs.Verdict.{verdict}
 use Rattle.model.specs.Values.{wordsOf, bytesOf}
 use Rattle.model.specs.Bindings.{ownBound, labelWith}
 use Rattle.model.specs.Machine.{Cycle, cycles}
-use Rattle.model.specs.Calls.{Lent, Left, LeftRegisters, areasOf, reset, writePort, run}
+use Rattle.model.specs.Calls.{Lent, Left, leftIn, areasOf, reset, writePort, run}
 
 -- "lists of three calls: reset, port write and run", "with any register numbers, values and cycle counts"
 pub data Call : Type 0 where
@@ -23,20 +23,23 @@ pub data Call : Type 0 where
   writes : ℕ → ℕ → Call
   runs : ℕ → Call
 
--- what a call leaves, made on the areas as they are lent
-abbrev pub withTargets : LeftRegisters → List ℕ → Left
-withTargets left targets = record { answer = left .answer; lent = record { registers = left .registers; targets = targets } }
+-- the areas with other registers
+abbrev pub withTargets : List ℕ → List ℕ → Lent
+withTargets targets registers = record { registers = registers; targets = targets }
 
-unfoldable pub perform : List ℕ → Lent → Call → Left
+-- what a call leaves, made on the areas as they are lent; a port write is not lent the targets
+unfoldable pub perform : List ℕ → Lent → Call → Left Lent
 perform image lent resets = reset image lent
-perform image lent (writes r v) = withTargets (writePort image (lent .registers) r v) (lent .targets)
+perform image lent (writes r v) = leftIn (withTargets (lent .targets)) (writePort image (lent .registers) r v)
 perform image lent (runs n) = run image lent n
 
--- What an accepted call does, for the comparison: a run of n counts as n cycles. A refused call does nothing.
+-- What an accepted call does, for the comparison: a run of n counts as n cycles. A refused call does nothing. The last two are of the calls that 02, E9 adds.
 pub data Event : Type 0 where
   wasReset : Event
   wasWritten : ℕ → ℕ → Event
   cycled : Cycle → Event
+  journalled : Cycle → Event
+  steppedBack : Event
 
 unfoldable pub eventsOf : Answer → List ℕ → Lent → Call → List Event
 eventsOf (Refused refusal place) image lent call = []
@@ -50,6 +53,15 @@ events image lent [] = []
 events image lent (call ∷ more) =
     let left = perform image lent call in
     eventsOf (left .answer) image lent call ++ events image (left .lent) more
+
+-- the cycles among what was done
+unfoldable pub cyclesOf : List Event → List Cycle
+cyclesOf [] = []
+cyclesOf (wasReset ∷ more) = cyclesOf more
+cyclesOf (wasWritten r v ∷ more) = cyclesOf more
+cyclesOf (cycled c ∷ more) = c ∷ cyclesOf more
+cyclesOf (journalled c ∷ more) = c ∷ cyclesOf more
+cyclesOf (steppedBack ∷ more) = cyclesOf more
 
 -- the areas at the end of a list
 unfoldable pub atEnd : List ℕ → Lent → List Call → Lent
@@ -71,6 +83,8 @@ pub data Remaining : Type 0 where
   aReset : Remaining
   aWrite : ℕ → ℕ → Remaining
   aCycle : Remaining
+  aJournalledCycle : Remaining
+  aStepBack : Remaining
 
 -- What the party at a level sees.
 module _ (d : Design) (level : ℕ) where
@@ -92,12 +106,12 @@ module _ (d : Design) (level : ℕ) where
   walkSeen bindings (s ∷ more) =
       cond (stateSeen bindings s) (record { state = s; bound = ownBound d bindings s } ∷ walkSeen bindings more) (walkSeen bindings more)
 
+  abbrev pub shown : Cycle → Seen
+  shown c = record { values = valuesSeen (c .after .registers); walk = walkSeen (c .ranWith) (c .walk) }
+
   -- "for each cycle in order, the values .. after it, and its walk .."
   unfoldable pub view : List Event → List Seen
-  view [] = []
-  view (wasReset ∷ more) = view more
-  view (wasWritten r v ∷ more) = view more
-  view (cycled c ∷ more) = record { values = valuesSeen (c .after .registers); walk = walkSeen (c .ranWith) (c .walk) } ∷ view more
+  view happened = map shown (cyclesOf happened)
 
   -- "with refused calls and port writes to registers not at or below the level struck out, the same resets, port writes (register and value) and cycles
   -- remain"
@@ -106,6 +120,8 @@ module _ (d : Design) (level : ℕ) where
   remaining (wasReset ∷ more) = aReset ∷ remaining more
   remaining (wasWritten r v ∷ more) = cond (registerSeen r) (aWrite r v ∷ remaining more) (remaining more)
   remaining (cycled c ∷ more) = aCycle ∷ remaining more
+  remaining (journalled c ∷ more) = aJournalledCycle ∷ remaining more
+  remaining (steppedBack ∷ more) = aStepBack ∷ remaining more
 
   -- registers that are not seen take any values
   unfoldable pub givenUnseen : (ℕ → ℕ) → List ℕ → List ℕ
@@ -116,12 +132,16 @@ pub record RightLengths (d : Design) (lent : Lent) : Type 0 where
   pub registers : length (lent .registers) ≡ wordLength * length (d .registers)
   pub targets : length (lent .targets) ≡ targetLength * length (d .states)
 
--- One use of the box: two areas, the values given to registers, and a list of calls of any length. 02, E2: "registers set freely stay within their widths".
-pub record Use (d : Design) : Type 0 where
+-- What a list begins with: two areas, and the values given to registers. 02, E2: "registers set freely stay within their widths".
+pub record Beginning (d : Design) : Type 0 where
   pub lent : Lent
   pub lengths : RightLengths d lent
   pub given : ℕ → ℕ
   pub within : (r : ℕ) → r < length (d .registers) → given r < 2 ^ registerAt d r .width
+
+-- One use of the box: what it begins with, and a list of calls of any length.
+pub record Use (d : Design) : Type 0 where
+  pub begins : Beginning d
   pub calls : List Call
 
 -- "then the registers not at or below the level are given any values", of the areas that a reset left
@@ -130,14 +150,14 @@ withUnseen image level given left =
     let d = designOf image in
     record { registers = bytesOf (givenUnseen d level given (wordsOf (length (d .registers)) (left .registers))); targets = left .targets }
 
-module _ (image : List ℕ) (level : ℕ) (u : Use (designOf image)) where
-  -- "Each starts with a reset; then the registers not at or below the level are given any values"
-  unfoldable pub start : Lent
-  start = withUnseen image level (u .given) (reset image (u .lent) .lent)
+-- "Each starts with a reset; then the registers not at or below the level are given any values"
+unfoldable pub start : (image : List ℕ) → ℕ → Beginning (designOf image) → Lent
+start image level begins = withUnseen image level (begins .given) (reset image (begins .lent) .lent)
 
+module _ (image : List ℕ) (level : ℕ) (u : Use (designOf image)) where
   -- "then come the calls of the list"
   unfoldable pub history : List Event
-  history = events image start (u .calls)
+  history = events image (start image level (u .begins)) (u .calls)
 
   unfoldable pub remains : List Remaining
   remains = remaining (designOf image) level history
@@ -146,7 +166,7 @@ module _ (image : List ℕ) (level : ℕ) (u : Use (designOf image)) where
   views = view (designOf image) level history
 
   unfoldable pub seenAtEnd : List ℕ
-  seenAtEnd = valuesSeen (designOf image) level (wordsOf (length (designOf image .registers)) (atEnd image start (u .calls) .registers))
+  seenAtEnd = valuesSeen (designOf image) level (wordsOf (length (designOf image .registers)) (atEnd image (start image level (u .begins)) (u .calls) .registers))
 
 -- Demand 3: "Both lists use one accepted image"; "Matching lists have equal views, and equal registers at or below the level at their end."
 -- "a level is one of the labels"

@@ -18,6 +18,7 @@ use Rattle.model.specs.Labelling.{labelsOf}
 use Rattle.model.specs.Parameters.{hasParameters}
 use Rattle.model.specs.Rules.{FlowsTo, Keeps}
 use Rattle.model.specs.Verdict.{_before_, refusedAt, atZeroUnless, structure, verdict}
+use Rattle.model.specs.Calls.{Left, leaves}
 
 -- ---- what a raising is
 -- byte i of an image is the label of an inner register
@@ -100,20 +101,7 @@ abbrev pub accepts : Answer → Bool
 accepts (Accepted count) = true
 accepts (Refused refusal place) = false
 
--- what a call that writes a second area leaves: its answer, and every byte of this area
-pub record LeftOut : Type 0 where
-  pub answer : Answer
-  pub out : List ℕ
-
--- the same of an answer and bytes that are at hand
-abbrev pub leftOutAs : Answer → List ℕ → LeftOut
-leftOutAs answer out = record { answer = answer; out = out }
-
--- "No lent byte changes" on a refusal
-abbrev pub leavesOut : Answer → List ℕ → List ℕ → LeftOut
-leavesOut (Accepted count) out made = record { answer = Accepted count; out = made }
-leavesOut (Refused refusal place) out made = record { answer = Refused refusal place; out = out }
-
+-- The image is only read; what is lent to be written is a second area.
 module _ (image out : List ℕ) where
   -- "Given an image that passes all checks up to 9, 16 included"; "An output area not as long as the image is refusal 14, judged after the image checks. It
   -- refuses with 18, place 0 and after 14, exactly if no accepted raising exists." 02, E8: "raising refuses with 20, place 0, after its image checks and before
@@ -125,5 +113,5 @@ module _ (image out : List ℕ) where
       before refusedAt Area (atZeroUnless (eqb (length out) (length image)))
       before refusedAt NoRaising (atZeroUnless (accepts (verdict (raisedImage image))))
 
-  unfoldable pub raise : LeftOut
-  raise = leavesOut raiseAnswer out (raisedImage image)
+  unfoldable pub raise : Left (List ℕ)
+  raise = leaves raiseAnswer out (raisedImage image)

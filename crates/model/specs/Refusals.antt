@@ -16,8 +16,8 @@ use Rattle.model.specs.Flow.{labelsRead, namedLabel}
 use Rattle.model.specs.Rules.{DirectoryKeeps, LabelKeeps, RegisterKeeps, StateKeeps, CommandKeeps, ExpressionKeeps, CommandUsedOnce, ExpressionUsedOnce, CommandDepthKeeps, ExpressionDepthKeeps, ChildLabelKeeps, NamesNoPort, ParametersKeep, Within}
 use Rattle.model.specs.Standing.{ChildOf, ShapeKeeps, ScopeKeeps, EachFlow}
 use Rattle.model.specs.Values.{wordsOf}
-use Rattle.model.specs.Answers.{Numbers, numberOf}
-use Rattle.model.specs.Calls.{Lent, targetsIn, bindingsIn}
+use Rattle.model.specs.Answers.{Numbers, numberOf, numbersOf}
+use Rattle.model.specs.Calls.{Lent, Left, targetsIn, bindingsIn}
 use Rattle.model.specs.Raising.{AcceptedRaising}
 use Rattle.model.specs.Parties.{RightLengths, Call, resets, writes, runs}
 
@@ -193,3 +193,16 @@ callCount (runs n) = n
 pub record AnswersBy (passes : List Pass) (n : ℕ) (numbers : Numbers) : Type 0 where
   pub accepted : (numbers ≡ record { number = 0; place = 0; count = n }) ↔ AllKept passes
   pub refused : (refusal : Refusal) (place : ℕ) → (numbers ≡ record { number = numberOf refusal; place = place; count = 0 }) ↔ FirstBroken passes refusal place
+
+-- what a host is given by a call: the numbers of its answer, and every byte of what it lent
+pub record NumbersLeft (A : Type 0) : Type 0 where
+  pub numbers : Numbers
+  pub lent : A
+
+abbrev pub inNumbers : {A : Type 0} → Left A → NumbersLeft A
+inNumbers left = record { numbers = numbersOf (left .answer); lent = left .lent }
+
+-- 01, demands 1 and 2, of one call: it answers by its table, with this count where it is accepted, and "No lent byte changes" on a refusal.
+pub record Exactly {A : Type 0} (passes : List Pass) (n : ℕ) (lent : A) (left : NumbersLeft A) : Type 0 where
+  pub answers : AnswersBy passes n (left .numbers)
+  pub keeps : (left .numbers .number ≡ 0 → ⊥) → left .lent ≡ lent

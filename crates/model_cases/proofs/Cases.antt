@@ -16,8 +16,8 @@ use Rattle.model.specs.Values.{apply}
 use Rattle.model.specs.Machine.{goneTo, cycle, afterCycles}
 use Rattle.model.specs.Calls.{leaves, areasOf, lentOf, check, reset, runAnswer, run}
 use Rattle.model.specs.Listing.{bytesOfText, decimal, lines, listing}
-use Rattle.model.specs.Parties.{Call, RanState, Seen, resets, writes, runs, perform, events, atEnd, view}
-use Rattle.model.proofs.Opened.{checks, everything, sights, accepted, refused, judged, told, lent, lentBound, areas, faultOfRows, cyclesOf, walks, pairOf, anyLent, resetLent, shortLent, longLent, longTargets, unsoundLent, groupsLent, oneGroupLent}
+use Rattle.model.specs.Parties.{Call, RanState, Seen, resets, writes, runs, perform, events, atEnd, view, cyclesOf}
+use Rattle.model.proofs.Opened.{checks, everything, sights, accepted, refused, judged, told, lent, lentBound, areas, faultOfRows, walks, pairOf, anyLent, resetLent, shortLent, longLent, longTargets, unsoundLent, groupsLent, oneGroupLent}
 use Rattle.model.proofs.Designs.{lease, deep, deepCondition, twoGroups, oneGroup, tower, ofRows, smallest, kindTwo, ownParent, noCommands, kindSix, expressionKindTwelve, sharedCommand, twiceInSequence, halfTransferring, halfInside, transfersFirst, onlySkips, rootGoes, gotoRoot, rootAlone, portAssigned, lowUnderHigh, highToLow, acrossLabels, secretBranch, flatLease, secretGotos, gotoBelowAssign, secretFalls, fallOrGoto}
 
 -- 01, 'Proved cases, one table'.

@@ -13,7 +13,6 @@ use Rattle.model.specs.Limits.{nodeLength}
 use Rattle.model.specs.Image.{Design, designOf}
 use Rattle.model.specs.Rules.{DirectoryKeeps, Keeps}
 use Rattle.model.specs.Verdict.{_before_, refusedAt, verdict}
-use Rattle.model.specs.Raising.{LeftOut, leftOutAs}
 use Rattle.design.specs.declared.Design.{Design as Described}
 use Rattle.design.specs.Describes.{Describes}
 use Rattle.design.specs.Kept.{Structured}
@@ -30,6 +29,7 @@ use Rattle.pruning_steps.proofs.NumberingRules.{marked-closed, marked-numbered}
 use Rattle.pruning.specs.Tables.{AllMarked, AllNumbered, Resized, Result}
 use Rattle.pruning.specs.Stages.{pruneOn}
 use Rattle.pruning.proofs.WritingRules.{states-left, commands-left, expressions-left, pruned-begin, result-length}
+use Rattle.model.specs.Calls.{leftAs, Left}
 
 -- ---- an accepted image
 pub accepted-directory : {image : List ℕ} → Keeps image → DirectoryKeeps image
@@ -102,20 +102,20 @@ module _ {image : List ℕ} {x : Described} (here : Structured image x) where
     pub room-is : (out : List ℕ) → n ≤ length out → length (prunedImage image) ≤ length out
     room-is out h = omega (arith, length-is)
 
-    pub area-refuses : (out : List ℕ) → length out < n → leftOutAs (Refused OutputArea 0) out ≡ pruneOn image out
+    pub area-refuses : (out : List ℕ) → length out < n → leftAs (Refused OutputArea 0) out ≡ pruneOn image out
     unfolding pruneOn refusedAt _before_
     area-refuses out h = rw (← length-is, lt-leb n (length out) h)
 
-    pub area-passes : {after : List ℕ} (out : List ℕ) → after ≡ over (prunedImage image) out → n ≤ length out → leftOutAs (Accepted n) after ≡ pruneOn image out
+    pub area-passes : {after : List ℕ} (out : List ℕ) → after ≡ over (prunedImage image) out → n ≤ length out → leftAs (Accepted n) after ≡ pruneOn image out
     unfolding pruneOn refusedAt _before_
     area-passes out e h = rw (e, ← length-is, le-leb n (length out) h)
 
 -- ---- the whole
 module _ (image : List ℕ) {a : Answer} (is : a ≡ verdict image) where
-  pub verdict-refuses : {r : Refusal} {p : ℕ} (out : List ℕ) → a ≡ Refused r p → leftOutAs (Refused r p) out ≡ prune image out
+  pub verdict-refuses : {r : Refusal} {p : ℕ} (out : List ℕ) → a ≡ Refused r p → leftAs (Refused r p) out ≡ prune image out
   unfolding prune pruneAnswer _before_
   verdict-refuses out h = rw (← is, h)
 
-  pub verdict-passes : {left : LeftOut} {n : ℕ} (out : List ℕ) → a ≡ Accepted n → left ≡ pruneOn image out → left ≡ prune image out
+  pub verdict-passes : {left : Left (List ℕ)} {n : ℕ} (out : List ℕ) → a ≡ Accepted n → left ≡ pruneOn image out → left ≡ prune image out
   unfolding prune pruneAnswer pruneOn _before_
   verdict-passes out h k = rw (← is, h) k

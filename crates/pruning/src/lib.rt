@@ -16,11 +16,11 @@ ghost use mathlib.Core.Path.{_≡_};
 ghost use Rattle.model.specs.Limits.{nodeLength};
 ghost use Rattle.model.specs.Image.{designOf};
 ghost use Rattle.model.specs.Rules.{Keeps};
-ghost use Rattle.model.specs.Raising.{leftOutAs};
 ghost use Rattle.design.specs.Kept.{Structured};
 ghost use Rattle.pruning_model.specs.Calls.{prune as pruneOf};
 ghost use Rattle.pruning.specs.Tables.{AllMarked, AllNumbered, Resized, Result};
 ghost use Rattle.pruning.specs.Stages.{pruneOn};
+ghost use Rattle.model.specs.Calls.{leftAs};
 
 // Where so many nodes end that begin at a place.
 fn nodes_end(at: usize, nodes: usize) -> usize
@@ -66,7 +66,7 @@ fn prune_numbered(
         × Result (designOf (now image)) result
         × AllMarked (designOf (now image)) design (now reached) (now commands) (now expressions)
         × AllNumbered (designOf (now image)) design (now «state_numbers») (now «command_numbers») (now «expression_numbers») ⌝ }
-    ensures { λ a. ⌜ leftOutAs a (now (out .exit)) ≡ pruneOn (now (image .entry)) (now (out .entry)) ⌝ }
+    ensures { λ a. ⌜ leftAs a (now (out .exit)) ≡ pruneOn (now (image .entry)) (now (out .entry)) ⌝ }
 {
     let length = nodes_end(result.expressions_at, result.expressions);
     if out.len() < length {
@@ -97,7 +97,7 @@ fn prune_marked(
     out: &mut [u8],
 ) -> Answer
     requires { ⌜ Structured (now image) design × AllMarked (designOf (now image)) design (now reached) (now commands) (now expressions) ⌝ }
-    ensures { λ a. ⌜ leftOutAs a (now (out .exit)) ≡ pruneOn (now (image .entry)) (now (out .entry)) ⌝ }
+    ensures { λ a. ⌜ leftAs a (now (out .exit)) ≡ pruneOn (now (image .entry)) (now (out .entry)) ⌝ }
 {
     let mut state_numbers = [0u16; Design::STATES];
     let mut command_numbers = [0u16; Design::COMMANDS];
@@ -123,7 +123,7 @@ fn prune_marked(
 // Pruning an accepted image.
 fn prune_accepted(image: &[u8], out: &mut [u8]) -> Answer
     requires { ⌜ Keeps (now image) ⌝ }
-    ensures { λ a. ⌜ leftOutAs a (now (out .exit)) ≡ pruneOn (now (image .entry)) (now (out .entry)) ⌝ }
+    ensures { λ a. ⌜ leftAs a (now (out .exit)) ≡ pruneOn (now (image .entry)) (now (out .entry)) ⌝ }
 {
     let design = Design::read(image);
     let mut reached = [0u8; Design::STATES];
@@ -136,7 +136,7 @@ fn prune_accepted(image: &[u8], out: &mut [u8]) -> Answer
 }
 
 pub fn prune(image: &[u8], out: &mut [u8]) -> Answer
-    ensures { λ a. ⌜ leftOutAs a (now (out .exit)) ≡ pruneOf (now (image .entry)) (now (out .entry)) ⌝ }
+    ensures { λ a. ⌜ leftAs a (now (out .exit)) ≡ pruneOf (now (image .entry)) (now (out .entry)) ⌝ }
 {
     let verdict = checker::verdict(image);
     match verdict {

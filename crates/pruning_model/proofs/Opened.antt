@@ -3,7 +3,7 @@ use Prim.Native.Nat.{ℕ}
 use mathlib.Core.List.{List}
 use Rattle.model.specs.Indices.{joinEach}
 use Rattle.model.specs.Answers.{Numbers, numbersOf}
-use Rattle.model.specs.Raising.{LeftOut}
+use Rattle.model.specs.Calls.{Left}
 use Rattle.model.proofs.Opened.{everything}
 use Rattle.encoding.specs.Encoding.{word16Bytes, word32Bytes, registerBytes, stateBytes, nodeBytes, recordsBytes, directoryBytes, imageOf}
 use Rattle.encoding.specs.Parts.{over}
@@ -18,5 +18,5 @@ unfolding everything word16Bytes word32Bytes registerBytes stateBytes nodeBytes 
 pruning = 0
 
 -- all that the call leaves: what the host is told, and every byte of the output area
-abbrev pub told : LeftOut → Numbers × List ℕ
-told left = (numbersOf (left .answer), left .out)
+abbrev pub told : Left (List ℕ) → Numbers × List ℕ
+told left = (numbersOf (left .answer), left .lent)

@@ -12,7 +12,7 @@ use Rattle.model.specs.Answers.{numbersOf}
 use Rattle.model.specs.Verdict.{verdict}
 use Rattle.model.specs.Trees.{bodyOf}
 use Rattle.model.specs.Rules.{HoldsFall, DefaultChild}
-use Rattle.model.specs.Refusals.{AnswersBy}
+use Rattle.model.specs.Refusals.{inNumbers, Exactly}
 use Rattle.pruning_model.specs.Reached.{HoldsGoto, Reached, reached}
 use Rattle.pruning_model.specs.Pruned.{prunedImage}
 use Rattle.pruning_model.specs.Runs.{PrunedRunsAlike}
@@ -20,7 +20,7 @@ use Rattle.pruning_model.specs.Calls.{prune}
 use Rattle.pruning_model.specs.Rules.{pruneTable}
 use Rattle.pruning_model.proofs.Reached.{reached-least}
 use Rattle.pruning_model.proofs.Images.{image-reached, pruned-accepted, pruned-runs, image-twice, image-whole, image-shorter}
-use Rattle.pruning_model.proofs.Exact.{prune-answers, prune-refused}
+use Rattle.pruning_model.proofs.Exact as exact
 use Rattle.pruning_model.proofs.Written as written
 
 -- "Reached states are the root, the default child of a reached state that holds a fall, and the siblings named by a reached state's gotos.": what is computed of an accepted
@@ -37,19 +37,15 @@ least-closed = reached-least
 
 -- "It refuses with 24, after the image checks, an output area shorter than the result.": accepted with the length of the result as its count exactly when every rule of its
 -- table is kept, and refused exactly by the first that is broken.
-pub prune-exactly : (image out : List ℕ) → AnswersBy (pruneTable image out) (length (prunedImage image)) (numbersOf (prune image out .answer))
-prune-exactly = prune-answers
-
--- 01, demand 1: "No lent byte changes" on a refusal.
-pub prune-refused-leaves : (image out : List ℕ) → (numbersOf (prune image out .answer) .number ≡ 0 → ⊥) → prune image out .out ≡ out
-prune-refused-leaves = prune-refused
+pub prune-exactly : (image out : List ℕ) → Exactly (pruneTable image out) (length (prunedImage image)) out (inNumbers (prune image out))
+prune-exactly = exact.prune-exactly
 
 -- "Write the image with only these": at the beginning of the output area,
-pub prune-writes : (image out : List ℕ) → numbersOf (prune image out .answer) .number ≡ 0 → take (length (prunedImage image)) (prune image out .out) ≡ prunedImage image
+pub prune-writes : (image out : List ℕ) → numbersOf (prune image out .answer) .number ≡ 0 → take (length (prunedImage image)) (prune image out .lent) ≡ prunedImage image
 prune-writes = written.prune-writes
 
 -- "and output bytes beyond the result keep their values."
-pub beyond-keeps : (image out : List ℕ) (i : ℕ) → length (prunedImage image) ≤ i → byteAt (prune image out .out) i ≡ byteAt out i
+pub beyond-keeps : (image out : List ℕ) (i : ℕ) → length (prunedImage image) ≤ i → byteAt (prune image out .lent) i ≡ byteAt out i
 beyond-keeps = written.beyond-keeps
 
 -- "It is accepted",

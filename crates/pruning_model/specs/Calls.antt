@@ -7,9 +7,9 @@ use Rattle.model.specs.declared.Refusal.the-variants.{OutputArea}
 use Rattle.model.specs.declared.Answer.{Answer}
 use Rattle.model.specs.declared.Answer.the-variants.{Accepted}
 use Rattle.model.specs.Verdict.{_before_, refusedAt, atZeroUnless, verdict}
-use Rattle.model.specs.Raising.{LeftOut, leavesOut}
 use Rattle.encoding.specs.Parts.{over}
 use Rattle.pruning_model.specs.Pruned.{prunedImage}
+use Rattle.model.specs.Calls.{Left, leaves}
 
 module _ (image out : List ℕ) where
   -- "It refuses with 24, after the image checks, an output area shorter than the result." Decided: at place 0, and the count is the bytes of the result.
@@ -20,5 +20,5 @@ module _ (image out : List ℕ) where
       before Accepted (length (prunedImage image))
 
   -- "Write the image with only these", and "output bytes beyond the result keep their values"
-  unfoldable pub prune : LeftOut
-  prune = leavesOut pruneAnswer out (over (prunedImage image) out)
+  unfoldable pub prune : Left (List ℕ)
+  prune = leaves pruneAnswer out (over (prunedImage image) out)

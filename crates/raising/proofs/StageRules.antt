@@ -20,7 +20,7 @@ use Rattle.model.specs.Labelling.{labelsOf, relabelled}
 use Rattle.model.specs.Flow.{flowAnswer}
 use Rattle.model.specs.Rules.{DirectoryKeeps, StructureKeeps}
 use Rattle.model.specs.Verdict.{_before_, refusedAt, structure, verdict}
-use Rattle.model.specs.Raising.{LeftOut, leftOutAs, putLabels, raisedTimes, raisedLabels, raisedImage, raiseAnswer, raise}
+use Rattle.model.specs.Raising.{putLabels, raisedTimes, raisedLabels, raisedImage, raiseAnswer, raise}
 use Rattle.model.proofs.Exact.{structure-exact}
 use Rattle.model.proofs.Laws.Relabelling.{length-labels, label-at}
 use Rattle.model.proofs.Raising.Images.{raised-verdict}
@@ -32,6 +32,7 @@ use Rattle.design.proofs.Laws.{registers-count}
 use Rattle.checker.proofs.Accepted.{structure-known}
 use Rattle.raising.specs.Passes.{Labelling, Raising}
 use Rattle.raising.specs.Stages.{raiseWithin, raisePlain, raiseOn}
+use Rattle.model.specs.Calls.{leftAs, Left}
 
 -- ---- once the structure is accepted
 pub structured-directory : (image : List ℕ) → structure image ≡ Accepted 0 → DirectoryKeeps image
@@ -79,16 +80,16 @@ module _ (image : List ℕ) {start labels : List ℕ} {f : Answer}
     verdict-is : f ≡ verdict (raisedImage image)
     verdict-is = flow ∙ ap (λ (l : List ℕ). flowAnswer (relabelled (designOf image) l)) labels-are ∙ sym (raised-verdict image h (plain .none))
 
-    pub within-refuses : {r : Refusal} {p : ℕ} (out : List ℕ) → f ≡ Refused r p → leftOutAs (Refused NoRaising 0) out ≡ raiseWithin image out
+    pub within-refuses : {r : Refusal} {p : ℕ} (out : List ℕ) → f ≡ Refused r p → leftAs (Refused NoRaising 0) out ≡ raiseWithin image out
     unfolding raiseWithin refusedAt
     within-refuses out e = rw (← verdict-is, e)
 
     pub within-accepts : {x : Design} {n : ℕ} {copied after : List ℕ} (out : List ℕ) → f ≡ Accepted n → after ≡ putLabels (x .«registers_at») labels copied → copied ≡ image → Describes image x
-        → leftOutAs (Accepted 0) after ≡ raiseWithin image out
+        → leftAs (Accepted 0) after ≡ raiseWithin image out
     unfolding raiseWithin refusedAt raisedImage
     within-accepts {copied = copied} {after = after} out e put copy describes =
         let made : after ≡ putLabels (offset image Registers) (raisedLabels (designOf image)) image = put ∙ ap (λ (place : ℕ). putLabels place labels copied) (describes .registers-at) ∙ ap₂ (λ (l b : List ℕ). putLabels (offset image Registers) l b) labels-are copy in
-        rw (← verdict-is, e) (ap (λ (bytes : List ℕ). leftOutAs (Accepted 0) bytes) made)
+        rw (← verdict-is, e) (ap (λ (bytes : List ℕ). leftAs (Accepted 0) bytes) made)
 
 -- the records of the registers stand inside the area
 pub labels-inside : {image start labels : List ℕ} {x : Design} (out : List ℕ) → Raising image x start → Labelling (designOf image) labels → out ≡ image → x .«registers_at» + registerLength * length labels ≤ length out
@@ -101,29 +102,29 @@ labels-inside out here own e =
     omega (arith, describes .registers, describes .registers-at, k .states-at, k .commands-at, k .expressions-at, k .ends, k .sections Registers .whole)
 
 -- ---- the area, and all that follows
-pub area-refuses : (image out : List ℕ) → (length out ≡ length image → ⊥) → leftOutAs (Refused Area 0) out ≡ raisePlain image out
+pub area-refuses : (image out : List ℕ) → (length out ≡ length image → ⊥) → leftAs (Refused Area 0) out ≡ raisePlain image out
 unfolding raisePlain refusedAt _before_
 area-refuses image out h = rw (ne-eqb (length out) (length image) h)
 
-pub area-passes : {left : LeftOut} (image out : List ℕ) → left ≡ raiseWithin image out → length out ≡ length image → left ≡ raisePlain image out
+pub area-passes : {left : Left (List ℕ)} (image out : List ℕ) → left ≡ raiseWithin image out → length out ≡ length image → left ≡ raisePlain image out
 unfolding raisePlain raiseWithin refusedAt _before_
 area-passes image out k h = rw (eq-eqb (length out) (length image) h) k
 
 -- ---- parameters, and all that follows
-pub parameters-refuse : {b : Bool} (image out : List ℕ) → b ≡ true → b ≡ hasParameters (designOf image) → leftOutAs (Refused RaiseParameters 0) out ≡ raiseOn image out
+pub parameters-refuse : {b : Bool} (image out : List ℕ) → b ≡ true → b ≡ hasParameters (designOf image) → leftAs (Refused RaiseParameters 0) out ≡ raiseOn image out
 unfolding raiseOn refusedAt _before_
 parameters-refuse image out h e = rw (← e, h)
 
-pub parameters-pass : {left : LeftOut} {b : Bool} (image out : List ℕ) → b ≡ false → b ≡ hasParameters (designOf image) → left ≡ raisePlain image out → left ≡ raiseOn image out
+pub parameters-pass : {left : Left (List ℕ)} {b : Bool} (image out : List ℕ) → b ≡ false → b ≡ hasParameters (designOf image) → left ≡ raisePlain image out → left ≡ raiseOn image out
 unfolding raiseOn raisePlain refusedAt _before_
 parameters-pass image out h e k = rw (← e, h) k
 
 -- ---- the whole
 module _ (image : List ℕ) {a : Answer} (is : a ≡ structure image) where
-  pub structure-refuses : {r : Refusal} {p : ℕ} (out : List ℕ) → a ≡ Refused r p → leftOutAs (Refused r p) out ≡ raise image out
+  pub structure-refuses : {r : Refusal} {p : ℕ} (out : List ℕ) → a ≡ Refused r p → leftAs (Refused r p) out ≡ raise image out
   unfolding raise raiseAnswer _before_
   structure-refuses out h = rw (← is, h)
 
-  pub structure-passes : {left : LeftOut} {n : ℕ} (out : List ℕ) → a ≡ Accepted n → left ≡ raiseOn image out → left ≡ raise image out
+  pub structure-passes : {left : Left (List ℕ)} {n : ℕ} (out : List ℕ) → a ≡ Accepted n → left ≡ raiseOn image out → left ≡ raise image out
   unfolding raise raiseAnswer raiseOn _before_
   structure-passes out h k = rw (← is, h) k

@@ -21,11 +21,12 @@ ghost use Rattle.model.specs.declared.Answer.the-variants.{Accepted};
 ghost use Rattle.model.specs.Image.{designOf};
 ghost use Rattle.model.specs.Labelling.{labelsOf};
 ghost use Rattle.model.specs.Verdict.{structure as structureOf};
-ghost use Rattle.model.specs.Raising.{leftOutAs, raisedTimes, raisedLabels, raise as raiseOf};
+ghost use Rattle.model.specs.Raising.{raisedTimes, raisedLabels, raise as raiseOf};
 ghost use Rattle.design.specs.Describes.{Describes};
 ghost use Rattle.design.specs.Scopes.{NoParameters};
 ghost use Rattle.raising.specs.Passes.{Raising};
 ghost use Rattle.raising.specs.Stages.{raiseWithin, raisePlain, raiseOn};
+ghost use Rattle.model.specs.Calls.{leftAs};
 
 // Raising with a table of the registers' own labels, into an area as long as the image. No state has a
 // parameter, so the table of what is in scope has only zeros.
@@ -34,7 +35,7 @@ fn raise_from(image: &[u8], design: Design, labels: &mut [u8], out: &mut [u8]) -
         × Raising (now image) design (now labels)
         × (now labels ≡ labelsOf (designOf (now image)))
         × (length (now out) ≡ length (now image)) ⌝ }
-    ensures { λ a. ⌜ (leftOutAs a (now (out .exit)) ≡ raiseWithin (now (image .entry)) (now (out .entry)))
+    ensures { λ a. ⌜ (leftAs a (now (out .exit)) ≡ raiseWithin (now (image .entry)) (now (out .entry)))
         × (now (labels .exit) ≡ raisedTimes (designOf (now (image .entry))) (length (designOf (now (image .entry)) .registers) * length (designOf (now (image .entry)) .rows)) (now (labels .entry))) ⌝ }
 {
     raise_labels(image, design, labels);
@@ -57,7 +58,7 @@ fn raise_within(image: &[u8], design: Design, labels: &mut [u8], out: &mut [u8])
         × NoParameters (designOf (now image))
         × (length (now labels) ≡ design .registers)
         × (length (now out) ≡ length (now image)) ⌝ }
-    ensures { λ a. ⌜ (leftOutAs a (now (out .exit)) ≡ raiseWithin (now (image .entry)) (now (out .entry)))
+    ensures { λ a. ⌜ (leftAs a (now (out .exit)) ≡ raiseWithin (now (image .entry)) (now (out .entry)))
         × (now (labels .exit) ≡ raisedLabels (designOf (now (image .entry)))) ⌝ }
 {
     register_labels(image, design, labels);
@@ -70,7 +71,7 @@ fn raise_sized(image: &[u8], design: Design, out: &mut [u8]) -> Answer
         × (structureOf (now image) ≡ Accepted 0)
         × NoParameters (designOf (now image))
         × (length (now out) ≡ length (now image)) ⌝ }
-    ensures { λ a. ⌜ leftOutAs a (now (out .exit)) ≡ raiseWithin (now (image .entry)) (now (out .entry)) ⌝ }
+    ensures { λ a. ⌜ leftAs a (now (out .exit)) ≡ raiseWithin (now (image .entry)) (now (out .entry)) ⌝ }
 {
     let count = design.registers;
     let mut table = [0u8; Design::REGISTERS];
@@ -80,7 +81,7 @@ fn raise_sized(image: &[u8], design: Design, out: &mut [u8]) -> Answer
 // Raising an image without parameters.
 fn raise_plain(image: &[u8], design: Design, out: &mut [u8]) -> Answer
     requires { ⌜ Describes (now image) design × (structureOf (now image) ≡ Accepted 0) × NoParameters (designOf (now image)) ⌝ }
-    ensures { λ a. ⌜ leftOutAs a (now (out .exit)) ≡ raisePlain (now (image .entry)) (now (out .entry)) ⌝ }
+    ensures { λ a. ⌜ leftAs a (now (out .exit)) ≡ raisePlain (now (image .entry)) (now (out .entry)) ⌝ }
 {
     if out.len() != image.len() {
         return Answer::Refused(Refusal::Area, 0);
@@ -91,7 +92,7 @@ fn raise_plain(image: &[u8], design: Design, out: &mut [u8]) -> Answer
 // Raising an image whose structure is accepted.
 fn raise_structured(image: &[u8], out: &mut [u8]) -> Answer
     requires { ⌜ structureOf (now image) ≡ Accepted 0 ⌝ }
-    ensures { λ a. ⌜ leftOutAs a (now (out .exit)) ≡ raiseOn (now (image .entry)) (now (out .entry)) ⌝ }
+    ensures { λ a. ⌜ leftAs a (now (out .exit)) ≡ raiseOn (now (image .entry)) (now (out .entry)) ⌝ }
 {
     let design = Design::read(image);
     if has_parameters(image, design) {
@@ -101,7 +102,7 @@ fn raise_structured(image: &[u8], out: &mut [u8]) -> Answer
 }
 
 pub fn raise(image: &[u8], out: &mut [u8]) -> Answer
-    ensures { λ a. ⌜ leftOutAs a (now (out .exit)) ≡ raiseOf (now (image .entry)) (now (out .entry)) ⌝ }
+    ensures { λ a. ⌜ leftAs a (now (out .exit)) ≡ raiseOf (now (image .entry)) (now (out .entry)) ⌝ }
 {
     let structure = checker::structure(image);
     match structure {

@@ -6,7 +6,7 @@ use mathlib.Core.List.{List, [], _∷_, map}
 use Rattle.model.specs.declared.Answer.{Answer}
 use Rattle.model.specs.Image.{designOf}
 use Rattle.model.specs.Calls.{Lent, reset}
-use Rattle.model.specs.Parties.{Call, perform, Event, wasReset, wasWritten, cycled, events, atEnd, RightLengths}
+use Rattle.model.specs.Parties.{Call, perform, Event, wasReset, wasWritten, cycled, events, atEnd, RightLengths, journalled, steppedBack}
 
 -- what a list of calls answers, call by call
 unfoldable pub answers : List ℕ → Lent → List Call → List Answer
@@ -24,6 +24,8 @@ ranUnder number [] = []
 ranUnder number (wasReset ∷ more) = ranUnder number more
 ranUnder number (wasWritten r v ∷ more) = ranUnder number more
 ranUnder number (cycled c ∷ more) = record { registers = c .after .registers; walk = map number (c .walk) } ∷ ranUnder number more
+ranUnder number (journalled c ∷ more) = record { registers = c .after .registers; walk = map number (c .walk) } ∷ ranUnder number more
+ranUnder number (steppedBack ∷ more) = ranUnder number more
 
 -- two lists of the same calls, one on an image and one on another, from a reset of areas of the right lengths
 pub record SameRuns (image other : List ℕ) (number : ℕ → ℕ) : Type 0 where

@@ -14,11 +14,11 @@ ghost use Prim.Native.Nat.{_<_};
 ghost use mathlib.Core.Path.{_≡_};
 ghost use lib.ListN.{length};
 ghost use Rattle.design.specs.Resets.{lends};
-ghost use Rattle.running.specs.Stages.{leftAs};
 ghost use Rattle.replay_model.specs.Traces.{recordAt};
 ghost use Rattle.replay_model.specs.Calls.{replay as replayOf};
 ghost use Rattle.replay_steps.specs.Judging.{judgedTo};
 ghost use Rattle.replay_steps.specs.Replaying.{Judged};
+ghost use Rattle.model.specs.Calls.{leftAs};
 
 // Record i.
 fn record_at(trace: &[TraceRecord], i: usize) -> TraceRecord
@@ -53,7 +53,7 @@ fn replay_records(
     judged: Judging,
 ) -> Answer
     requires { ⌜ Judged (now image) (lends (now registers) (now targets)) (now trace) prepared judged ⌝ }
-    ensures { λ a. ⌜ leftAs a (now (registers .exit)) (now (targets .exit)) ≡ replayOf (now (image .entry)) (lends (now (registers .entry)) (now (targets .entry))) (now (trace .entry)) (prepared .count) ⌝ }
+    ensures { λ a. ⌜ leftAs a (lends (now (registers .exit)) (now (targets .exit))) ≡ replayOf (now (image .entry)) (lends (now (registers .entry)) (now (targets .entry))) (now (trace .entry)) (prepared .count) ⌝ }
 {
     let kept = records_kept(prepared, judged, trace.len());
     let mut done = 0;
@@ -83,7 +83,7 @@ pub fn replay(
     trace: &[TraceRecord],
     count: u32,
 ) -> Answer
-    ensures { λ a. ⌜ leftAs a (now (registers .exit)) (now (targets .exit)) ≡ replayOf (now (image .entry)) (lends (now (registers .entry)) (now (targets .entry))) (now (trace .entry)) count ⌝ }
+    ensures { λ a. ⌜ leftAs a (lends (now (registers .exit)) (now (targets .exit))) ≡ replayOf (now (image .entry)) (lends (now (registers .entry)) (now (targets .entry))) (now (trace .entry)) count ⌝ }
 {
     let prepared = prepare(image, registers, targets, count);
     let begun = begin(prepared);

@@ -22,7 +22,7 @@ use Rattle.model.specs.Refusals.{Pass, _asks_, each, AllKept, imageTable, runTa
 use Rattle.model.proofs.Laws.Equivalences.{less-iff}
 use Rattle.model.proofs.Laws.Numbers.{no-number-zero}
 use Rattle.model.proofs.Laws.Broken.{all-kept-append}
-use Rattle.model.proofs.Refused.{call-answers}
+use Rattle.model.proofs.Refused.{call-exactly}
 use Rattle.model.proofs.Exact.{verdict-exact}
 use Rattle.model.proofs.Independence.Relation.{Good, withRegister}
 use Rattle.model.proofs.Independence.Calls.{areas-of-lent}
@@ -33,20 +33,20 @@ use Rattle.replay_model.specs.Traces.{recordsOfCycle, applied, withRecor
 use Rattle.replay_model.specs.Calls.{registerKept, replayAnswer, replay}
 use Rattle.replay_model.specs.Rules.{CycleKeeps, NamesPort, ValueFits, replayTable}
 use Rattle.replay_model.proofs.Laws.{Each, of-none, of-more, each-kept, each-at, each-make, Rising, rising-below, rising-between, rising-kept}
-use Rattle.replay_model.proofs.Exact.{register-iff, left-answer, replay-decides}
+use Rattle.replay_model.proofs.Exact.{register-iff, replay-answer, replay-decides}
 
 -- ---- a run
 module _ (image : List ℕ) (lent : Lent) (n : ℕ) where
   ready-kept : Ready image lent → n ≤ cyclesMax → AllKept (runTable image lent n)
   unfolding perform
-  ready-kept ready l = call-answers image lent (runs n) .accepted .0 (rw (ready-run image lent ready n l))
+  ready-kept ready l = call-exactly image lent (runs n) .answers .accepted .0 (rw (ready-run image lent ready n l))
 
   kept-ready : AllKept (runTable image lent n) → Ready image lent
   unfolding perform
   kept-ready kept = go (ready-or-refuses image lent)
     where
       told : numbersOf (run image lent n .answer) .number ≡ 0
-      told = ap (λ (numbers : Numbers). numbers .number) (call-answers image lent (runs n) .accepted .1 kept)
+      told = ap (λ (numbers : Numbers). numbers .number) (call-exactly image lent (runs n) .answers .accepted .1 kept)
 
       go : Ready image lent ⊎ Refuses image lent → Ready image lent
       go (inl ready) = ready
@@ -111,7 +111,7 @@ module _ (image : List ℕ) (lent : Lent) (trace : List TraceRecord) (n : ℕ) w
   accepted-replays e = go (replay-decides image lent trace n .either)
     where
       told : numbersOf (replayAnswer image lent trace n) .number ≡ 0
-      told = rw (left-answer image lent trace n) at e
+      told = rw (replay-answer image lent trace n) at e
 
       go : (replayAnswer image lent trace n ≡ Accepted (supersededIn trace)) ⊎ ((refusal : Refusal) × (place : ℕ) × (replayAnswer image lent trace n ≡ Refused refusal place))
           → Replayable image lent trace n

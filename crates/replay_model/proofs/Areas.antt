@@ -115,7 +115,7 @@ none-left image lent bytes trace = go (replayAnswer image lent trace 0) refl
 
 -- ---- without records
 -- A replay that is a run: it refuses as the run does, supersedes nothing, and leaves the same areas.
-pub record AsRun (replays ran : Left) : Type 0 where
+pub record AsRun (replays ran : Left Lent) : Type 0 where
   pub number : numbersOf (replays .answer) .number ≡ numbersOf (ran .answer) .number
   pub place : numbersOf (replays .answer) .place ≡ numbersOf (ran .answer) .place
   pub count : numbersOf (replays .answer) .count ≡ 0

@@ -2,5 +2,4 @@
 pub mod Cycles
 pub mod Ports
 pub mod Superseded
-pub mod Views
 pub mod FarEnds

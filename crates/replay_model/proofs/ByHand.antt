@@ -10,7 +10,7 @@ use Rattle.model.specs.Verdict.{verdict}
 use Rattle.model.specs.Answers.{numbersOf}
 use Rattle.model.specs.Machine.{Areas, Cycle, cycle, cycles, afterLast, afterCycles}
 use Rattle.model.specs.Calls.{Lent, Left, areasOf, lentOf}
-use Rattle.model.specs.Parties.{Call, writes, runs, perform, Event, wasReset, wasWritten, cycled, eventsOf, events, atEnd, view}
+use Rattle.model.specs.Parties.{Call, writes, runs, perform, Event, wasReset, wasWritten, cycled, eventsOf, events, atEnd, view, cyclesOf}
 use Rattle.model.proofs.Exact.{verdict-exact}
 use Rattle.model.proofs.Independence.Relation.{Good, withRegister}
 use Rattle.model.proofs.Independence.Calls.{areas-of-lent, written, write-accepted, run-accepted}
@@ -18,7 +18,7 @@ use Rattle.model.proofs.Grouping.{Ready, ready-good, ready-back, good-ready}
 use Rattle.replay_model.specs.declared.TraceRecord.{TraceRecord}
 use Rattle.replay_model.specs.Traces.{recordsOfCycle, applied, withRecords, replayed}
 use Rattle.replay_model.specs.Calls.{replay}
-use Rattle.replay_model.specs.Views.{cycleByHand, byHand}
+use Rattle.replay_model.specs.ByHand.{cycleByHand, byHand}
 use Rattle.replay_model.proofs.Laws.{Each, of-none, of-more, each-kept}
 use Rattle.replay_model.proofs.Accepted.{PortRecord, accepted-replays, replay-leaves, withApplied, written-good, records-good, cycle-good}
 
@@ -30,21 +30,6 @@ pub data AllAccepted (image : List ℕ) : Lent → List Call → Type 0 where
       → numbersOf (perform image lent call .answer) .number ≡ 0
       → AllAccepted image (perform image lent call .lent) more
       → AllAccepted image lent (call ∷ more)
-
--- the cycles of what happened, in their order
-unfoldable pub cyclesOf : List Event → List Cycle
-cyclesOf [] = []
-cyclesOf (wasReset ∷ more) = cyclesOf more
-cyclesOf (wasWritten r v ∷ more) = cyclesOf more
-cyclesOf (cycled c ∷ more) = c ∷ cyclesOf more
-
--- a party sees cycles alone
-pub view-cycles : (d : Design) (level : ℕ) (happened : List Event) → view d level happened ≡ view d level (map cycled (cyclesOf happened))
-unfolding view cyclesOf
-view-cycles d level [] = refl
-view-cycles d level (wasReset ∷ more) = view-cycles d level more
-view-cycles d level (wasWritten r v ∷ more) = view-cycles d level more
-view-cycles d level (cycled c ∷ more) = rw (view-cycles d level more)
 
 -- what calls that are all accepted do and leave
 pub record Made (image : List ℕ) (lent : Lent) (calls : List Call) (happened : List Event) (left : Lent) : Type 0 where
@@ -97,7 +82,7 @@ module _ {image : List ℕ} where
       record {
         all-accepted = one-made {lent = lent} {call = call} {more = []} (rw e) none-made;
         happens = rw e (append-nil (eventsOf (Accepted count) image lent call));
-        at-end = ap (λ (made : Left). made .lent) e;
+        at-end = ap (λ (made : Left Lent). made .lent) e;
       }
 
 -- ---- the calls by hand

@@ -11,7 +11,7 @@ use Rattle.model.proofs.Designs.{lease, oneGroup}
 use Rattle.replay_model.specs.declared.TraceRecord.{TraceRecord}
 use Rattle.replay_model.specs.Traces.{recordsOfCycle, replayed, tracePart, traceRest}
 use Rattle.replay_model.specs.Calls.{replay}
-use Rattle.replay_model.specs.Views.{byHand}
+use Rattle.replay_model.specs.ByHand.{byHand}
 use Rattle.replay_model.proofs.Opened.{replaying, reading, acceptedWith, meters, meterAreas, meterStart, answered, month}
 
 shows-meters-accepted : judged meters ≡ accepted 0

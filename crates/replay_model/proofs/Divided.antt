@@ -17,7 +17,7 @@ use Rattle.replay_model.proofs.Superseded.{superseded-divided}
 use Rattle.replay_model.proofs.Accepted.{Replayable, afterReplay, accepted-replays, replay-leaves, after-ready, after-back}
 
 -- Two replays, the second from what the first leaves, against one: both are accepted, they supersede together what the whole supersedes, and leave the same areas.
-pub record InParts (first second whole : Left) : Type 0 where
+pub record InParts (first second whole : Left Lent) : Type 0 where
   pub first-accepted : numbersOf (first .answer) .number ≡ 0
   pub second-accepted : numbersOf (second .answer) .number ≡ 0
   pub counts : numbersOf (first .answer) .count + numbersOf (second .answer) .count ≡ numbersOf (whole .answer) .count

@@ -15,19 +15,20 @@ use Rattle.model.specs.Indices.{lowestFailing}
 use Rattle.model.specs.Image.{Design, designOf, registerAt}
 use Rattle.model.specs.Answers.{numbersOf}
 use Rattle.model.specs.Calls.{Lent, isWritable}
-use Rattle.model.specs.Refusals.{Pass, _asks_, each, KeptAt, BrokenAt, AllKept, FirstBroken, AnswersBy}
+use Rattle.model.specs.Refusals.{Pass, _asks_, each, KeptAt, BrokenAt, AllKept, FirstBroken, inNumbers, Exactly}
 use Rattle.model.proofs.Laws.Booleans.{true-or-false}
 use Rattle.model.proofs.Laws.Equivalences.{less-iff, equal-iff, and-iff}
 use Rattle.model.proofs.Laws.Verdict.{refused-is-not-accepted, same-refusal}
 use Rattle.model.proofs.Laws.Found.{at-is-not-nowhere}
 use Rattle.model.proofs.Laws.Broken.{Finds, finds-at, Decides, decides-before, decides-none}
 use Rattle.model.proofs.Laws.Finds.{finds-each}
-use Rattle.model.proofs.Refused.{stage, run-decides, answers-by}
+use Rattle.model.proofs.Refused.{stage, run-decides, exactly}
 use Rattle.replay_model.specs.declared.TraceRecord.{TraceRecord}
 use Rattle.replay_model.specs.Traces.{recordAt, supersededIn}
 use Rattle.replay_model.specs.Calls.{traceAnswer, registerKept, valueKept, recordAnswer, recordsAnswer, replayAnswer, replay}
 use Rattle.replay_model.specs.Rules.{NamesPort, ValueFits, replayTable}
 use Rattle.replay_model.proofs.Laws.{cycle-iff}
+use Rattle.model.proofs.Laws.Left.{left-answer}
 
 -- ---- the pass over the records: two rules, of which the second asks only where the first is kept
 module _ (d : Design) (trace : List TraceRecord) where
@@ -135,13 +136,10 @@ module _ (image : List ℕ) (lent : Lent) (trace : List TraceRecord) (n : ℕ) w
       (λ kept. stage (finds-each (cycle-iff trace n)) (decides-before (records-decide (designOf image) trace) (λ sound. decides-none (supersededIn trace))))
 
   -- a replay leaves its answer
-  pub left-answer : replay image lent trace n .answer ≡ replayAnswer image lent trace n
+  pub replay-answer : replay image lent trace n .answer ≡ replayAnswer image lent trace n
   unfolding replay
-  left-answer = go (replayAnswer image lent trace n) refl
-    where
-      go : (a : Answer) → replayAnswer image lent trace n ≡ a → replay image lent trace n .answer ≡ replayAnswer image lent trace n
-      go (Accepted count) e = rw e
-      go (Refused refusal place) e = rw e
+  replay-answer = left-answer (replayAnswer image lent trace n) lent _
 
-  pub replay-answers : AnswersBy (replayTable image lent trace n) (supersededIn trace) (numbersOf (replay image lent trace n .answer))
-  replay-answers = rw left-answer (answers-by replay-decides)
+  pub replay-exactly : Exactly (replayTable image lent trace n) (supersededIn trace) lent (inNumbers (replay image lent trace n))
+  unfolding replay
+  replay-exactly = exactly _ replay-decides

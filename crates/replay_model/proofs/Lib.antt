@@ -3,11 +3,9 @@ pub mod Laws
 pub mod Superseded
 pub mod Applied
 pub mod Exact
-pub mod Unchanged
 pub mod Accepted
 pub mod Divided
 pub mod ByHand
-pub mod Independence
 pub mod Areas
 pub mod Latest
 pub mod Promises

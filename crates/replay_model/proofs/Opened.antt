@@ -5,16 +5,15 @@ use mathlib.Core.List.{List, [], _∷_}
 use Rattle.model.specs.Answers.{Numbers, numbersOf}
 use Rattle.model.specs.Values.{bytesOf}
 use Rattle.model.specs.Calls.{Lent}
-use Rattle.model.specs.Parties.{givenUnseen, withUnseen}
-use Rattle.model.proofs.Opened.{sights, lent, accepted, refused}
+use Rattle.model.proofs.Opened.{everything, lent, accepted, refused}
 use Rattle.model.proofs.Designs.{oneState, chain, widthRecord, registerRecord, assigns, sequences, goesTo, reads, adds}
 use Rattle.replay_model.specs.declared.TraceRecord.{TraceRecord}
 use Rattle.replay_model.specs.Traces.{kept, recordsOfCycle, applied, withRecords, replayed, hasLater, supersededIn, tracePart, traceRest}
 use Rattle.replay_model.specs.Calls.{cycleKept, traceAnswer, registerKept, valueKept, recordAnswer, recordsAnswer, replayAnswer, replay}
-use Rattle.replay_model.specs.Views.{cycleByHand, byHand, traceSeen, replayStart, replayViews, replaySeenAtEnd}
+use Rattle.replay_model.specs.ByHand.{cycleByHand, byHand, traceSeen}
 
 unfoldable pub replaying : ℕ
-unfolding sights givenUnseen withUnseen kept recordsOfCycle applied withRecords replayed hasLater supersededIn tracePart traceRest cycleKept traceAnswer registerKept valueKept recordAnswer recordsAnswer replayAnswer replay cycleByHand byHand traceSeen replayStart replayViews replaySeenAtEnd
+unfolding everything kept recordsOfCycle applied withRecords replayed hasLater supersededIn tracePart traceRest cycleKept traceAnswer registerKept valueKept recordAnswer recordsAnswer replayAnswer replay cycleByHand byHand traceSeen
 replaying = 0
 
 -- a record: cycle, register, value

@@ -8,31 +8,24 @@ use Rattle.model.specs.declared.Answer.the-variants.{Accepted}
 use Rattle.model.specs.Image.{AreBytes, designOf}
 use Rattle.model.specs.Answers.{numbersOf}
 use Rattle.model.specs.Calls.{Lent, areasOf, run}
-use Rattle.model.specs.Refusals.{AnswersBy, WithinWidths}
+use Rattle.model.specs.Refusals.{inNumbers, Exactly, WithinWidths}
 use Rattle.replay_model.specs.declared.TraceRecord.{TraceRecord}
 use Rattle.replay_model.specs.Traces.{replayed, supersededIn, tracePart, traceRest}
 use Rattle.replay_model.specs.Calls.{replay}
 use Rattle.replay_model.specs.Rules.{replayTable}
-use Rattle.replay_model.specs.Views.{byHand, IndependentReplays, IndependentReplayNeighbours}
-use Rattle.replay_model.proofs.Exact.{replay-answers}
-use Rattle.replay_model.proofs.Unchanged.{replay-refused}
+use Rattle.replay_model.specs.ByHand.{byHand}
+use Rattle.replay_model.proofs.Exact as exact
 use Rattle.replay_model.proofs.Latest.{latestOf, length-latest, latest-replays}
 use Rattle.replay_model.proofs.ByHand.{ByHand, as-by-hand}
 use Rattle.replay_model.proofs.Divided.{InParts, divided}
-use Rattle.replay_model.proofs.Independence.{replays-independent, replays-across}
 use Rattle.replay_model.proofs.Areas.{within, OtherPortsKept, other-ports-kept, none-left, AsRun, as-run}
 
 -- "It refuses with 23, after 15 and at the lowest such record, cycles that fall or reach n; a bad register or value is then 13 or 17, in one pass where the lowest bad record
 -- counts; the place in all three is the record's number from 0." "the answer counts those superseded": a replay is accepted with this count exactly when every rule of its
 -- table is kept, and refused exactly by the first that is broken.
 pub replay-exactly : (image : List ℕ) (lent : Lent) (trace : List TraceRecord) (n : ℕ)
-    → AnswersBy (replayTable image lent trace n) (supersededIn trace) (numbersOf (replay image lent trace n .answer))
-replay-exactly = replay-answers
-
--- 01, demand 1: "No lent byte changes" on a refusal.
-pub replay-refused-leaves : (image : List ℕ) (lent : Lent) (trace : List TraceRecord) (n : ℕ) → (numbersOf (replay image lent trace n .answer) .number ≡ 0 → ⊥)
-    → replay image lent trace n .lent ≡ lent
-replay-refused-leaves = replay-refused
+    → Exactly (replayTable image lent trace n) (supersededIn trace) lent (inNumbers (replay image lent trace n))
+replay-exactly = exact.replay-exactly
 
 -- "of two for one cycle and port the later supersedes the earlier": where a replay is accepted, one of the trace without its superseded records is, supersedes none, and
 -- leaves the same areas,
@@ -55,15 +48,6 @@ replay-by-hand = as-by-hand
 pub replay-divided : (image : List ℕ) (lent : Lent) (trace : List TraceRecord) (n m : ℕ) → numbersOf (replay image lent trace (n + m) .answer) .number ≡ 0
     → InParts (replay image lent (tracePart n trace) n) (replay image (replay image lent (tracePart n trace) n .lent) (traceRest n trace) m) (replay image lent trace (n + m))
 replay-divided = divided
-
--- Demand 3: "Replayed from reset for the same n, traces equal in the records at or below a level give that level equal views where neither is refused"; and equal registers at
--- or below the level at their end.
-pub independent-replays : IndependentReplays
-independent-replays = replays-independent
-
--- 02, E14, "A neighbour edits his design": the same across two designs that have the same in common at a level.
-pub independent-replay-neighbours : IndependentReplayNeighbours
-independent-replay-neighbours = replays-across
 
 -- 02, E2: an accepted replay leaves every register within its width.
 pub replay-within-widths : (image : List ℕ) (lent : Lent) (trace : List TraceRecord) (n : ℕ) → numbersOf (replay image lent trace n .answer) .number ≡ 0

@@ -46,7 +46,7 @@ module _ (image : List ℕ) (lent : Lent) (trace : List TraceRecord) where
   unfoldable pub replayAnswer : ℕ → Answer
   replayAnswer n = runAnswer image lent n before traceAnswer trace n before recordsAnswer (designOf image) trace before Accepted (supersededIn trace)
 
-  unfoldable pub replay : ℕ → Left
+  unfoldable pub replay : ℕ → Left Lent
   replay n =
       let d = designOf image in
       let areas = areasOf d lent in

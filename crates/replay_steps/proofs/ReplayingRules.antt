@@ -10,18 +10,17 @@ use Rattle.model.specs.declared.Answer.the-variants.{Accepted, Refused}
 use Rattle.model.specs.Image.{designOf}
 use Rattle.model.specs.Verdict.{_before_}
 use Rattle.model.specs.Machine.{afterLast, afterCycles}
-use Rattle.model.specs.Calls.{Lent, leaves, areasOf, lentOf, runAnswer}
+use Rattle.model.specs.Calls.{Lent, leaves, areasOf, lentOf, runAnswer, leftAs}
 use Rattle.model.proofs.Laws.Equivalences.{less-iff}
 use Rattle.model.proofs.Laws.Verdict.{first-accepts}
 use Rattle.design.specs.Resets.{lends}
 use Rattle.machine.specs.Cycles.{Running, areasIn}
-use Rattle.running.specs.Stages.{leftAs}
 use Rattle.calls.proofs.CallRules.{port-there}
 use Rattle.replay_model.specs.declared.TraceRecord.{TraceRecord}
 use Rattle.replay_model.specs.Traces.{recordAt, replayed, supersededIn}
 use Rattle.replay_model.specs.Calls.{traceAnswer, recordsAnswer, replayAnswer, replay}
 use Rattle.replay_model.proofs.Laws.{each-at}
-use Rattle.replay_model.proofs.Exact.{left-answer}
+use Rattle.replay_model.proofs.Exact.{replay-answer}
 use Rattle.replay_model.proofs.Accepted.{Replayable, accepted-replays}
 use Rattle.replay_steps.specs.declared.preparing.Prepared.{Prepared}
 use Rattle.replay_steps.specs.declared.judging.Judging.{Judging}
@@ -71,7 +70,7 @@ module _ {image : List ℕ} {lent : Lent} {trace : List TraceRecord} {p : Prepar
 
   -- where it accepts, the trace is as the definitions ask
   judged-replayable : {k : ℕ} → answerOf p s ≡ Accepted k → Replayable image lent trace (p .count)
-  judged-replayable e = accepted-replays image lent trace (p .count) (rw (left-answer image lent trace (p .count), ← judged-replays, e))
+  judged-replayable e = accepted-replays image lent trace (p .count) (rw (replay-answer image lent trace (p .count), ← judged-replays, e))
 
 -- ---- the records
 module _ {image : List ℕ} {trace : List TraceRecord} {p : Prepared} {s : Judging} where
@@ -151,8 +150,8 @@ module _ {image : List ℕ} {trace : List TraceRecord} {p : Prepared} {s : Judgi
           rw (r .areas, last, kept-all p s (length trace) e, last-record e) (replayed-by-records d (areasOf d start) (judged-replayable (r .judged) e .rising))
 
       pub replaying-all : {a : Answer} {registers′ targets′ : List ℕ}
-          → leftAs a registers′ targets′ ≡ leaves (answerOf p s) (lends registers targets) (lentOf (afterCycles (designOf image) (p .count - done) (areasOf (designOf image) (lends registers targets))))
-          → leftAs a registers′ targets′ ≡ replay image start trace (p .count)
+          → leftAs a (lends registers′ targets′) ≡ leaves (answerOf p s) (lends registers targets) (lentOf (afterCycles (designOf image) (p .count - done) (areasOf (designOf image) (lends registers targets))))
+          → leftAs a (lends registers′ targets′) ≡ replay image start trace (p .count)
       unfolding replay recordsKept
       replaying-all {a} {registers′} {targets′} left = left ∙ go (answerOf p s) refl
         where

@@ -12,7 +12,7 @@ use Rattle.model.specs.declared.Answer.the-variants.{Accepted, Refused}
 use Rattle.model.specs.Image.{AreBytes, designOf}
 use Rattle.model.specs.Values.{wordsOf}
 use Rattle.model.specs.Machine.{afterCycles}
-use Rattle.model.specs.Calls.{Lent, leaves, areasOf, lentOf}
+use Rattle.model.specs.Calls.{Lent, leaves, areasOf, lentOf, leftAs}
 use Rattle.model.proofs.Exact.Records.{register-iff}
 use Rattle.model.proofs.Independence.Widths.{set-fitting}
 use Rattle.design.specs.Words.{putWord}
@@ -20,7 +20,6 @@ use Rattle.design.specs.Resets.{lends}
 use Rattle.design.proofs.Laws.{registers-count}
 use Rattle.design.proofs.WordRules.{words-put, length-put}
 use Rattle.machine.specs.Cycles.{Running, areasIn}
-use Rattle.running.specs.Stages.{leftAs}
 use Rattle.running.proofs.RunningRules.{bytes-left}
 use Rattle.replay_steps.specs.declared.preparing.Prepared.{Prepared}
 use Rattle.replay_steps.specs.declared.judging.Judging.{Judging}
@@ -72,7 +71,7 @@ pub ruleset step-laws = (step-inside, step-areas, step-running)
 
 -- ---- the end
 module _ (p : Prepared) (s : Judging) {a : Answer} (told : a ≡ answerOf p s) where
-  pub finish-refuses : {refusal : Refusal} {place : ℕ} → a ≡ Refused refusal place → (registers targets : List ℕ) (made : Lent) → leftAs (Refused refusal place) registers targets ≡ leaves (answerOf p s) (lends registers targets) made
+  pub finish-refuses : {refusal : Refusal} {place : ℕ} → a ≡ Refused refusal place → (registers targets : List ℕ) (made : Lent) → leftAs (Refused refusal place) (lends registers targets) ≡ leaves (answerOf p s) (lends registers targets) made
   finish-refuses e registers targets made = rw (← told, e)
 
   module _ {k : ℕ} (accepts : a ≡ Accepted k) where
@@ -84,7 +83,7 @@ module _ (p : Prepared) (s : Judging) {a : Answer} (told : a ≡ answerOf p s) w
 
     pub finish-makes : {image : List ℕ} (registers targets registers₀ targets₀ : List ℕ) (n : ℕ) → AreBytes registers → Running image (p .design) (p .defaults) (p .scopes) registers targets
         → areasIn (designOf image) registers targets ≡ afterCycles (designOf image) n (areasIn (designOf image) registers₀ targets₀)
-        → leftAs (Accepted k) registers targets ≡ leaves (answerOf p s) (lends registers₀ targets₀) (lentOf (afterCycles (designOf image) n (areasOf (designOf image) (lends registers₀ targets₀))))
+        → leftAs (Accepted k) (lends registers targets) ≡ leaves (answerOf p s) (lends registers₀ targets₀) (lentOf (afterCycles (designOf image) n (areasOf (designOf image) (lends registers₀ targets₀))))
     unfolding areasOf
     finish-makes registers targets registers₀ targets₀ n bytes running ran =
         rw (← told, accepts) (ap (λ (lent : Lent). record { answer = Accepted k; lent = lent }) (bytes-left registers targets bytes running ran))

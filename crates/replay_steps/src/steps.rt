@@ -9,10 +9,9 @@ ghost use Prim.Native.Nat.{_-_};
 ghost use mathlib.Core.Path.{_≡_};
 ghost use Rattle.model.specs.Image.{designOf};
 ghost use Rattle.model.specs.Machine.{afterCycles};
-ghost use Rattle.model.specs.Calls.{leaves, areasOf, lentOf};
+ghost use Rattle.model.specs.Calls.{leaves, areasOf, lentOf, leftAs};
 ghost use Rattle.design.specs.Resets.{lends};
 ghost use Rattle.machine.specs.Cycles.{Running, areasIn};
-ghost use Rattle.running.specs.Stages.{leftAs};
 ghost use Rattle.replay_steps.specs.Judging.{answerOf};
 ghost use Rattle.replay_steps.specs.Replaying.{stepped, Stepping, Finishing};
 
@@ -64,7 +63,7 @@ pub fn finish(
     done: u32,
 ) -> Answer
     requires { ⌜ Finishing (now image) prepared judged (now registers) (now targets) done ⌝ }
-    ensures { λ a. ⌜ leftAs a (now (registers .exit)) (now (targets .exit)) ≡ leaves (answerOf prepared judged) (lends (now (registers .entry)) (now (targets .entry))) (lentOf (afterCycles (designOf (now (image .entry))) (prepared .count - done) (areasOf (designOf (now (image .entry))) (lends (now (registers .entry)) (now (targets .entry)))))) ⌝ }
+    ensures { λ a. ⌜ leftAs a (lends (now (registers .exit)) (now (targets .exit))) ≡ leaves (answerOf prepared judged) (lends (now (registers .entry)) (now (targets .entry))) (lentOf (afterCycles (designOf (now (image .entry))) (prepared .count - done) (areasOf (designOf (now (image .entry))) (lends (now (registers .entry)) (now (targets .entry)))))) ⌝ }
 {
     let told = answer(prepared, judged);
     match told {

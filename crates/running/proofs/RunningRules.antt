@@ -22,7 +22,7 @@ use Rattle.model.specs.Verdict.{refusedAt, _before_}
 use Rattle.model.specs.Values.{modulus, fits, wordsOf, bytesOf}
 use Rattle.model.specs.Bindings.{bindingSound}
 use Rattle.model.specs.Machine.{Areas, targetSound, afterCycles}
-use Rattle.model.specs.Calls.{Lent, targetsIn, bindingsIn, targetsAnswer, bindingsAnswer, contentKept, contentsAnswer, cyclesAnswer, areasOf, lentOf}
+use Rattle.model.specs.Calls.{Lent, targetsIn, bindingsIn, targetsAnswer, bindingsAnswer, contentKept, contentsAnswer, cyclesAnswer, areasOf, lentOf, leftAs}
 use Rattle.model.proofs.Laws.Booleans.{not-true, not-false}
 use Rattle.model.proofs.Laws.Indices.{failing-none}
 use Rattle.model.proofs.Laws.Equivalences.{less-iff}
@@ -42,7 +42,7 @@ use Rattle.design.proofs.WidthRules.{width-is}
 use Rattle.machine.specs.Bindings.{TargetsSound}
 use Rattle.machine.specs.Cycles.{Running, areasIn}
 use Rattle.checker.proofs.Accepted.{accepted-known}
-use Rattle.running.specs.Stages.{leftAs, soundOn, runSound}
+use Rattle.running.specs.Stages.{soundOn, runSound}
 
 pub states-kept : {image : List ℕ} → Keeps image → StatesKept (designOf image)
 states-kept {image} keeps = record { kept = λ s l. state-iff (designOf image) s .1 (keeps .design .structure .states s l) }
@@ -159,11 +159,11 @@ bytes-left {image} registers targets bytes running e =
 
 -- the count, and the cycles
 module _ (d : Table) (n : ℕ) {b : Bool} (e : b ≡ leb n cyclesMax) where
-  pub count-refuses : (registers targets : List ℕ) → not b ≡ true → leftAs (Refused CycleCount 0) registers targets ≡ runSound d (lends registers targets) n
+  pub count-refuses : (registers targets : List ℕ) → not b ≡ true → leftAs (Refused CycleCount 0) (lends registers targets) ≡ runSound d (lends registers targets) n
   unfolding runSound cyclesAnswer refusedAt _before_
   count-refuses registers targets h = rw (← e, not-true b h)
 
-  pub run-makes : (registers targets registers₀ targets₀ : List ℕ) → not b ≡ false → lends registers targets ≡ lentOf (afterCycles d n (areasIn d registers₀ targets₀)) → leftAs (Accepted n) registers targets ≡ runSound d (lends registers₀ targets₀) n
+  pub run-makes : (registers targets registers₀ targets₀ : List ℕ) → not b ≡ false → lends registers targets ≡ lentOf (afterCycles d n (areasIn d registers₀ targets₀)) → leftAs (Accepted n) (lends registers targets) ≡ runSound d (lends registers₀ targets₀) n
   unfolding runSound cyclesAnswer areasOf refusedAt _before_
   run-makes registers targets registers₀ targets₀ h k = rw (← e, not-false b h) (ap (λ (lent : Lent). record { answer = Accepted n; lent = lent }) k)
 

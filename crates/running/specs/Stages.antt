@@ -1,4 +1,4 @@
--- What a run leaves, as its answer and the bytes of the areas; and the run of `Rattle.model.specs.Calls` from the point where the lengths are right on.
+-- The run of `Rattle.model.specs.Calls` from the point where the lengths are right on.
 use Prim.Native.Nat.{ℕ}
 use mathlib.Core.List.{List}
 use Rattle.model.specs.declared.Answer.{Answer}
@@ -7,10 +7,6 @@ use Rattle.model.specs.Image.{Design as Table}
 use Rattle.model.specs.Verdict.{_before_}
 use Rattle.model.specs.Machine.{afterCycles}
 use Rattle.model.specs.Calls.{Lent, Left, leaves, targetsAnswer, bindingsAnswer, contentsAnswer, cyclesAnswer, areasOf, lentOf}
-use Rattle.design.specs.Resets.{lends}
-
-abbrev pub leftAs : Answer → List ℕ → List ℕ → Left
-leftAs answer registers targets = record { answer = answer; lent = lends registers targets }
 
 -- 14 of areas of the right lengths: "then any fault that a request adds in the registers' contents, at the lowest register, then an unsound target, at the lowest
 -- state"; 02, E8: then an unsound binding
@@ -18,5 +14,5 @@ unfoldable pub soundOn : Table → Lent → Answer
 soundOn d lent = contentsAnswer d (lent .registers) before targetsAnswer d lent before bindingsAnswer d lent
 
 -- and once both areas are sound
-unfoldable pub runSound : Table → Lent → ℕ → Left
+unfoldable pub runSound : Table → Lent → ℕ → Left Lent
 runSound d lent n = leaves (cyclesAnswer n before Accepted n) lent (lentOf (afterCycles d n (areasOf d lent)))

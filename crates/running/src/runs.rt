@@ -9,7 +9,8 @@ ghost use Rattle.model.specs.Limits.{cyclesMax};
 ghost use Rattle.model.specs.Image.{designOf};
 ghost use Rattle.design.specs.Resets.{lends};
 ghost use Rattle.machine.specs.Cycles.{Running};
-ghost use Rattle.running.specs.Stages.{leftAs, runSound};
+ghost use Rattle.running.specs.Stages.{runSound};
+ghost use Rattle.model.specs.Calls.{leftAs};
 
 // The most cycles of a run.
 const MOST_CYCLES: u32 = 1000000;
@@ -32,7 +33,7 @@ pub fn run_sound(
     count: u32,
 ) -> Answer
     requires { ⌜ Running (now image) design (now defaults) (now «in_scope») (now registers) (now targets) ⌝ }
-    ensures { λ a. ⌜ leftAs a (now (registers .exit)) (now (targets .exit)) ≡ runSound (designOf (now (image .entry))) (lends (now (registers .entry)) (now (targets .entry))) count ⌝ }
+    ensures { λ a. ⌜ leftAs a (lends (now (registers .exit)) (now (targets .exit))) ≡ runSound (designOf (now (image .entry))) (lends (now (registers .entry)) (now (targets .entry))) count ⌝ }
 {
     if !count_kept(count) {
         return Answer::Refused(Refusal::CycleCount, 0);

@@ -77,7 +77,7 @@ made-agree table one other (cycles inputs) (cycles inputs′) e agree = cycle-ag
 -- ---- a list: nothing remains, or a first accepted call and what follows it
 module _ (table : List ℕ) where
   abbrev after : List ℕ → Call → List ℕ
-  after area call = perform table area call .flipflops
+  after area call = perform table area call .lent
 
   record Ends (area : List ℕ) (calls : List Call) : Type 0 where
     areas : areasAfter table area calls ≡ []

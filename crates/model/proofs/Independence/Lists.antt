@@ -1,12 +1,12 @@
 -- A relation that no call breaks makes every list of calls show what one canonical run of what remains of it shows: a refused call and a write that is
 -- not seen leave the relation as it is, and any other call makes the same step in both runs. So two lists of which the same remains show the same.
-use Prim.Native.Nat.{ℕ, zero, suc, _+_, _*_, _<_}
+use Prim.Native.Nat.{ℕ, zero, suc, _+_, _-_, _*_, _<_}
 use mathlib.Core.Path.{_≡_, refl, sym, _∙_, ap}
 use mathlib.Core.Bool.{Bool, true, false, cond}
-use mathlib.Core.List.{List, [], _∷_, _++_, map}
+use mathlib.Core.List.{List, [], _∷_, _++_, map, append-assoc, append-nil, map-append}
 use lib.Dec.{leb}
 use lib.Pow.{pow-pos}
-use lib.ListN.{length, set, take, drop, length-set, length-append, take-append-drop}
+use lib.ListN.{length, getD, set, take, drop, length-set, length-append, take-append-drop}
 use native.Mathlib.Omega.{arith}
 use Rattle.model.specs.Limits.{bindingLength}
 use Rattle.model.specs.declared.Refusal.{Refusal}
@@ -18,7 +18,7 @@ use Rattle.model.specs.Verdict.{verdict}
 use Rattle.model.specs.Values.{modulus, fits, wordsOf}
 use Rattle.model.specs.Machine.{Areas, Cycle, resetAreas, cycle, cycles, afterLast, afterCycles}
 use Rattle.model.specs.Calls.{Lent, Left, contentKept, isWritable, areasOf, lentOf, reset}
-use Rattle.model.specs.Parties.{Call, resets, writes, runs, perform, Event, wasReset, wasWritten, cycled, eventsOf, events, atEnd, Seen, Remaining, aReset, aWrite, aCycle, registerSeen, valuesSeen, walkSeen, view, remaining, RightLengths, Use, withUnseen, start, history, remains, views, seenAtEnd}
+use Rattle.model.specs.Parties.{Call, resets, writes, runs, perform, Event, wasReset, wasWritten, cycled, eventsOf, events, atEnd, Seen, Remaining, aReset, aWrite, aCycle, registerSeen, valuesSeen, walkSeen, view, remaining, RightLengths, Use, withUnseen, start, history, remains, views, seenAtEnd, journalled, steppedBack, aJournalledCycle, aStepBack, cyclesOf, shown, Beginning}
 use Rattle.model.proofs.Laws.Equivalences.{less-iff}
 use Rattle.model.proofs.Laws.Words.{length-bytesOf}
 use Rattle.model.proofs.Exact.{verdict-exact}
@@ -27,45 +27,72 @@ use Rattle.model.proofs.Independence.Calls.{areas-of-lent, length-lent,
 use Rattle.model.proofs.Independence.Widths.{set-fitting, fitting-bounded}
 
 -- ---- the canonical run of what remains of a list
+-- the areas of the canonical run, and those that it saved before its journalled cycles, oldest first
+pub record Course : Type 0 where
+  pub areas : Areas
+  pub saved : List Areas
+
+abbrev pub courseOf : Areas → List Areas → Course
+courseOf areas saved = record { areas = areas; saved = saved }
+
+-- back to the areas that were saved last
+unfoldable pub backOnce : Course → Course
+backOnce course =
+    let kept = length (course .saved) - 1 in
+    courseOf (getD (course .saved) kept (course .areas)) (take kept (course .saved))
+
+pub cycles-append : (first second : List Event) → cyclesOf (first ++ second) ≡ cyclesOf first ++ cyclesOf second
+unfolding cyclesOf
+cycles-append [] second = refl
+cycles-append (wasReset ∷ first) second = cycles-append first second
+cycles-append (wasWritten r v ∷ first) second = cycles-append first second
+cycles-append (cycled c ∷ first) second = rw (cycles-append first second)
+cycles-append (journalled c ∷ first) second = rw (cycles-append first second)
+cycles-append (steppedBack ∷ first) second = cycles-append first second
+
 module _ (d : Design) (level : ℕ) where
-  -- what a cycle shows
-  abbrev pub shown : Cycle → Seen
-  shown c = record { values = valuesSeen d level (c .after .registers); walk = walkSeen d level (c .ranWith) (c .walk) }
+  -- where a part of what remains leads, and what it shows
+  abbrev onward : Course → Remaining → Course
+  onward course aReset = courseOf (resetAreas d) (course .saved)
+  onward course (aWrite r v) = courseOf (withRegister r v (course .areas)) (course .saved)
+  onward course aCycle = courseOf (cycle d (course .areas) .after) (course .saved)
+  onward course aJournalledCycle = courseOf (cycle d (course .areas) .after) (course .saved ++ (course .areas ∷ []))
+  onward course aStepBack = backOnce course
 
-  unfoldable pub followed : Areas → List Remaining → List Seen
-  followed areas [] = []
-  followed areas (aReset ∷ more) = followed (resetAreas d) more
-  followed areas (aWrite r v ∷ more) = followed (withRegister r v areas) more
-  followed areas (aCycle ∷ more) = shown (cycle d areas) ∷ followed (cycle d areas .after) more
+  abbrev showing : Course → Remaining → List Seen
+  showing course aReset = []
+  showing course (aWrite r v) = []
+  showing course aCycle = shown d level (cycle d (course .areas)) ∷ []
+  showing course aJournalledCycle = shown d level (cycle d (course .areas)) ∷ []
+  showing course aStepBack = []
 
-  unfoldable pub followedEnd : Areas → List Remaining → Areas
-  followedEnd areas [] = areas
-  followedEnd areas (aReset ∷ more) = followedEnd (resetAreas d) more
-  followedEnd areas (aWrite r v ∷ more) = followedEnd (withRegister r v areas) more
-  followedEnd areas (aCycle ∷ more) = followedEnd (cycle d areas .after) more
+  unfoldable pub followed : Course → List Remaining → List Seen
+  followed course [] = []
+  followed course (part ∷ more) = showing course part ++ followed (onward course part) more
+
+  unfoldable pub followedEnd : Course → List Remaining → Course
+  followedEnd course [] = course
+  followedEnd course (part ∷ more) = followedEnd (onward course part) more
 
   -- ---- one list and then another
-  pub followed-append : (areas : Areas) (first second : List Remaining)
-      → followed areas (first ++ second) ≡ followed areas first ++ followed (followedEnd areas first) second
+  pub followed-append : (course : Course) (first second : List Remaining)
+      → followed course (first ++ second) ≡ followed course first ++ followed (followedEnd course first) second
   unfolding followed followedEnd
-  followed-append areas [] second = refl
-  followed-append areas (aReset ∷ first) second = followed-append (resetAreas d) first second
-  followed-append areas (aWrite r v ∷ first) second = followed-append (withRegister r v areas) first second
-  followed-append areas (aCycle ∷ first) second = rw (followed-append (cycle d areas .after) first second)
+  followed-append course [] second = refl
+  followed-append course (part ∷ first) second =
+      rw (
+        followed-append (onward course part) first second,
+        append-assoc (showing course part) (followed (onward course part) first) (followed (followedEnd (onward course part) first) second),
+      )
 
-  pub end-append : (areas : Areas) (first second : List Remaining) → followedEnd areas (first ++ second) ≡ followedEnd (followedEnd areas first) second
+  pub end-append : (course : Course) (first second : List Remaining) → followedEnd course (first ++ second) ≡ followedEnd (followedEnd course first) second
   unfolding followedEnd
-  end-append areas [] second = refl
-  end-append areas (aReset ∷ first) second = end-append (resetAreas d) first second
-  end-append areas (aWrite r v ∷ first) second = end-append (withRegister r v areas) first second
-  end-append areas (aCycle ∷ first) second = end-append (cycle d areas .after) first second
+  end-append course [] second = refl
+  end-append course (part ∷ first) second = end-append (onward course part) first second
 
   pub view-append : (first second : List Event) → view d level (first ++ second) ≡ view d level first ++ view d level second
   unfolding view
-  view-append [] second = refl
-  view-append (wasReset ∷ first) second = view-append first second
-  view-append (wasWritten r v ∷ first) second = view-append first second
-  view-append (cycled c ∷ first) second = rw (view-append first second)
+  view-append first second = ap (map (shown d level)) (cycles-append first second) ∙ map-append (shown d level) (cyclesOf first) (cyclesOf second)
 
   pub remaining-append : (first second : List Event) → remaining d level (first ++ second) ≡ remaining d level first ++ remaining d level second
   unfolding remaining
@@ -79,53 +106,65 @@ module _ (d : Design) (level : ℕ) where
       go true = refl
       go false = refl
   remaining-append (cycled c ∷ first) second = rw (remaining-append first second)
+  remaining-append (journalled c ∷ first) second = rw (remaining-append first second)
+  remaining-append (steppedBack ∷ first) second = rw (remaining-append first second)
+
+-- the areas before each of n cycles
+unfoldable pub areasBefore : Design → ℕ → Areas → List Areas
+areasBefore d zero areas = []
+areasBefore d (suc n) areas = areas ∷ areasBefore d n (cycle d areas .after)
 
 module _ (d₁ d₂ : Design) (level : ℕ) where
-  -- events of the first design show what the canonical run in the second shows, which they lead from areas to areas
-  pub record Agrees (happened : List Event) (areas reached : Areas) : Type 0 where
-    pub seen : view d₁ level happened ≡ followed d₂ level areas (remaining d₁ level happened)
-    pub at-end : followedEnd d₂ level areas (remaining d₁ level happened) ≡ reached
+  -- events of the first design show what the canonical run in the second shows, which they lead from a course to a course
+  pub record Agrees (happened : List Event) (course reached : Course) : Type 0 where
+    pub seen : view d₁ level happened ≡ followed d₂ level course (remaining d₁ level happened)
+    pub at-end : followedEnd d₂ level course (remaining d₁ level happened) ≡ reached
 
 module _ {d₁ d₂ : Design} {level : ℕ} where
-  pub agrees-append : {first second : List Event} {areas between reached : Areas}
-      → Agrees d₁ d₂ level first areas between
+  pub agrees-append : {first second : List Event} {course between reached : Course}
+      → Agrees d₁ d₂ level first course between
       → Agrees d₁ d₂ level second between reached
-      → Agrees d₁ d₂ level (first ++ second) areas reached
-  agrees-append {first} {second} {areas} h k =
+      → Agrees d₁ d₂ level (first ++ second) course reached
+  agrees-append {first} {second} {course} h k =
       let rest = remaining d₁ level second in
       record {
-        seen = rw (view-append d₁ level first second, remaining-append d₁ level first second, followed-append d₂ level areas (remaining d₁ level first) rest, h .at-end, h .seen, k .seen);
-        at-end = rw (remaining-append d₁ level first second, end-append d₂ level areas (remaining d₁ level first) rest, h .at-end) (k .at-end);
+        seen = rw (view-append d₁ level first second, remaining-append d₁ level first second, followed-append d₂ level course (remaining d₁ level first) rest, h .at-end, h .seen, k .seen);
+        at-end = rw (remaining-append d₁ level first second, end-append d₂ level course (remaining d₁ level first) rest, h .at-end) (k .at-end);
       }
 
-  module _ {areas : Areas} where
-    pub agrees-none : Agrees d₁ d₂ level [] areas areas
-    unfolding view remaining followed followedEnd
+  module _ {areas : Areas} {saved : List Areas} where
+    pub agrees-none : Agrees d₁ d₂ level [] (courseOf areas saved) (courseOf areas saved)
+    unfolding view cyclesOf remaining followed followedEnd
     agrees-none = record { seen = refl; at-end = refl }
 
-    agrees-reset : Agrees d₁ d₂ level (wasReset ∷ []) areas (resetAreas d₂)
-    unfolding view remaining followed followedEnd
+    agrees-reset : Agrees d₁ d₂ level (wasReset ∷ []) (courseOf areas saved) (courseOf (resetAreas d₂) saved)
+    unfolding view cyclesOf remaining followed followedEnd
     agrees-reset = record { seen = refl; at-end = refl }
 
-    agrees-written : (r v : ℕ) → registerSeen d₁ level r ≡ true → Agrees d₁ d₂ level (wasWritten r v ∷ []) areas (withRegister r v areas)
-    unfolding view remaining followed followedEnd
+    agrees-written : (r v : ℕ) → registerSeen d₁ level r ≡ true → Agrees d₁ d₂ level (wasWritten r v ∷ []) (courseOf areas saved) (courseOf (withRegister r v areas) saved)
+    unfolding view cyclesOf remaining followed followedEnd
     agrees-written r v e = record { seen = rw e; at-end = rw e }
 
-    agrees-struck : (r v : ℕ) → registerSeen d₁ level r ≡ false → Agrees d₁ d₂ level (wasWritten r v ∷ []) areas areas
-    unfolding view remaining followed followedEnd
+    agrees-struck : (r v : ℕ) → registerSeen d₁ level r ≡ false → Agrees d₁ d₂ level (wasWritten r v ∷ []) (courseOf areas saved) (courseOf areas saved)
+    unfolding view cyclesOf remaining followed followedEnd
     agrees-struck r v e = record { seen = rw e; at-end = rw e }
 
-    agrees-cycled : (c : Cycle) → shown d₁ level c ≡ shown d₂ level (cycle d₂ areas) → Agrees d₁ d₂ level (cycled c ∷ []) areas (cycle d₂ areas .after)
-    unfolding view remaining followed followedEnd
+    agrees-cycled : (c : Cycle) → shown d₁ level c ≡ shown d₂ level (cycle d₂ areas) → Agrees d₁ d₂ level (cycled c ∷ []) (courseOf areas saved) (courseOf (cycle d₂ areas .after) saved)
+    unfolding view cyclesOf remaining followed followedEnd
     agrees-cycled c e = record { seen = rw e; at-end = refl }
+
+    agrees-journalled : (c : Cycle) → shown d₁ level c ≡ shown d₂ level (cycle d₂ areas) → Agrees d₁ d₂ level (journalled c ∷ []) (courseOf areas saved) (courseOf (cycle d₂ areas .after) (saved ++ (areas ∷ [])))
+    unfolding view cyclesOf remaining followed followedEnd
+    agrees-journalled c e = record { seen = rw e; at-end = refl }
+
+    pub agrees-back : Agrees d₁ d₂ level (steppedBack ∷ []) (courseOf areas saved) (backOnce (courseOf areas saved))
+    unfolding view cyclesOf remaining followed followedEnd
+    agrees-back = record { seen = refl; at-end = refl }
 
 module _ {d₁ d₂ : Design} {level : ℕ} {Related : Areas → Areas → Type 0} (same : Bisimulation d₁ d₂ level Related) where
   -- one cycle of both
-  pub agrees-cycle : (a b : Areas) → Related a b → Agrees d₁ d₂ level (cycled (cycle d₁ a) ∷ []) b (cycle d₂ b .after)
-  agrees-cycle a b h =
-      agrees-cycled
-      (cycle d₁ a)
-      (rw (same .values (cycle d₁ a .after) (cycle d₂ b .after) (same .cycles a b h), same .walks a b h))
+  pub shows-cycle : (a b : Areas) → Related a b → shown d₁ level (cycle d₁ a) ≡ shown d₂ level (cycle d₂ b)
+  shows-cycle a b h = rw (same .values (cycle d₁ a .after) (cycle d₂ b .after) (same .cycles a b h), same .walks a b h)
 
   -- n cycles of both
   pub related-cycles : (n : ℕ) (a b : Areas) → Related a b → Related (afterCycles d₁ n a) (afterCycles d₂ n b)
@@ -133,10 +172,27 @@ module _ {d₁ d₂ : Design} {level : ℕ} {Related : Areas → Areas → Type 
   related-cycles zero a b h = h
   related-cycles (suc n) a b h = related-cycles n (cycle d₁ a .after) (cycle d₂ b .after) (same .cycles a b h)
 
-  agrees-cycles : (n : ℕ) (a b : Areas) → Related a b → Agrees d₁ d₂ level (map cycled (cycles d₁ n a)) b (afterCycles d₂ n b)
+  agrees-cycles : (n : ℕ) (a b : Areas) (saved : List Areas) → Related a b
+      → Agrees d₁ d₂ level (map cycled (cycles d₁ n a)) (courseOf b saved) (courseOf (afterCycles d₂ n b) saved)
   unfolding afterCycles afterLast cycles
-  agrees-cycles zero a b h = agrees-none
-  agrees-cycles (suc n) a b h = agrees-append (agrees-cycle a b h) (agrees-cycles n (cycle d₁ a .after) (cycle d₂ b .after) (same .cycles a b h))
+  agrees-cycles zero a b saved h = agrees-none
+  agrees-cycles (suc n) a b saved h =
+      agrees-append (agrees-cycled (cycle d₁ a) (shows-cycle a b h)) (agrees-cycles n (cycle d₁ a .after) (cycle d₂ b .after) saved (same .cycles a b h))
+
+  -- n journalled cycles save the areas before each
+  pub agrees-journalled-cycles : (n : ℕ) (a b : Areas) (saved : List Areas) → Related a b
+      → Agrees d₁ d₂ level (map journalled (cycles d₁ n a)) (courseOf b saved) (courseOf (afterCycles d₂ n b) (saved ++ areasBefore d₂ n b))
+  unfolding afterCycles afterLast cycles areasBefore
+  agrees-journalled-cycles zero a b saved h = rw (append-nil saved) agrees-none
+  agrees-journalled-cycles (suc n) a b saved h =
+      let after = cycle d₂ b .after in
+      rw
+      (← append-assoc saved (b ∷ []) (areasBefore d₂ n after))
+      (agrees-append (agrees-journalled (cycle d₁ a) (shows-cycle a b h)) (agrees-journalled-cycles n (cycle d₁ a .after) after (saved ++ (b ∷ [])) (same .cycles a b h)))
+
+-- the canonical run begins with nothing saved
+abbrev pub startCourse : Design → ℕ → Course
+startCourse d level = courseOf (startAreas d level (λ r. 0)) []
 
 -- ---- a list of calls
 -- lent areas that are related to areas of the second run
@@ -144,7 +200,7 @@ pub record Follows (image : List ℕ) (Related : Areas → Areas → Type 0) (le
   pub area : length (lent .registers) ≡ wordLength * length (designOf image .registers)
   pub related : Related (areasOf (designOf image) lent) areas
 
--- what happened leads the second run from areas to some that what is left follows
+-- what happened leads the second run from areas to some that what is left follows, and leaves what it saved
 pub record Leads
     (image : List ℕ)
     (d₂ : Design)
@@ -152,9 +208,10 @@ pub record Leads
     (Related : Areas → Areas → Type 0)
     (happened : List Event)
     (left : Lent)
-    (areas : Areas) : Type 0 where
+    (areas : Areas)
+    (saved : List Areas) : Type 0 where
   pub reached : Areas
-  pub agrees : Agrees (designOf image) d₂ level happened areas reached
+  pub agrees : Agrees (designOf image) d₂ level happened (courseOf areas saved) (courseOf reached saved)
   pub following : Follows image Related left reached
 
 module _
@@ -213,12 +270,12 @@ module _
       }
 
   -- one call
-  module _ (lent : Lent) (b : Areas) (h : Follows image Related lent b) where
-    abbrev Claim : Call → Left → Type 0
-    Claim call left = Leads image d₂ level Related (eventsOf (left .answer) image lent call) (left .lent) b
+  module _ (lent : Lent) (b : Areas) (saved : List Areas) (h : Follows image Related lent b) where
+    abbrev Claim : Call → Left Lent → Type 0
+    Claim call left = Leads image d₂ level Related (eventsOf (left .answer) image lent call) (left .lent) b saved
 
     -- a call that leaves what is said
-    claim-left : (call : Call) {left : Left} → perform image lent call ≡ left → Claim call left → Claim call (perform image lent call)
+    claim-left : (call : Call) {left : Left Lent} → perform image lent call ≡ left → Claim call left → Claim call (perform image lent call)
     claim-left call e k = rw e k
 
     lengths : RightLengths (designOf image) lent
@@ -251,7 +308,7 @@ module _
         fit = less-iff .0 l
 
         go : (w : Bool) → registerSeen (designOf image) level r ≡ w
-            → Leads image d₂ level Related (wasWritten r v ∷ []) (written (designOf image) lent r v) b
+            → Leads image d₂ level Related (wasWritten r v ∷ []) (written (designOf image) lent r v) b saved
         go true s =
             let c = withRegister r v b in
             let related = same .writes-seen areas b (h .related) r v fit in
@@ -283,7 +340,7 @@ module _
             (run-accepted image accepted lent lengths (contents lent b h) (good-lent lent b h .sound) (good-lent lent b h .bound) n e)
             (record {
               reached = reached;
-              agrees = agrees-cycles same n areas b (h .related);
+              agrees = agrees-cycles same n areas b saved (h .related);
               following = follows-lent after reached (related-cycles same n areas b (h .related));
             })
         go false e = claim-refused (runs n) (run-refused image accepted lent lengths (contents lent b h) (good-lent lent b h .sound) (good-lent lent b h .bound) n e)
@@ -294,13 +351,13 @@ module _
     call-leads (runs n) = claim-run n
 
   -- a list of them
-  pub list-leads : (calls : List Call) (lent : Lent) (b : Areas) → Follows image Related lent b
-      → Leads image d₂ level Related (events image lent calls) (atEnd image lent calls) b
+  pub list-leads : (calls : List Call) (lent : Lent) (b : Areas) (saved : List Areas) → Follows image Related lent b
+      → Leads image d₂ level Related (events image lent calls) (atEnd image lent calls) b saved
   unfolding events atEnd
-  list-leads [] lent b h = record { reached = b; agrees = agrees-none; following = h }
-  list-leads (call ∷ more) lent b h =
-      let first = call-leads lent b h call in
-      let rest = list-leads more (perform image lent call .lent) (first .reached) (first .following) in
+  list-leads [] lent b saved h = record { reached = b; agrees = agrees-none; following = h }
+  list-leads (call ∷ more) lent b saved h =
+      let first = call-leads lent b saved h call in
+      let rest = list-leads more (perform image lent call .lent) (first .reached) saved (first .following) in
       record { reached = rest .reached; agrees = agrees-append (first .agrees) (rest .agrees); following = rest .following }
 
   -- ---- the start
@@ -314,35 +371,37 @@ module _
       let back = areas-of-lent (designOf image) keeps (resetAreas (designOf image)) reset-good in
       rw (reset-leaves image accepted lent lengths, ap (λ (a : Areas). a .registers) back)
 
-  -- the start is related to the start of the second run, whatever values are given in both within their widths
-  pub start-follows : (lent : Lent) → RightLengths (designOf image) lent → (given₁ given₂ : ℕ → ℕ)
-      → ((r : ℕ) → r < length (designOf image .registers) → given₁ r < modulus (designOf image .registers) r)
-      → ((r : ℕ) → r < length (d₂ .registers) → given₂ r < modulus (d₂ .registers) r)
-      → Follows image Related (withUnseen image level given₁ (reset image lent .lent)) (startAreas d₂ level given₂)
-  start-follows lent lengths given₁ given₂ within fit =
-      rw (start-lent lent lengths given₁) (follows-lent (startAreas (designOf image) level given₁) (startAreas d₂ level given₂) (same .starts given₁ given₂ within fit))
+  -- the start is related to a start of the second run, whatever values are given within their widths
+  pub start-follows : (begins : Beginning (designOf image)) → Follows image Related (start image level begins) (startAreas d₂ level (λ r. 0))
+  unfolding start
+  start-follows begins =
+      let given = begins .given in
+      rw
+      (start-lent (begins .lent) (begins .lengths) given)
+      (follows-lent
+      (startAreas (designOf image) level given)
+      (startAreas d₂ level (λ r. 0))
+      (same .starts given (λ r. 0) (begins .within) (λ r l. pow-pos (registerAt d₂ r .width))))
 
-  module _ (u : Use (designOf image)) where
-    -- a use shows what the canonical run of what remains shows
-    pub use-follows : (given : ℕ → ℕ) → ((r : ℕ) → r < length (d₂ .registers) → given r < modulus (d₂ .registers) r)
-        → (views image level u ≡ followed d₂ level (startAreas d₂ level given) (remains image level u))
-        × (seenAtEnd image level u ≡ valuesSeen d₂ level (followedEnd d₂ level (startAreas d₂ level given) (remains image level u) .registers))
-    unfolding views remains seenAtEnd history start
-    use-follows given fit =
-        let led = list-leads (u .calls) (start image level u) (startAreas d₂ level given) (start-follows (u .lent) (u .lengths) (u .given) given (u .within) fit) in
-        (led .agrees .seen, rw (led .agrees .at-end) (values-follow (atEnd image (start image level u) (u .calls)) (led .reached) (led .following)))
+  -- a use shows what the canonical run of what remains shows
+  pub use-follows : (u : Use (designOf image))
+      → (views image level u ≡ followed d₂ level (startCourse d₂ level) (remains image level u))
+      × (seenAtEnd image level u ≡ valuesSeen d₂ level (followedEnd d₂ level (startCourse d₂ level) (remains image level u) .areas .registers))
+  unfolding views remains seenAtEnd history
+  use-follows u =
+      let begun = start image level (u .begins) in
+      let led = list-leads (u .calls) begun (startAreas d₂ level (λ r. 0)) [] (start-follows (u .begins)) in
+      (led .agrees .seen, rw (led .agrees .at-end) (values-follow (atEnd image begun (u .calls)) (led .reached) (led .following)))
 
--- Two uses of which the same remains show the same: both show what one canonical run shows.
-pub lists-independent : (image₁ image₂ : List ℕ) → verdict image₁ ≡ Accepted 0 → verdict image₂ ≡ Accepted 0
-    → (level : ℕ) (Related₁ Related₂ : Areas → Areas → Type 0)
-    → Bisimulation (designOf image₁) (designOf image₂) level Related₁
-    → Bisimulation (designOf image₂) (designOf image₂) level Related₂
-    → (u₁ : Use (designOf image₁)) (u₂ : Use (designOf image₂))
-    → remains image₁ level u₁ ≡ remains image₂ level u₂
-    → (views image₁ level u₁ ≡ views image₂ level u₂) × (seenAtEnd image₁ level u₁ ≡ seenAtEnd image₂ level u₂)
-lists-independent image₁ image₂ accepted₁ accepted₂ level Related₁ Related₂ same₁ same₂ u₁ u₂ e =
-    let first = use-follows image₁ accepted₁ (designOf image₂) level Related₁ same₁ u₁ (λ r. 0) (λ r l. pow-pos (registerAt (designOf image₂) r .width)) in
-    let second = use-follows image₂ accepted₂ (designOf image₂) level Related₂ same₂ u₂ (λ r. 0) (λ r l. pow-pos (registerAt (designOf image₂) r .width)) in
+-- Two uses of an image of which the same remains show the same: both show what one canonical run shows.
+pub lists-independent : (image : List ℕ) → verdict image ≡ Accepted 0 → (level : ℕ) (Related : Areas → Areas → Type 0)
+    → Bisimulation (designOf image) (designOf image) level Related
+    → (one other : Use (designOf image))
+    → remains image level one ≡ remains image level other
+    → (views image level one ≡ views image level other) × (seenAtEnd image level one ≡ seenAtEnd image level other)
+lists-independent image accepted level Related same one other e =
+    let first = use-follows image accepted (designOf image) level Related same one in
+    let second = use-follows image accepted (designOf image) level Related same other in
     let seen = rw e at (first .0) in
     let at-end = rw e at (first .1) in
     (seen ∙ sym (second .0), at-end ∙ sym (second .1))

@@ -1,4 +1,4 @@
--- Demand 3, across two accepted images that have the same in common at a level (02, E14) and so within one: the relation of `Runs.antt` holds from reset, and
+-- Demand 3: the relation of `Runs.antt` holds from reset between two accepted images that have the same in common at a level (02, E14), and so within one, and
 -- `Lists.antt` carries it through whole lists of calls. All that it uses of an image beside that is drawn from its verdict.
 use Prim.Native.Nat.{ℕ, _≤_, _<_}
 use mathlib.Core.Path.{_≡_, refl, ap}
@@ -14,7 +14,7 @@ use Rattle.model.specs.Parties.{Independent}
 use Rattle.model.proofs.Laws.Words.{length-recordsOf}
 use Rattle.model.proofs.Exact.{verdict-exact}
 use Rattle.model.proofs.Independence.Relation.{Bisimulation}
-use Rattle.model.specs.Neighbours.{Common, common, IndependentNeighbours}
+use Rattle.model.specs.Neighbours.{Common, common}
 use Rattle.model.proofs.Independence.Common.{common-alike}
 use Rattle.model.proofs.Independence.Runs.{Related, related-bisimulation}
 use Rattle.model.proofs.Laws.Images.{label-count, register-count}
@@ -63,24 +63,12 @@ related-neighbours image edited accepted accepted′ level isLabel same =
     (rooted image (keeps .directory))
     isLabel
 
-pub independent-across : IndependentNeighbours
-independent-across image edited accepted accepted′ level isLabel same one other matching =
-    let d₁ = designOf image in
-    let d₂ = designOf edited in
-    lists-independent
-    image
-    edited
-    accepted
-    accepted′
-    level
-    (Related d₁ d₂ level)
-    (Related d₂ d₂ level)
-    (related-neighbours image edited accepted accepted′ level isLabel same)
-    (related-neighbours edited edited accepted′ accepted′ level (common-level image edited level same isLabel) refl)
-    one
-    other
-    matching
-
 -- within one design: what it has in common with itself is the same
 pub independent : Independent
-independent image accepted level isLabel one other matching = independent-across image image accepted accepted level isLabel refl one other matching
+independent image accepted level isLabel =
+    lists-independent
+    image
+    accepted
+    level
+    (Related (designOf image) (designOf image) level)
+    (related-neighbours image image accepted accepted level isLabel refl)

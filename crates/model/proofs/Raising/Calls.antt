@@ -17,20 +17,21 @@ use Rattle.model.specs.declared.Answer.the-variants.{Accepted, Refused}
 use Rattle.model.specs.Answers.{numbersOf}
 use Rattle.model.specs.Image.{designOf}
 use Rattle.model.specs.Parameters.{hasParameters}
-use Rattle.model.specs.Raising.{LeastRaising, accepts, raisedImage, LeftOut, raiseAnswer, raise}
-use Rattle.model.specs.Refusals.{raiseTable, AnswersBy}
+use Rattle.model.specs.Raising.{LeastRaising, accepts, raisedImage, raiseAnswer, raise}
+use Rattle.model.specs.Refusals.{raiseTable, inNumbers, Exactly}
 use Rattle.model.specs.Verdict.{_before_, refusedAt, atZeroUnless, structure, verdict}
 use Rattle.model.proofs.Laws.Equivalences.{equal-iff}
 use Rattle.model.proofs.Laws.Plain.{Plain, plain-iff}
 use Rattle.model.proofs.Laws.Found.{zero-unless-iff}
 use Rattle.model.proofs.Laws.Verdict.{first-accepts, later-accepts, found-nothing}
 use Rattle.model.proofs.Laws.Numbers.{no-number-zero, told-refused}
-use Rattle.model.proofs.Laws.LeftOut.{left-answer, left-out}
+use Rattle.model.proofs.Laws.Left.{left-answer}
 use Rattle.model.proofs.Laws.Broken.{Decides, decides-one, decides-before}
 use Rattle.model.proofs.Laws.Finds.{finds-zero}
 use Rattle.model.proofs.Exact.{structure-exact, structure-counts-nothing, verdict-exact}
-use Rattle.model.proofs.Refused.{structure-decides, answers-by}
+use Rattle.model.proofs.Refused.{structure-decides, exactly}
 use Rattle.model.proofs.Raising.Theorem.{accepts-exact, least, exists-exactly, comes-back, raises-plain}
+use Rattle.model.specs.Calls.{Left}
 
 module _ (image out : List ℕ) where
   -- ---- the answer
@@ -49,8 +50,9 @@ module _ (image out : List ℕ) where
   unfolding raise
   raise-answer = left-answer (raiseAnswer image out) out (raisedImage image)
 
-  pub raise-answers : AnswersBy (raiseTable image out) 0 (numbersOf (raise image out .answer))
-  raise-answers = rw raise-answer (answers-by raise-decides)
+  pub raise-answers : Exactly (raiseTable image out) 0 out (inNumbers (raise image out))
+  unfolding raise
+  raise-answers = exactly _ raise-decides
 
   -- 02, E8: 20, exactly where a state has a parameter
   raise-refuses-parameters : structure image ≡ Accepted 0 → (raise image out .answer ≡ Refused RaiseParameters 0) ↔ (hasParameters (designOf image) ≡ true)
@@ -66,11 +68,6 @@ module _ (image out : List ℕ) where
   pub raise-parameters : structure image ≡ Accepted 0 → (numbersOf (raise image out .answer) ≡ record { number = 20; place = 0; count = 0 }) ↔ (hasParameters (designOf image) ≡ true)
   raise-parameters structured = Iff·trans (told-refused (raise image out .answer) RaiseParameters 0) (raise-refuses-parameters structured)
 
-  -- ---- a refusal leaves the second area
-  pub raise-refused : (numbersOf (raise image out .answer) .number ≡ 0 → ⊥) → raise image out .out ≡ out
-  unfolding raise
-  raise-refused refused = left-out (raiseAnswer image out) out (raisedImage image) refused
-
   -- ---- an acceptance, through its number
   accepted-answer : numbersOf (raise image out .answer) .number ≡ 0 → raiseAnswer image out ≡ Accepted 0
   accepted-answer e = go (raise-decides .either)
@@ -80,7 +77,7 @@ module _ (image out : List ℕ) where
       go (inr (refusal, place, h)) = absurd (no-number-zero refusal (ap (λ (a : Answer). numbersOf a .number) (sym (raise-answer ∙ h)) ∙ e))
 
   -- it leaves the raised image
-  leaves-raised : raiseAnswer image out ≡ Accepted 0 → raise image out ≡ record { answer = Accepted 0; out = raisedImage image }
+  leaves-raised : raiseAnswer image out ≡ Accepted 0 → raise image out ≡ record { answer = Accepted 0; lent = raisedImage image }
   unfolding raise
   leaves-raised accepted = rw accepted
 
@@ -121,13 +118,13 @@ module _ (image out : List ℕ) where
   raise-accepts structured plain long accepted = rw (structured, plain-iff (designOf image) .1 plain, equal-iff {a = length out} {b = length image} .1 long, accepted)
 
   -- "The result is the least"
-  pub raise-least : numbersOf (raise image out .answer) .number ≡ 0 → LeastRaising image (raise image out .out)
+  pub raise-least : numbersOf (raise image out .answer) .number ≡ 0 → LeastRaising image (raise image out .lent)
   raise-least e =
       let accepted = accepted-answer e in
-      rw (ap (λ (left : LeftOut). left .out) (leaves-raised accepted)) (least image (accepted-structure accepted) (accepted-plain accepted) (accepted-raising accepted))
+      rw (ap (λ (left : Left (List ℕ)). left .lent) (leaves-raised accepted)) (least image (accepted-structure accepted) (accepted-plain accepted) (accepted-raising accepted))
 
   -- "An accepted image comes back unchanged."
-  pub raise-comes-back : verdict image ≡ Accepted 0 → Plain (designOf image) → length out ≡ length image → raise image out ≡ record { answer = Accepted 0; out = image }
+  pub raise-comes-back : verdict image ≡ Accepted 0 → Plain (designOf image) → length out ≡ length image → raise image out ≡ record { answer = Accepted 0; lent = image }
   raise-comes-back accepted plain long =
       let good = verdict-exact image .0 accepted in
       let same = comes-back image accepted plain in
@@ -136,12 +133,12 @@ module _ (image out : List ℕ) where
 
 -- raised twice is raised once
 pub raise-twice : (image out again : List ℕ) → numbersOf (raise image out .answer) .number ≡ 0 → length again ≡ length image
-    → raise (raise image out .out) again ≡ record { answer = Accepted 0; out = raise image out .out }
+    → raise (raise image out .lent) again ≡ record { answer = Accepted 0; lent = raise image out .lent }
 raise-twice image out again e long =
     let least = raise-least image out e .accepted in
     let accepted = accepted-answer image out e in
-    let plain = raises-plain image (raise image out .out) (accepted-structure image out accepted) (least .raises) (accepted-plain image out accepted) in
-    raise-comes-back (raise image out .out) again (verdict-exact (raise image out .out) .1 (least .keeps)) plain (long ∙ sym (least .raises .same-length))
+    let plain = raises-plain image (raise image out .lent) (accepted-structure image out accepted) (least .raises) (accepted-plain image out accepted) in
+    raise-comes-back (raise image out .lent) again (verdict-exact (raise image out .lent) .1 (least .keeps)) plain (long ∙ sym (least .raises .same-length))
 
 -- what the second area held does not matter: only its length does
 pub raise-whatever-held : (image out other : List ℕ) → length other ≡ length out → numbersOf (raise image out .answer) .number ≡ 0 → raise image other ≡ raise image out

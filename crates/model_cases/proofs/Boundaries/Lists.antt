@@ -21,7 +21,7 @@ leaseWithin given h (suc (suc r)) l = absurd (omega arith)
 
 -- two cycles of the lease design, a write to its port, one to its inner register, which is refused, and a third cycle
 abbrev aUse : Use (designOf lease)
-aUse = record { lent = anyLent; lengths = record { registers = unfold everything in refl; targets = unfold everything in refl }; given = λ r. 7; within = leaseWithin (λ r. 7) (λ r. omega arith); calls = runs 2 ∷ writes 1 5 ∷ writes 0 5 ∷ runs 1 ∷ [] }
+aUse = record { begins = record { lent = anyLent; lengths = record { registers = unfold everything in refl; targets = unfold everything in refl }; given = λ r. 7; within = leaseWithin (λ r. 7) (λ r. omega arith) }; calls = runs 2 ∷ writes 1 5 ∷ writes 0 5 ∷ runs 1 ∷ [] }
 
 -- the values, and the states of the walk; none of these designs has a parameter
 abbrev seen : List ℕ → List ℕ → Seen
@@ -51,7 +51,7 @@ shows-end = unfold whole in refl
 
 -- "the empty one included": an empty list has no view and leaves what its start left
 abbrev noCalls : Use (designOf lease)
-noCalls = record { lent = anyLent; lengths = record { registers = unfold everything in refl; targets = unfold everything in refl }; given = λ r. 7; within = leaseWithin (λ r. 7) (λ r. omega arith); calls = [] }
+noCalls = record { begins = record { lent = anyLent; lengths = record { registers = unfold everything in refl; targets = unfold everything in refl }; given = λ r. 7; within = leaseWithin (λ r. 7) (λ r. omega arith) }; calls = [] }
 
 shows-empty-views : views lease 1 noCalls ≡ []
 shows-empty-views = unfold whole in refl
@@ -104,16 +104,19 @@ diamondWithin (suc (suc (suc (suc (suc (suc r)))))) l = absurd (omega arith)
 abbrev bothWays : Use (designOf diamond)
 bothWays =
     record {
-      lent = lentBound (replicate 24 9) (replicate 5 9) (replicate 10 9);
-      lengths = record { registers = unfold everything in refl; targets = unfold everything in refl };
-      given = λ r. 100 + r;
-      within = diamondWithin;
+      begins =
+          record {
+            lent = lentBound (replicate 24 9) (replicate 5 9) (replicate 10 9);
+            lengths = record { registers = unfold everything in refl; targets = unfold everything in refl };
+            given = λ r. 100 + r;
+            within = diamondWithin;
+          };
       calls = runs 2 ∷ writes 1 21 ∷ writes 2 22 ∷ resets ∷ writes 0 5 ∷ writes 3 33 ∷ runs 2 ∷ runs 0 ∷ [];
     }
 
 -- "Each starts with a reset; then the registers not at or below the level are given any values": at level 1 those of labels 2 and 3, at level 2 of 1 and 3
 shows-start
-    : map (λ level. start diamond level bothWays) (0 ∷ 1 ∷ 2 ∷ 3 ∷ [])
+    : map (λ level. start diamond level (bothWays .begins)) (0 ∷ 1 ∷ 2 ∷ 3 ∷ [])
     ≡ lent (bytesOf (0 ∷ 101 ∷ 102 ∷ 103 ∷ 104 ∷ 105 ∷ [])) (1 ∷ 1 ∷ 2 ∷ 4 ∷ 4 ∷ [])
     ∷ lent (bytesOf (0 ∷ 11 ∷ 102 ∷ 103 ∷ 41 ∷ 105 ∷ [])) (1 ∷ 1 ∷ 2 ∷ 4 ∷ 4 ∷ [])
     ∷ lent (bytesOf (0 ∷ 101 ∷ 20 ∷ 103 ∷ 104 ∷ 105 ∷ [])) (1 ∷ 1 ∷ 2 ∷ 4 ∷ 4 ∷ [])
@@ -163,10 +166,13 @@ shows-ends = unfold whole in refl
 abbrev endsBy : Call → Use (designOf lease)
 endsBy call =
     record {
-      lent = anyLent;
-      lengths = record { registers = unfold everything in refl; targets = unfold everything in refl };
-      given = λ r. 7;
-      within = leaseWithin (λ r. 7) (λ r. omega arith);
+      begins =
+          record {
+            lent = anyLent;
+            lengths = record { registers = unfold everything in refl; targets = unfold everything in refl };
+            given = λ r. 7;
+            within = leaseWithin (λ r. 7) (λ r. omega arith);
+          };
       calls = runs 2 ∷ call ∷ [];
     }
 
@@ -194,10 +200,13 @@ shows-right-targets right = unfold everything in false≢true (ap (eqb 15) (righ
 abbrev otherUse : Use (designOf lease)
 otherUse =
     record {
-      lent = resetLent;
-      lengths = record { registers = unfold everything in refl; targets = unfold everything in refl };
-      given = λ r. 8;
-      within = leaseWithin (λ r. 8) (λ r. omega arith);
+      begins =
+          record {
+            lent = resetLent;
+            lengths = record { registers = unfold everything in refl; targets = unfold everything in refl };
+            given = λ r. 8;
+            within = leaseWithin (λ r. 8) (λ r. omega arith);
+          };
       calls = runs 1 ∷ runs 1 ∷ writes 2 6 ∷ writes 1 5 ∷ runs 1 ∷ [];
     }
 

@@ -5,7 +5,7 @@ use mathlib.Core.List.{List, [], _∷_, map}
 use lib.ListN.{length, replicate}
 use Rattle.model.specs.Answers.{Numbers}
 use Rattle.model.specs.Raising.{raise}
-use Rattle.model.proofs.Opened.{raising, checks, refused, accepted, judged, leftOut}
+use Rattle.model.proofs.Opened.{raising, checks, refused, accepted, judged, told}
 use Rattle.model.proofs.Designs.{assemble, oneState, chain, registerRecord, stateRecord, stateWith, skips, assigns, sequences, falls, goesTo, branches, constant, reads, adds, lease, oneGroup}
 
 -- a second area of as many bytes as an image, of one less and of one more, with any bytes in it
@@ -20,7 +20,7 @@ longer image = replicate (suc (length image)) 9
 
 -- what a call with such an area answers and leaves
 abbrev raised : List ℕ → Numbers × List ℕ
-raised image = leftOut (raise image (area image))
+raised image = told (raise image (area image))
 
 -- Four labels, of which 1 and 2 cannot be compared and 3 is the top. Register r0 is an inner one, r1 and r2 are ports: r0 := r1 + r2; goto 1
 abbrev diamond : List ℕ
@@ -160,11 +160,11 @@ shows-not-helped = unfold raising in refl
 
 -- "An output area not as long as the image is refusal 14": shorter and longer, before 18, and where there is a raising
 shows-area
-    : map (λ (image : List ℕ). leftOut (raise image (shorter image))) (badGoto ∷ upstream 0 0 0 ∷ lease ∷ [])
+    : map (λ (image : List ℕ). told (raise image (shorter image))) (badGoto ∷ upstream 0 0 0 ∷ lease ∷ [])
     ≡ (refused 14 0, shorter badGoto) ∷ (refused 14 0, shorter (upstream 0 0 0)) ∷ (refused 14 0, shorter lease) ∷ []
 shows-area = unfold raising in refl
 
-shows-long-area : leftOut (raise badGoto (longer badGoto)) ≡ (refused 14 0, longer badGoto)
+shows-long-area : told (raise badGoto (longer badGoto)) ≡ (refused 14 0, longer badGoto)
 shows-long-area = unfold raising in refl
 
 -- "judged after the image checks": 9, for the default child of a state of label 1 that holds a fall, and 16, for an assignment to r3
@@ -175,7 +175,7 @@ abbrev toPort : List ℕ
 toPort = oneState chain (five 0 0 0) 3 (assigns 3 0 ∷ goesTo 1 ∷ sequences 1 2 ∷ []) (constant 1 ∷ [])
 
 shows-image-first
-    : map (λ (image : List ℕ). leftOut (raise image (shorter image))) (lowChild ∷ toPort ∷ [] ∷ [])
+    : map (λ (image : List ℕ). told (raise image (shorter image))) (lowChild ∷ toPort ∷ [] ∷ [])
     ≡ (refused 9 2, shorter lowChild) ∷ (refused 16 1, shorter toPort) ∷ (refused 1 0, shorter []) ∷ []
 shows-image-first = unfold raising in refl
 
@@ -201,12 +201,12 @@ shows-raising-parameters = unfold raising in refl
 
 -- the area is as it was, and an area of another length is not looked at
 shows-20-before-14
-    : leftOut (raise (parameterised (stateWith 0 0 4 1 0 0 0 0) 1) (9 ∷ [])) ∷ leftOut (raise (parameterised (stateRecord 0 0 4) 1) (9 ∷ [])) ∷ []
+    : told (raise (parameterised (stateWith 0 0 4 1 0 0 0 0) 1) (9 ∷ [])) ∷ told (raise (parameterised (stateRecord 0 0 4) 1) (9 ∷ [])) ∷ []
     ≡ (refused 20 0, 9 ∷ []) ∷ (refused 14 0, 9 ∷ []) ∷ []
 shows-20-before-14 = unfold raising in refl
 
 -- an accepted image that has parameters is refused too
-shows-20-of-accepted : leftOut (raise oneGroup (9 ∷ [])) ≡ (refused 20 0, 9 ∷ [])
+shows-20-of-accepted : told (raise oneGroup (9 ∷ [])) ≡ (refused 20 0, 9 ∷ [])
 shows-20-of-accepted = unfold raising in refl
 
 -- after the image checks: 8 of a goto to the root, 19 of a count, 19 of an argument outside its bounds, and 9

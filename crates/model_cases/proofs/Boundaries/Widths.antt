@@ -11,7 +11,7 @@ use Rattle.model.specs.Image.{registerAt, designOf}
 use Rattle.model.specs.Answers.{Numbers, numbersOf}
 use Rattle.model.specs.Machine.{cycle}
 use Rattle.model.specs.Calls.{Lent, runAnswer}
-use Rattle.model.specs.Parties.{Call, Use, resets, writes, runs, perform}
+use Rattle.model.specs.Parties.{Call, Beginning, resets, writes, runs, perform}
 use Rattle.model.proofs.Opened.{checks, everything, refused, accepted, judged, told, lent, lentBound, areas}
 use Rattle.model.proofs.Designs.{assemble, oneState, widthRecord, registerRecord, stateRecord, skips, assigns, sequences, falls, goesTo, branches, constant, reads, adds, subtracts, equals}
 
@@ -232,15 +232,14 @@ largestWithin (suc zero) l = omega arith
 largestWithin (suc (suc zero)) l = omega arith
 largestWithin (suc (suc (suc r))) l = absurd (omega arith)
 
-shows-given-largest : Use (designOf narrow)
+shows-given-largest : Beginning (designOf narrow)
 shows-given-largest =
     record {
       lent = holding 0 0 0;
       lengths = record { registers = unfold everything in refl; targets = unfold everything in refl };
       given = largest;
       within = largestWithin;
-      calls = [];
     }
 
-shows-given-fits : (u : Use (designOf narrow)) → u .given 0 < 1024
-shows-given-fits u = unfold checks in u .within 0 (omega arith)
+shows-given-fits : (begins : Beginning (designOf narrow)) → begins .given 0 < 1024
+shows-given-fits begins = unfold checks in begins .within 0 (omega arith)

@@ -13,7 +13,7 @@ use Rattle.model.specs.Verdict.{verdict}
 use Rattle.model.specs.Values.{fits, bytesOf}
 use Rattle.model.specs.Machine.{Areas, resetAreas, cycle, cycles, afterLast, afterCycles}
 use Rattle.model.specs.Calls.{Lent, Left, isWritable, lentOf}
-use Rattle.model.specs.Parties.{Call, resets, writes, runs, Event, wasReset, wasWritten, cycled, eventsOf, events, atEnd}
+use Rattle.model.specs.Parties.{Call, resets, writes, runs, Event, wasReset, wasWritten, cycled, eventsOf, events, atEnd, journalled, steppedBack}
 use Rattle.model.proofs.Laws.Equivalences.{less-iff}
 use Rattle.model.proofs.Exact.{verdict-exact}
 use Rattle.model.proofs.Independence.Relation.{Good, withRegister}
@@ -34,6 +34,8 @@ ran-append number [] second = refl
 ran-append number (wasReset ∷ first) second = ran-append number first second
 ran-append number (wasWritten r v ∷ first) second = ran-append number first second
 ran-append number (cycled c ∷ first) second = rw (ran-append number first second)
+ran-append number (journalled c ∷ first) second = rw (ran-append number first second)
+ran-append number (steppedBack ∷ first) second = ran-append number first second
 
 map-same-number : (xs : List ℕ) → map (λ s. s) xs ≡ xs
 map-same-number [] = refl
@@ -106,13 +108,13 @@ module _ {d d′ : Design} {state command expression : ℕ → ℕ} {S C E : ℕ
 module _ (image : List ℕ) (accepted : verdict image ≡ Accepted 0) (a : Areas) (good : Good (designOf image) a) (call : Call) (more : List Call) where
   answers-first : answers image (lentOf a) (call ∷ more) ≡ answered (designOf image) call ∷ answers image (lentOf (made (designOf image) a call)) more
   unfolding answers
-  answers-first = ap (λ (left : Left). left .answer ∷ answers image (left .lent) more) (performed image accepted a good call)
+  answers-first = ap (λ (left : Left Lent). left .answer ∷ answers image (left .lent) more) (performed image accepted a good call)
 
   events-first : events image (lentOf a) (call ∷ more) ≡ happened (designOf image) a call ++ events image (lentOf (made (designOf image) a call)) more
   unfolding events
   events-first =
       let rest = events image (lentOf (made (designOf image) a call)) more in
-      ap (λ (left : Left). eventsOf (left .answer) image (lentOf a) call ++ events image (left .lent) more) (performed image accepted a good call)
+      ap (λ (left : Left Lent). eventsOf (left .answer) image (lentOf a) call ++ events image (left .lent) more) (performed image accepted a good call)
       ∙ ap (λ (first : List Event). first ++ rest) (events-happened image accepted a good call)
 
   ran-first : (number : ℕ → ℕ)
@@ -122,7 +124,7 @@ module _ (image : List ℕ) (accepted : verdict image ≡ Accepted 0) (a : Areas
 
   end-first : atEnd image (lentOf a) (call ∷ more) ≡ atEnd image (lentOf (made (designOf image) a call)) more
   unfolding atEnd
-  end-first = ap (λ (left : Left). atEnd image (left .lent) more) (performed image accepted a good call)
+  end-first = ap (λ (left : Left Lent). atEnd image (left .lent) more) (performed image accepted a good call)
 
 -- on two images
 module _

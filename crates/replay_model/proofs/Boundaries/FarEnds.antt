@@ -8,7 +8,7 @@ use Rattle.model.specs.Image.{designOf}
 use Rattle.model.proofs.Opened.{told, accepted}
 use Rattle.replay_model.specs.Traces.{recordsOfCycle, applied, supersededIn, tracePart, traceRest}
 use Rattle.replay_model.specs.Calls.{cycleKept, registerKept, valueKept, replay}
-use Rattle.replay_model.specs.Views.{cycleByHand, traceSeen}
+use Rattle.replay_model.specs.ByHand.{cycleByHand, traceSeen}
 use Rattle.replay_model.proofs.Opened.{replaying, reading, acceptedWith, meters, meterAreas, meterStart, answered}
 
 -- "value, 32 bits": every bit of a reading counts, of the last of 64 registers too

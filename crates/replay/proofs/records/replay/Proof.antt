@@ -46,7 +46,6 @@ use Rattle.model.specs.declared.Answer.{Answer}
 use Rattle.model.proofs.Answer as An
 use Rattle.model.proofs.Answer.Laws as An′
 use Rattle.design.specs.Resets.{lends}
-use Rattle.running.specs.Stages.{leftAs}
 use Rattle.replay_model.specs.declared.TraceRecord.{TraceRecord}
 use Rattle.replay_model.specs.Calls.{replay as replayOf}
 use Rattle.replay_model.proofs.TraceRecord as T
@@ -81,6 +80,7 @@ use Rattle.replay.proofs.records.replay.Key.{name as #replay·records·
 use Rattle.replay.proofs.records.replay as replay
 use Rattle.replay.proofs.records.replay.Statement as stated
 use Rattle.replay.proofs.records.replay.Code as code
+use Rattle.model.specs.Calls.{leftAs}
 
 abbrev stayed : Stays (replay.ended .signature .params) (replay.ended .kept)
 stayed = (
@@ -339,7 +339,7 @@ module _
         asked = qed W (raw (onEntry 𝓤 H A replay-records.signature κs qs (to-replay p w j u .0 .3) (to-replay p w j u .0 .4)) ∷ []) ∵ says ! e $ done !
 
     -- at exit: the tokens, what says the last values of registers and targets, image and trace, and the result
-    ended : (r : Answer) (v : Val) (xs ys : List ℕ) → leftAs r xs ys ≡ replayOf (image .now) (lends (registers .now) (targets .now)) (trace .now) n → length xs ≡ length (registers .now) → length ys ≡ length (targets .now)
+    ended : (r : Answer) (v : Val) (xs ys : List ℕ) → leftAs r (lends xs ys) ≡ replayOf (image .now) (lends (registers .now) (targets .now)) (trace .now) n → length xs ≡ length (registers .now) → length ys ≡ length (targets .now)
         → ent 𝓤 (⋆ 𝓤 H A (Tokens ∷ ‵ (An.the-row .own r (v ∷ [])) ∷ ‵ (finally u8 (registers .name) xs) ∷ ‵ (finally u8 (targets .name) ys) ∷ ‵ Replays ∷ [])) (Post v)
     ended r v xs ys e l₁ l₂ =
         qed W (Tokens ∷ ‵ (An.the-row .own r (v ∷ [])) ∷ ‵ (finally u8 (registers .name) xs) ∷ ‵ (finally u8 (targets .name) ys) ∷ ‵ Replays ∷ []) ∵
@@ -353,7 +353,7 @@ module _
     Last = Unit {0} × (Unit {0} × (List ℕ × (List ℕ × (Unit {0} × (Unit {0} × Unit {0})))))
 
     abbrev Leaves : Prepared → Answer → Last → Type 0
-    Leaves p r zs = leftAs r (zs .1 .1 .0) (zs .1 .1 .1 .0) ≡ replayOf (image .now) (lends (registers .now) (targets .now)) (trace .now) (p .count)
+    Leaves p r zs = leftAs r (lends (zs .1 .1 .0) (zs .1 .1 .1 .0)) ≡ replayOf (image .now) (lends (registers .now) (targets .now)) (trace .now) (p .count)
 
     replayed : (p : Prepared) (w : Val) (j : Judging) (u : Val) → Answered p → (v : Val)
         → ent 𝓤 (sep 𝓤 (ReplayRecords 𝓤 H A mem run .post (to-replay p w j u) v) (sem 𝓤 H A Replays)) (H .⇛ (ex 𝓤 (λ (r : Answer). guard 𝓤 (Is An.the-row r (v ∷ [])) (Post v))))

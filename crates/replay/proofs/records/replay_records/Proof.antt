@@ -51,7 +51,6 @@ use Rattle.model.specs.declared.Answer.{Answer}
 use Rattle.model.proofs.Answer as Ans
 use Rattle.model.proofs.Answer.Laws as Ans′
 use Rattle.design.specs.Resets.{lends}
-use Rattle.running.specs.Stages.{leftAs}
 use Rattle.replay_model.specs.declared.TraceRecord.{TraceRecord}
 use Rattle.replay_model.specs.Traces.{recordAt}
 use Rattle.replay_model.specs.Calls.{replay as replayOf}
@@ -84,6 +83,7 @@ use Rattle.replay.proofs.records.replay_records.Statement as stated
 use Rattle.replay.proofs.records.replay_records.Code as code
 use Rattle.replay.proofs.records.replay_records.Code.Mir as pieces
 use Rattle.replay.proofs.records.replay_records.Proof.Callees.{Kept, RecordAt, Step, Finish, area, areaVal, sharedVal, keeps, takes, steps, finishes}
+use Rattle.model.specs.Calls.{leftAs}
 
 abbrev stayed : Stays (replays.ended .signature .params) (replays.ended .kept)
 stayed = (
@@ -198,7 +198,7 @@ module _ {M : Type 1} (𝓤 : URA M) (H : Heap 𝓤) (A : Atoms 𝓤) (W : Given
   abbrev Post : Val → SProp 𝓤
   Post = walkOf 𝓤 H A replays.ended stayed (replays.clauses 𝓤 H A mem run) .post bound
 
-  exits : (w : Val) (a : Answer) (zs₁ zs₂ : List ℕ) → length zs₁ ≡ length xs₁ → length zs₂ ≡ length xs₂ → leftAs a zs₁ zs₂ ≡ replayOf (now image) (lends xs₁ xs₂) (now trace) (p .count)
+  exits : (w : Val) (a : Answer) (zs₁ zs₂ : List ℕ) → length zs₁ ≡ length xs₁ → length zs₂ ≡ length xs₂ → leftAs a (lends zs₁ zs₂) ≡ replayOf (now image) (lends xs₁ xs₂) (now trace) (p .count)
       → ent 𝓤 (⋆ 𝓤 H A (‵ (Ans.the-row .own a (w ∷ [])) ∷ ‵ (finally u8 γ₁ zs₁) ∷ ‵ (finally u8 γ₂ zs₂) ∷ (‵ (flft κ₀ q₀) ⊛ ‵ (flft κ₁ q₁) ⊛ ‵ (flft κ₂ q₂) ⊛ ‵ ftrue) ∷ ‵ (flft κ₃ q₃) ∷ [])) (Post w)
   exits w a zs₁ zs₂ e₁ e₂ e =
       qed W (‵ (Ans.the-row .own a (w ∷ [])) ∷ ‵ (finally u8 γ₁ zs₁) ∷ ‵ (finally u8 γ₂ zs₂) ∷ (‵ (flft κ₀ q₀) ⊛ ‵ (flft κ₁ q₁) ⊛ ‵ (flft κ₂ q₂) ⊛ ‵ ftrue) ∷ ‵ (flft κ₃ q₃) ∷ []) ∵
@@ -251,7 +251,7 @@ module _ {M : Type 1} (𝓤 : URA M) (H : Heap 𝓤) (A : Atoms 𝓤) (W : Given
         ∷ ‵ (fat fullShare Ans′.mir l₀ 0 w) ∷ ‵ (froom imageTy l₁ 0) ∷ ‵ (froom P′.mir l₂ 0) ∷ ‵ (froom registersTy l₃ 0) ∷ ‵ (froom targetsTy l₄ 0) ∷ ‵ (froom traceTy l₅ 0) ∷ ‵ (froom J′.mir l₆ 0) ∷ ‵ (froom word l₇ 0) ∷ ‵ (froom number l₈ 0) ∷ ‵ (froom word l₉ 0) ∷ ‵ (froom R′.mir l₁₀ 0) ∷ ‵ (froom word l₁₁ 0) ∷ ‵ (froom tyBool l₁₂ 0) ∷ ‵ (froom lent l₁₃ 0) ∷ ‵ (froom areaTy l₁₄ 0) ∷ ‵ (froom lent l₁₅ 0) ∷ ‵ (froom areaTy l₁₆ 0) ∷ ‵ (froom lent l₁₇ 0) ∷ ‵ (froom areaTy l₁₈ 0) ∷ ‵ (froom lent l₁₉ 0) ∷ ‵ (froom areaTy l₂₀ 0) ∷ Δ
 
     -- the function returns, and its locals are freed
-    freed : (w : Val) (a : Answer) (zs₁ zs₂ : List ℕ) → length zs₁ ≡ length xs₁ → length zs₂ ≡ length xs₂ → leftAs a zs₁ zs₂ ≡ replayOf (now image) (lends xs₁ xs₂) (now trace) (p .count)
+    freed : (w : Val) (a : Answer) (zs₁ zs₂ : List ℕ) → length zs₁ ≡ length xs₁ → length zs₂ ≡ length xs₂ → leftAs a (lends zs₁ zs₂) ≡ replayOf (now image) (lends xs₁ xs₂) (now trace) (p .count)
         → ent 𝓤 (⋆ 𝓤 H A (Over w a zs₁ zs₂ (raw (⋆ 𝓤 H A Dies) ∷ []))) (Wp 𝓤 H C Λ En pieces.t-11 (atReturn 𝓤 H En Post))
     freed w a zs₁ zs₂ e₁ e₂ e =
         qed W (Over w a zs₁ zs₂ Dies) ∵ exec ! C Λ En pieces.t-11 (atRet En Post) $ returns ! (look ! 5 refl) $ forget ! 5 refl $

@@ -39,10 +39,9 @@ use denote.Triple.Walked.{says}
 use Rattle.model.specs.declared.Answer.{Answer}
 use Rattle.model.specs.Image.{designOf}
 use Rattle.model.specs.Machine.{afterCycles}
-use Rattle.model.specs.Calls.{leaves, areasOf, lentOf}
+use Rattle.model.specs.Calls.{leaves, areasOf, lentOf, leftAs}
 use Rattle.model.proofs.Answer as Ans
 use Rattle.design.specs.Resets.{lends}
-use Rattle.running.specs.Stages.{leftAs}
 use Rattle.machine.specs.Cycles.{Running, areasIn}
 use Rattle.replay_model.specs.declared.TraceRecord.{TraceRecord}
 use Rattle.replay_model.specs.Traces.{recordAt}
@@ -254,7 +253,7 @@ module _ {M : Type 1} (𝓤 : URA M) (H : Heap 𝓤) (A : Atoms 𝓤) (W : Given
           move ! (3 ∷ 0 ∷ []) $ fjoin ! $ move ! (2 ∷ 0 ∷ []) $ fjoin ! $ owned ! P.the-row (Is P.the-row) (LL.makes P.the-type P′.the-plain 𝓤 H A) p _ p-is $ fjoin ! $ move ! (1 ∷ 0 ∷ []) $ fjoin ! $ done !
 
       abbrev Finished : Answer → List ℕ → List ℕ → Type 0
-      Finished a zs₁ zs₂ = leftAs a zs₁ zs₂ ≡ leaves (answerOf p s) (lends xs₁ xs₂) (lentOf (afterCycles (designOf (now image)) (p .count - n) (areasOf (designOf (now image)) (lends xs₁ xs₂))))
+      Finished a zs₁ zs₂ = leftAs a (lends zs₁ zs₂) ≡ leaves (answerOf p s) (lends xs₁ xs₂) (lentOf (afterCycles (designOf (now image)) (p .count - n) (areasOf (designOf (now image)) (lends xs₁ xs₂))))
 
       pub finishes : {K : Type 0} {Γ : List (Item 𝓤)} {Λ : Loops 𝓤 H} {E : Env 𝓤 H} {q : Post 𝓤 H} {d : Place} {xs : List Operand} {rest : Body} → K
           → ((i : Item 𝓤) → Opds K W (i ∷ Γ) E xs (sharedVal image ∷ vp ∷ areaVal b₁ o₁ xs₁ ∷ areaVal b₂ o₂ xs₂ ∷ vs ∷ vint w32 n ∷ []))

@@ -10,9 +10,9 @@ use Rattle.model.specs.Calls.{Lent}
 use Rattle.model.specs.Parties.{Seen, runs, aCycle, valuesSeen}
 use Rattle.model.proofs.Opened.{lent}
 use Rattle.model.proofs.Designs.{word32, spare}
 use Rattle.journal_model.specs.Journals.{savedBytes}
 use Rattle.journal_model.specs.Calls.{LentJournal}
-use Rattle.journal_model.specs.Lists.{JournalCall, calls, journals, goesBack, journalEvents, journalsAtEnd, JournalRemaining, remains, aJournalledCycle, aStepBack, viewJournalled, remainingJournalled}
+use Rattle.journal_model.specs.Lists.{JournalCall, calls, journals, goesBack, events, atEnd, Remaining, remains, aJournalledCycle, aStepBack, view, remaining}
 use Rattle.journal_model.proofs.Opened.{journalling}
 
 -- areas of the design with a spare child, by r1, which level 0 does not see, and the target of the group, of which 2 is the default child and 3 the spare one
@@ -27,41 +27,41 @@ abbrev fromEmpty : ℕ → LentJournal
 fromEmpty secret = record { areas = areasWith secret 2; journal = replicate 24 0 }
 
 -- what remains of a list at level 0, what the level sees, and its registers at the end
-abbrev remainsOf : List JournalCall → LentJournal → List JournalRemaining
-remainsOf list from = remainingJournalled (designOf spare) 0 (journalEvents spare from list)
+abbrev remainsOf : List Call → LentJournal → List Remaining
+remainsOf list from = remaining (designOf spare) 0 (events spare from list)
 
-abbrev viewOf : List JournalCall → LentJournal → List Seen
-viewOf list from = viewJournalled (designOf spare) 0 (journalEvents spare from list)
+abbrev viewOf : List Call → LentJournal → List Seen
+viewOf list from = view (designOf spare) 0 (events spare from list)
 
-abbrev endOf : List JournalCall → LentJournal → List ℕ
-endOf list from = valuesSeen (designOf spare) 0 (wordsOf 2 (journalsAtEnd spare from list .areas .registers))
+abbrev endOf : List Call → LentJournal → List ℕ
+endOf list from = valuesSeen (designOf spare) 0 (wordsOf 2 (atEnd spare from list .areas .registers))
 
 abbrev seen : ℕ → List ℕ → Seen
 seen value walk = record { values = value ∷ []; walk = map (λ s. record { state = s; bound = [] }) walk }
 
 -- Both go back to what a journal from elsewhere counts, and run a cycle: the same remains, and the two journals differ in r1 alone.
-abbrev backAndOn : List JournalCall
-backAndOn = goesBack 1 ∷ calls (runs 1) ∷ []
+abbrev backAndOn : List Call
+backAndOn = goesBack 1 ∷ runs 1 ∷ []
 
-shows-elsewhere-matching : map (λ (secret : ℕ). remainsOf backAndOn (fromElsewhere secret)) (0 ∷ 1 ∷ []) ≡ replicate 2 (aStepBack 1 ∷ remains aCycle ∷ [])
-shows-elsewhere-matching = unfold journalling in refl
+shows-elsewhere-matching : map (λ (secret : ℕ). remainsOf backAndOn (fromElsewhere secret)) (0 ∷ 1 ∷ []) ≡ replicate 2 (aStepBack ∷ aCycle ∷ [])
+shows-elsewhere-matching = unfold listing in refl
 
 -- level 0 sees r1, in the walk and in r0
 shows-elsewhere-seen
     : map (λ (secret : ℕ). viewOf backAndOn (fromElsewhere secret)) (0 ∷ 1 ∷ []) ≡ (seen 0 (0 ∷ []) ∷ []) ∷ (seen 1 (0 ∷ 3 ∷ []) ∷ []) ∷ []
-shows-elsewhere-seen = unfold journalling in refl
+shows-elsewhere-seen = unfold listing in refl
 
 shows-elsewhere-at-end : map (λ (secret : ℕ). endOf backAndOn (fromElsewhere secret)) (0 ∷ 1 ∷ []) ≡ (0 ∷ []) ∷ (1 ∷ []) ∷ []
-shows-elsewhere-at-end = unfold journalling in refl
+shows-elsewhere-at-end = unfold listing in refl
 
 -- From an empty journal it does not: what is restored has r1, and the targets of a run from reset.
-abbrev journalledAndBack : List JournalCall
-journalledAndBack = journals 1 ∷ backAndOn
+abbrev journalledAndBack : List Call
+journalledAndBack = runsJournalled 1 ∷ backAndOn
 
 shows-own-journal-matching
-    : map (λ (secret : ℕ). remainsOf journalledAndBack (fromEmpty secret)) (0 ∷ 1 ∷ []) ≡ replicate 2 (aJournalledCycle ∷ aStepBack 1 ∷ remains aCycle ∷ [])
-shows-own-journal-matching = unfold journalling in refl
+    : map (λ (secret : ℕ). remainsOf journalledAndBack (fromEmpty secret)) (0 ∷ 1 ∷ []) ≡ replicate 2 (aJournalledCycle ∷ aStepBack ∷ aCycle ∷ [])
+shows-own-journal-matching = unfold listing in refl
 
 shows-own-journal-unseen
     : map (λ (secret : ℕ). viewOf journalledAndBack (fromEmpty secret)) (0 ∷ 1 ∷ []) ≡ replicate 2 (seen 0 (0 ∷ []) ∷ seen 0 (0 ∷ []) ∷ [])
-shows-own-journal-unseen = unfold journalling in refl
+shows-own-journal-unseen = unfold listing in refl
