@@ -10,10 +10,9 @@ use Rattle.model.specs.Verdict.{verdict}
 use Rattle.model.specs.Machine.{Areas, cycle, cycles}
 use Rattle.model.specs.Calls.{Lent, lentOf}
 use Rattle.model.proofs.Independence.Relation.{Bisimulation}
-use Rattle.model.proofs.Independence.Lists.{Follows, follows-lent, right-lengths}
+use Rattle.model.proofs.Independence.Lists.{areasBefore, Follows, follows-lent, right-lengths}
 use Rattle.journal_model.specs.Journals.{nothingSaved, savedBefore}
 use Rattle.journal_model.proofs.Laws.{AllSized, none-sized, one-sized}
-use Rattle.journal_model.proofs.Independence.Courses.{areasBefore}
 
 pub data AllFollow (image : List ℕ) (Related : Areas → Areas → Type 0) : List Lent → List Areas → Type 0 where
   none-follow : AllFollow image Related [] []

@@ -186,14 +186,13 @@ cycles-by-hand d trace c (suc n) areas =
     ∙ cycles-of-records (recordsOfCycle c trace) (cycled first ∷ rest)
     ∙ ap (λ (more : List Cycle). first ∷ more) (cycles-by-hand d trace (suc c) n (first .after))
 
--- ---- of an accepted replay
-pub made-by-hand : (image : List ℕ) (lent : Lent) → AreBytes (lent .registers) → (trace : List TraceRecord) (n : ℕ) → numbersOf (replay image lent trace n .answer) .number ≡ 0
+-- ---- of an accepted replay; one of no cycles leaves the areas as it reads and writes them
+pub made-by-hand : (image : List ℕ) (lent : Lent) (trace : List TraceRecord) (n : ℕ) → (n ≡ 0 → lentOf (areasOf (designOf image) lent) ≡ lent)
+    → numbersOf (replay image lent trace n .answer) .number ≡ 0
     → Made image lent (byHand trace 0 n) (eventsByHand (designOf image) trace 0 n (areasOf (designOf image) lent)) (replay image lent trace n .lent)
-made-by-hand image lent bytes trace n e =
+made-by-hand image lent trace n own e =
     let r = accepted-replays image lent trace n e in
-    rw
-    (replay-leaves image lent trace n r)
-    (hand-made image (r .ports) 0 n lent (areasOf (designOf image) lent) (r .ready) refl (ready-good image lent (r .ready)) (λ none. ready-back image lent (r .ready) bytes))
+    rw (replay-leaves image lent trace n r) (hand-made image (r .ports) 0 n lent (areasOf (designOf image) lent) (r .ready) refl (ready-good image lent (r .ready)) own)
 
 -- A replay against the port writes and single cycles of its trace: each of these calls is accepted, they leave what the replay leaves, and run its cycles.
 pub record ByHand (image : List ℕ) (lent : Lent) (calls : List Call) (left : Lent) (ran : List Cycle) : Type 0 where
@@ -204,7 +203,7 @@ pub record ByHand (image : List ℕ) (lent : Lent) (calls : List Call) (left : L
 pub as-by-hand : (image : List ℕ) (lent : Lent) → AreBytes (lent .registers) → (trace : List TraceRecord) (n : ℕ) → numbersOf (replay image lent trace n .answer) .number ≡ 0
     → ByHand image lent (byHand trace 0 n) (replay image lent trace n .lent) (replayed (designOf image) trace 0 n (areasOf (designOf image) lent))
 as-by-hand image lent bytes trace n e =
-    let made = made-by-hand image lent bytes trace n e in
+    let made = made-by-hand image lent trace n (λ none. ready-back image lent (accepted-replays image lent trace n e .ready) bytes) e in
     record {
       all-accepted = made .all-accepted;
       at-end = made .at-end;

@@ -7,13 +7,13 @@ use lib.ListN.{replicate}
 use Rattle.model.specs.Image.{designOf}
 use Rattle.model.specs.Values.{wordsOf}
 use Rattle.model.specs.Calls.{Lent}
-use Rattle.model.specs.Parties.{Seen, runs, aCycle, valuesSeen}
+use Rattle.model.specs.Parties.{Seen, Remaining, aCycle, aJournalledCycle, aStepBack, valuesSeen, view, remaining}
 use Rattle.model.proofs.Opened.{lent}
 use Rattle.model.proofs.Designs.{word32, spare}
 use Rattle.journal_model.specs.Journals.{savedBytes}
 use Rattle.journal_model.specs.Calls.{LentJournal}
-use Rattle.journal_model.specs.Lists.{JournalCall, calls, journals, goesBack, events, atEnd, Remaining, remains, aJournalledCycle, aStepBack, view, remaining}
-use Rattle.journal_model.proofs.Opened.{journalling}
+use Rattle.lists_model.specs.Lists.{Call, runs, runsJournalled, goesBack, events, atEnd}
+use Rattle.lists_model.proofs.Opened.{listing}
 
 -- areas of the design with a spare child, by r1, which level 0 does not see, and the target of the group, of which 2 is the default child and 3 the spare one
 abbrev areasWith : ℕ → ℕ → Lent

@@ -1,4 +1,4 @@
--- Cases at the boundaries of 02's E9, lists of calls with journals: what remains of them, what a party sees, and why they journal the same cycles and go back
+-- Cases at the boundaries of lists with journals (02, E9): what remains of them, what a party sees, and why they journal the same cycles and go back
 -- by equal numbers at equal moments. Why their journals begin empty is shown in `Elsewhere`.
 use Prim.Native.Nat.{ℕ}
 use native.Mathlib.Omega.{arith}
@@ -8,26 +8,27 @@ use lib.Pow.{pow-pos}
 use lib.ListN.{replicate}
 use Rattle.model.specs.Image.{designOf, registerAt}
 use Rattle.model.specs.Values.{wordsOf}
-use Rattle.model.specs.Parties.{Seen, resets, writes, runs, aReset, aWrite, aCycle, valuesSeen}
+use Rattle.model.specs.Parties.{Remaining, aReset, aWrite, aCycle, aJournalledCycle, aStepBack, valuesSeen, remaining}
 use Rattle.model.proofs.Opened.{everything, lent, anyLent}
 use Rattle.model.proofs.Designs.{lease, oneState, chain, registerRecord, goesTo}
 use Rattle.journal_model.specs.Calls.{LentJournal}
-use Rattle.journal_model.specs.Lists.{JournalCall, calls, journals, goesBack, events, atEnd, Remaining, remains, aJournalledCycle, aStepBack, view, remaining, Use, begun, remains, views, seenAtEnd, IndependentJournals}
+use Rattle.lists_model.specs.Lists.{Call, resets, writes, runs, runsJournalled, goesBack, events, atEnd, Use, begun, remains, views, seenAtEnd}
+use Rattle.lists_model.specs.Demands.{IndependentJournals}
+use Rattle.lists_model.proofs.Opened.{listing, seen}
 use Rattle.journal_model.proofs.Opened.{lends, journalOf, spare, after0}
-
--- the values, and the states of the walk; the lease design has no parameter
-abbrev seen : List ℕ → List ℕ → Seen
-seen values walk = record { values = values; walk = map (λ s. record { state = s; bound = [] }) walk }
 
 -- ---- one list
 -- registers out of sight are given 0, and the journal is empty with these bytes behind its count
 abbrev leaseUse : List ℕ → List Call → Use (designOf lease)
 leaseUse bytes list =
     record {
-      lent = anyLent;
-      lengths = record { registers = unfold everything in refl; targets = unfold everything in refl };
-      given = λ r. 0;
-      within = λ r l. pow-pos (registerAt (designOf lease) r .width);
+      begins =
+          record {
+            lent = anyLent;
+            lengths = record { registers = unfold everything in refl; targets = unfold everything in refl };
+            given = λ r. 0;
+            within = λ r l. pow-pos (registerAt (designOf lease) r .width);
+          };
       journal = journalOf 0 (bytes ∷ []);
       empty = unfold everything in refl;
       calls = list;
@@ -40,7 +41,7 @@ aList = runsJournalled 3 ∷ goesBack 2 ∷ goesBack 2 ∷ writes 1 5 ∷ runs 1
 abbrev aUse : Use (designOf lease)
 aUse = leaseUse (spare 70) aList
 
--- what remains: journalled cycles apart from others, and a step back by its number; refused calls, and writes out of sight, are struck out
+-- what remains: journalled cycles apart from others, and going back by k as k steps; refused calls, and writes out of sight, are struck out
 shows-remains-0
     : remains lease 0 aUse
     ≡ aJournalledCycle ∷ aJournalledCycle ∷ aJournalledCycle ∷ aStepBack ∷ aStepBack ∷ aCycle ∷ aReset ∷ aStepBack ∷ aCycle ∷ []
@@ -51,8 +52,8 @@ shows-remains-1
     ≡ aJournalledCycle ∷ aJournalledCycle ∷ aJournalledCycle ∷ aStepBack ∷ aStepBack ∷ (aWrite 1 5) ∷ aCycle ∷ aReset ∷ aStepBack ∷ aCycle ∷ []
 shows-remains-1 = unfold listing in refl
 
--- a step back by 0 remains too
-shows-remains-none : remains lease 0 (leaseUse [] (goesBack 0 ∷ runsJournalled 0 ∷ goesBack 1 ∷ [])) ≡ aStepBack0 ∷ []
+-- going back by 0 is struck out, as a run of 0 is, and one too far is refused
+shows-remains-none : remains lease 0 (leaseUse [] (goesBack 0 ∷ runs 0 ∷ runsJournalled 0 ∷ goesBack 1 ∷ [])) ≡ []
 shows-remains-none = unfold listing in refl
 
 -- "equal views": of each cycle, journalled or not, one that was gone back over too; a step back shows nothing
@@ -85,10 +86,13 @@ twoPorts = oneState chain (registerRecord 0 1 7 ∷ registerRecord 1 1 5 ∷ [])
 abbrev portsUse : Use (designOf twoPorts)
 portsUse =
     record {
-      lent = lent (spare 8) (spare 2);
-      lengths = record { registers = unfold everything in refl; targets = unfold everything in refl };
-      given = λ r. 0;
-      within = λ r l. pow-pos (registerAt (designOf twoPorts) r .width);
+      begins =
+          record {
+            lent = lent (spare 8) (spare 2);
+            lengths = record { registers = unfold everything in refl; targets = unfold everything in refl };
+            given = λ r. 0;
+            within = λ r l. pow-pos (registerAt (designOf twoPorts) r .width);
+          };
       journal = journalOf 0 (spare 3 ∷ []);
       empty = unfold everything in refl;
       calls = [];
