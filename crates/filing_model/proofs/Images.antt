@@ -106,7 +106,7 @@ module _ (image : List ℕ) (bytes : AreBytes image) (accepted : verdict image �
   image-renumbers : UnderPlaces (designOf (filedImage image))
   image-renumbers = rw filed-design new
 
-  pub filed-runs : SameRuns image (filedImage image) (λ s. s)
+  pub filed-runs : SameRuns image (filedImage image) (λ s. s < length (d .states)) (λ s. s)
   filed-runs = renumbered-runs image (filedImage image) accepted filed-accepted image-renumbers
 
   -- form and image differ at most in node numbers

@@ -56,8 +56,10 @@ form-is-its-own = forms.form-twice
 pub form-is-as-long : (image : List ℕ) → AreBytes image → verdict image ≡ Accepted 0 → length (filedImage image) ≡ length image
 form-is-as-long = filed-long
 
--- and runs as the image does: over whole lists of calls from reset each call answers alike, and each cycle leaves the same registers and walks the same states.
-pub form-runs-alike : (image : List ℕ) → AreBytes image → verdict image ≡ Accepted 0 → SameRuns image (filedImage image) (λ s. s)
+-- and runs as the image does: over whole lists of calls from reset each call answers alike, and each cycle leaves the same registers and walks the same states. All states stay, with
+-- their numbers, and none but these run.
+pub form-runs-alike : (image : List ℕ) → AreBytes image → verdict image ≡ Accepted 0
+    → SameRuns image (filedImage image) (λ s. s < length (designOf image .states)) (λ s. s)
 form-runs-alike = filed-runs
 
 -- ---- the order

@@ -79,8 +79,8 @@ module _ (image : List â„•) (bytes : AreBytes image) (accepted : verdict image â
   image-renumbers : Renumbers d (designOf (prunedImage image)) (newState d) (newCommand d) (newExpression d) (Reached d) (CommandStays d) (ExpressionStays d)
   image-renumbers = rw pruned-says new
 
-  -- "and every run from reset .. gives the same registers and the same walk under the new numbers"
-  pub pruned-runs : SameRuns image (prunedImage image) (newState d)
+  -- "and every run from reset .. gives the same registers and the same walk under the new numbers", of states that are reached
+  pub pruned-runs : SameRuns image (prunedImage image) (Reached d) (newState d)
   pruned-runs = renumbered-runs image (prunedImage image) accepted pruned-accepted image-renumbers
 
   -- "Doing it twice changes nothing"

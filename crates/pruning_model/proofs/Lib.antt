@@ -12,3 +12,4 @@ pub mod Written
 pub mod Promises
 pub mod Opened
 pub mod Boundaries
+pub mod Dropped

@@ -8,13 +8,13 @@ use Rattle.model.proofs.Opened.{everything}
 use Rattle.encoding.specs.Encoding.{word16Bytes, word32Bytes, registerBytes, stateBytes, nodeBytes, recordsBytes, directoryBytes, imageOf}
 use Rattle.encoding.specs.Parts.{over}
 use Rattle.renumbering.specs.Renumbering.{renumberedState, renumberedCommand, renumberedExpression}
-use Rattle.renumbering.specs.Runs.{answers, ranUnder}
+use Rattle.renumbering.specs.Runs.{answers}
 use Rattle.pruning_model.specs.Reached.{among, leadsTo, successors, spread, rounds, reached}
 use Rattle.pruning_model.specs.Pruned.{closedUp, stayingFrom, commandStays, expressionStays, pruned, prunedImage}
 use Rattle.pruning_model.specs.Calls.{pruneAnswer, prune}
 
 unfoldable pub pruning : ℕ
-unfolding everything word16Bytes word32Bytes registerBytes stateBytes nodeBytes recordsBytes directoryBytes imageOf renumberedState renumberedCommand renumberedExpression answers ranUnder among leadsTo successors spread rounds reached closedUp stayingFrom joinEach commandStays expressionStays pruned prunedImage over pruneAnswer prune
+unfolding everything word16Bytes word32Bytes registerBytes stateBytes nodeBytes recordsBytes directoryBytes imageOf renumberedState renumberedCommand renumberedExpression answers among leadsTo successors spread rounds reached closedUp stayingFrom joinEach commandStays expressionStays pruned prunedImage over pruneAnswer prune
 pruning = 0
 
 -- all that the call leaves: what the host is told, and every byte of the output area

@@ -53,7 +53,7 @@ pub pruned-is-accepted : (image : List ℕ) → AreBytes image → verdict image
 pruned-is-accepted = pruned-accepted
 
 -- "and every run from reset, with the same port writes between its cycles, gives the same registers and the same walk under the new numbers.": over whole lists of calls, each
--- of which answers alike, refusals included.
+-- of which answers alike, refusals included. Every state that runs is reached, and no two reached states have one number, so what is dropped can never run.
 pub pruned-runs-alike : PrunedRunsAlike
 pruned-runs-alike = pruned-runs
 

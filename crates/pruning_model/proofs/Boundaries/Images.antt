@@ -5,11 +5,13 @@ use mathlib.Core.Bool.{Bool, true, false}
 use mathlib.Core.List.{List, [], _∷_, map}
 use lib.ListN.{length, replicate}
 use Rattle.model.specs.Image.{designOf}
-use Rattle.model.specs.Parties.{Call, resets, writes, runs, events}
+use Rattle.model.specs.Machine.{Cycle, resetAreas}
+use Rattle.model.specs.Parties.{Call, resets, writes, runs, events, cyclesOf}
 use Rattle.model.specs.Calls.{Lent, reset}
 use Rattle.model.proofs.Opened.{checks, accepted, judged, lentBound}
 use Rattle.model.proofs.Designs.{assemble, registerRecord, stateRecord, stateWith, assigns, sequences, skips, falls, goesTo, goesWith, goesWithBoth, branches, constant, reads, adds, subtracts, lease, chain, lowAndHigh}
 use Rattle.renumbering.specs.Runs.{Ran, ranUnder}
+use Rattle.pruning_model.specs.Reached.{reached}
 use Rattle.pruning_model.specs.Pruned.{newState, prunedImage}
 use Rattle.pruning_model.proofs.Opened.{pruning}
 
@@ -99,7 +101,7 @@ abbrev calls : List Call
 calls = runs 2 ∷ writes 1 1 ∷ runs 3 ∷ writes 0 1 ∷ []
 
 abbrev ranIn : List ℕ → ℕ → (ℕ → ℕ) → List Ran
-ranIn image states number = ranUnder number (events image (reset image (lentBound (replicate 12 9) (replicate states 9) []) .lent) calls)
+ranIn image states number = map (ranUnder number) (cyclesOf (events image (reset image (lentBound (replicate 12 9) (replicate states 9) []) .lent) calls))
 
 shows-same-runs
     : ranIn mixedPruned 15 (λ s. s)
@@ -113,6 +115,19 @@ shows-same-runs = unfold pruning in refl
 
 shows-new-numbers : map (newState (designOf mixed)) (0 ∷ 1 ∷ 3 ∷ 4 ∷ 6 ∷ []) ≡ 0 ∷ 1 ∷ 2 ∷ 3 ∷ 4 ∷ []
 shows-new-numbers = unfold pruning in refl
+
+-- The new numbers alone do not tell a dropped state from one that stays: 2 and 5 are not reached, and have the numbers of 3 and 6, which are,
+shows-one-number
+    : (map (reached (designOf mixed)) (2 ∷ 5 ∷ 3 ∷ 6 ∷ []) ≡ false ∷ false ∷ true ∷ true ∷ [])
+    × (map (newState (designOf mixed)) (2 ∷ 5 ∷ []) ≡ map (newState (designOf mixed)) (3 ∷ 6 ∷ []))
+shows-one-number = unfold pruning in (refl, refl)
+
+abbrev pub walked : List ℕ → Cycle
+walked walk = record { after = resetAreas (designOf mixed); walk = walk; ranWith = [] }
+
+-- so that a walk through 2 reads as one through 3. That every state that runs is reached is what refuses it (`Dropped`).
+shows-one-walk : ranUnder (newState (designOf mixed)) (walked (0 ∷ 2 ∷ [])) ≡ ranUnder (newState (designOf mixed)) (walked (0 ∷ 3 ∷ []))
+shows-one-walk = unfold pruning in refl
 
 -- "under the new numbers": under the old ones the walks differ
 shows-old-numbers : map (λ (r : Ran). r .walk) (ranIn mixed 21 (λ s. s)) ≡ (0 ∷ 1 ∷ []) ∷ (0 ∷ 3 ∷ []) ∷ (0 ∷ 1 ∷ []) ∷ (0 ∷ 3 ∷ 4 ∷ []) ∷ (0 ∷ 3 ∷ 6 ∷ []) ∷ []

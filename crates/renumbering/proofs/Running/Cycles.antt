@@ -1,9 +1,10 @@
 -- A cycle under new numbers walks the same states and leaves the same areas: both run the bodies of the same states one after the other, a fall goes on at targets that are the same, and
--- neither runs out of bodies, since a target has a higher number than its state.
+-- neither runs out of bodies, since a target has a higher number than its state. Every state of the walk stays: the root does, and so does the target of one that stays and falls.
 use Prim.Native.Nat.{ℕ, zero, suc, _+_, _≤_, _<_}
 use mathlib.Core.Path.{_≡_, refl, sym, _∙_, ap}
+use mathlib.Core.Logic.{⊎-elim}
 use mathlib.Core.Bool.{true}
-use mathlib.Core.List.{List, _∷_, map}
+use mathlib.Core.List.{List, [], _∷_, map, List·Memᴰ, List·Memᴰ·cases-cons, List·Memᴰ·eq-of-singleton}
 use native.Mathlib.Omega.{arith}
 use lib.ListN.{length}
 use Rattle.model.specs.declared.Ending.the-variants.{Goto, Fall}
@@ -26,6 +27,7 @@ use Rattle.renumbering.proofs.Running.Gotos.{rulesOf, EndedBy, gone-sam
 pub record Together (d d′ : Design) (state : ℕ → ℕ) (S : ℕ → Type 0) (c c′ : Cycle) : Type 0 where
   pub after : Same d d′ state S (c .after) (c′ .after)
   pub walk : c′ .walk ≡ map state (c .walk)
+  pub stay : (s : ℕ) → List·Memᴰ s (c .walk) → S s
 
 module _ {d d′ : Design} {state command expression : ℕ → ℕ} {S C E : ℕ → Type 0} (keeps : AcceptedDesign d) (keeps′ : AcceptedDesign d′) (new : Renumbers d d′ state command expression S C E) where
   -- ---- one body
@@ -39,6 +41,13 @@ module _ {d d′ : Design} {state command expression : ℕ → ℕ} {S C E : ℕ
         good′ = left-good d′ keeps′ (state s) a′ (same .good′);
       }
 
+  -- a walk that ends with a state that stays, and one that goes on from it
+  only-stays : (s : ℕ) → S s → (t : ℕ) → List·Memᴰ t (s ∷ []) → S t
+  only-stays s stays t h = rw (List·Memᴰ·eq-of-singleton h) stays
+
+  more-stay : (s : ℕ) (walk : List ℕ) → S s → ((t : ℕ) → List·Memᴰ t walk → S t) → (t : ℕ) → List·Memᴰ t (s ∷ walk) → S t
+  more-stay s walk stays others t h = ⊎-elim (λ (e : t ≡ s). rw e stays) (λ (k : List·Memᴰ t walk). others t k) (List·Memᴰ·cases-cons h)
+
   -- what follows it
   after-together : (o : Outcome) (s : ℕ) (a a′ : Areas) (fell fell′ : Cycle) → S s → Same d d′ state S a a′ → EndStays S o
       → EndedBy d s a o
@@ -46,10 +55,15 @@ module _ {d d′ : Design} {state command expression : ℕ → ℕ} {S C E : ℕ
       → (o ≡ Transferred Fall → Together d d′ state S fell fell′)
       → Together d d′ state S (afterBody d o s a fell) (afterBody d′ (outcomeUnder state o) (state s) a′ fell′)
   unfolding afterBody
-  after-together Continued s a a′ fell fell′ stays same named e e′ below = record { after = same; walk = refl }
-  after-together (Transferred Fall) s a a′ fell fell′ stays same named e e′ below = record { after = below refl .after; walk = ap (λ (walk : List ℕ). state s ∷ walk) (below refl .walk) }
+  after-together Continued s a a′ fell fell′ stays same named e e′ below = record { after = same; walk = refl; stay = only-stays s stays }
+  after-together (Transferred Fall) s a a′ fell fell′ stays same named e e′ below =
+      record {
+        after = below refl .after;
+        walk = ap (λ (walk : List ℕ). state s ∷ walk) (below refl .walk);
+        stay = more-stay s (fell .walk) stays (below refl .stay);
+      }
   after-together (Transferred (Goto t x y)) s a a′ fell fell′ stays same named e e′ below =
-      record { after = gone-same keeps keeps′ new s t x y a a′ stays named same e e′; walk = refl }
+      record { after = gone-same keeps keeps′ new s t x y a a′ stays named same e e′; walk = refl; stay = only-stays s stays }
 
   -- ---- the bodies from a state on the path
   run-together : (f f′ s : ℕ) (a a′ : Areas) → S s → Same d d′ state S a a′ → Live d a s → Live d′ a′ (state s)
