@@ -2,4 +2,5 @@
 pub mod Directories
 pub mod Records
 pub mod Calls
+pub mod Ready
 pub mod FarEnds

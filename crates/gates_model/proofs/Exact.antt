@@ -79,11 +79,11 @@ table-decides table =
     (decides-one (finds-zero (directory-iff table)))
     (λ kept. decides-one (finds-each (wire-iff (tableOf table))))
 
-reset-decides : (table area : List ℕ) → Decides (gatesResetAnswer table area) 0 (resetTable table area)
+pub reset-decides : (table area : List ℕ) → Decides (gatesResetAnswer table area) 0 (resetTable table area)
 unfolding gatesResetAnswer areaAnswer
 reset-decides table area = decides-before (table-decides table) (λ kept. decides-one (finds-zero equal-iff))
 
-cycle-decides : (table inputs area : List ℕ) → Decides (gatesCycleAnswer table inputs area) 0 (cycleTable table inputs area)
+pub cycle-decides : (table inputs area : List ℕ) → Decides (gatesCycleAnswer table inputs area) 0 (cycleTable table inputs area)
 unfolding gatesCycleAnswer lengthsAnswer lentAnswer
 cycle-decides table inputs area =
     decides-before

@@ -3,6 +3,7 @@ pub mod Laws
 pub mod Exact
 pub mod Marks
 pub mod Independence
+pub mod Ready
 pub mod Promises
 pub mod Worked
 pub mod Opened

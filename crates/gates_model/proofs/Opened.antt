@@ -11,10 +11,10 @@ use Rattle.gates_model.specs.Signals.{nand}
 use Rattle.gates_model.specs.Verdict.{inputKept, flipFlopKept, gateKept, wireKept, tableAnswer}
 use Rattle.gates_model.specs.Cycle.{bytesOf, sources, settled, signals, cycled, started}
 use Rattle.gates_model.specs.Calls.{areaAnswer, lengthsAnswer, lentKept, lentAnswer, gatesCheck, gatesResetAnswer, gatesReset, gatesCycleAnswer, gatesCycle}
-use Rattle.gates_model.specs.Runs.{perform, atEnd, trustedInputs, remains, areasAfter}
+use Rattle.gates_model.specs.Runs.{perform, atEnd, trustedInputs, remains, areasAfter, answers, areasEach}
 
 unfoldable pub everything : ℕ
-unfolding lowest lowestFailing tabulateFrom tabulate recordsOf _before_ refusedAt sectionKept offsetsKept directoryKept sectionOf tableOf nand inputKept flipFlopKept gateKept wireKept tableAnswer bytesOf sources settled signals cycled started areaAnswer lengthsAnswer lentKept lentAnswer gatesCheck gatesResetAnswer gatesReset gatesCycleAnswer gatesCycle perform atEnd trustedInputs remains areasAfter
+unfolding lowest lowestFailing tabulateFrom tabulate recordsOf _before_ refusedAt sectionKept offsetsKept directoryKept sectionOf tableOf nand inputKept flipFlopKept gateKept wireKept tableAnswer bytesOf sources settled signals cycled started areaAnswer lengthsAnswer lentKept lentAnswer gatesCheck gatesResetAnswer gatesReset gatesCycleAnswer gatesCycle perform atEnd trustedInputs remains areasAfter answers areasEach
 everything = 0
 
 -- an acceptance, and a refusal with its number and place, as the host is told

@@ -12,11 +12,12 @@ use Rattle.gates_model.specs.Signals.{Signal, nand, IsSound, Unaffected}
 use Rattle.gates_model.specs.Cycle.{cycled}
 use Rattle.gates_model.specs.Calls.{gatesCheck}
 use Rattle.gates_model.specs.Rules.{TableKeeps, checkTable}
-use Rattle.gates_model.specs.Runs.{Agree, FedAlike, afterCycles, Call, perform, callTable, atEnd, remains, areasAfter, AgreeEach}
+use Rattle.gates_model.specs.Runs.{Agree, FedAlike, afterCycles, Call, perform, callTable, atEnd, remains, areasAfter, AgreeEach, AreaReady, FedEach, StayAlike}
 use Rattle.gates_model.proofs.Exact.{check-exact, check-answers, call-exactly}
 use Rattle.gates_model.proofs.Marks.{marks-exact}
 use Rattle.gates_model.proofs.Independence.Wires.{cycle-agrees}
 use Rattle.gates_model.proofs.Independence.Runs.{cycles-agree, runs-independent}
+use Rattle.gates_model.proofs.Ready as ready
 
 -- Demand 2, of check: a table is accepted, with number 0, place 0 and count 0, exactly when it keeps the rules.
 pub accepted-exactly : (table : List ℕ) → (numbersOf (gatesCheck table) ≡ record { number = 0; place = 0; count = 0 }) ↔ TableKeeps table
@@ -64,3 +65,24 @@ pub lists-independent :
     → AgreeEach (tableOf table) (areasAfter table one calls) (areasAfter table other calls′)
     × Agree (tableOf table) (atEnd table one calls) (atEnd table other calls′)
 lists-independent = runs-independent
+
+-- The same sentence of the calls, with nothing to strike out: of an accepted table, from areas and with inputs of the right lengths and with bytes in range,
+-- every cycle of both runs is accepted, and the areas agree after each and at the end.
+pub cycles-stay-alike :
+    (table : List ℕ)
+    → TableKeeps table
+    → (one other : List ℕ)
+    → AreaReady (tableOf table) one
+    → AreaReady (tableOf table) other
+    → Agree (tableOf table) one other
+    → (feds feds′ : List (List ℕ))
+    → FedEach (tableOf table) feds feds′
+    → StayAlike table one other feds feds′
+cycles-stay-alike = ready.cycles-stay-alike
+
+-- An area is ready so behind every accepted reset and cycle.
+pub leaves-ready :
+    (table area : List ℕ) (call : Call)
+    → numbersOf (perform table area call .answer) .number ≡ 0
+    → AreaReady (tableOf table) (perform table area call .lent)
+leaves-ready = ready.leaves-ready

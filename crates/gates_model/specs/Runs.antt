@@ -1,21 +1,22 @@
 -- What is promised of two runs: "Two runs of one accepted table, equal in marks and trusted values, and fed inputs equal where marked trusted, stay so
 -- after any number of cycles."
-use Prim.Native.Nat.{ℕ, zero, suc, _<_}
+use Prim.Native.Nat.{ℕ, zero, suc, _≤_, _<_}
 use mathlib.Core.Path.{_≡_}
 use mathlib.Core.Bool.{cond}
-use mathlib.Core.List.{List, [], _∷_}
+use mathlib.Core.List.{List, [], _∷_, map}
 use lib.Dec.{eqb}
 use lib.ListN.{length}
 use Rattle.model.specs.declared.Answer.{Answer}
 use Rattle.model.specs.declared.Answer.the-variants.{Accepted, Refused}
 use Rattle.model.specs.Indices.{tabulate}
 use Rattle.model.specs.Image.{byteAt}
+use Rattle.model.specs.Answers.{numbersOf}
 use Rattle.model.specs.Refusals.{Pass}
 use Rattle.gates_model.specs.Tables.{Table, tableOf, markAt}
-use Rattle.gates_model.specs.Signals.{Signal}
+use Rattle.gates_model.specs.Signals.{Signal, IsSound}
 use Rattle.gates_model.specs.Cycle.{signalIn, cycled}
 use Rattle.gates_model.specs.Calls.{gatesReset, gatesCycle}
-use Rattle.gates_model.specs.Rules.{resetTable, cycleTable}
+use Rattle.gates_model.specs.Rules.{TableKeeps, AreaLong, resetTable, cycleTable}
 use Rattle.model.specs.Calls.{Left}
 
 -- "equal in marks and trusted values"
@@ -99,3 +100,56 @@ RunsIndependent =
     → remains table one calls ≡ remains table other calls′
     → AgreeEach (tableOf table) (areasAfter table one calls) (areasAfter table other calls′)
     × Agree (tableOf table) (atEnd table one calls) (atEnd table other calls′)
+
+-- ---- cycles that are all accepted
+-- an area that a cycle accepts: "a value and a mark byte per flip-flop", in range
+pub record AreaReady (t : Table) (area : List ℕ) : Type 0 where
+  pub long : AreaLong t area
+  pub sound : (i : ℕ) → i < length (t .flipflops) → IsSound (signalIn area i)
+
+-- inputs that it accepts: "one value byte per input", in range
+pub record InputsReady (t : Table) (inputs : List ℕ) : Type 0 where
+  pub long : length inputs ≡ length (t .inputs)
+  pub bits : (i : ℕ) → i < length (t .inputs) → byteAt inputs i ≤ 1
+
+-- inputs of two runs, cycle by cycle: each is one that a cycle accepts, and they are equal where marked trusted
+pub data FedEach (t : Table) : List (List ℕ) → List (List ℕ) → Type 0 where
+  unfed : FedEach t [] []
+  fed : {inputs inputs′ : List ℕ} {later later′ : List (List ℕ)} → InputsReady t inputs → InputsReady t inputs′ → FedAlike t inputs inputs′ → FedEach t later later′ → FedEach t (inputs ∷ later) (inputs′ ∷ later′)
+
+-- the answers of a list of calls
+unfoldable pub answers : List ℕ → List ℕ → List Call → List Answer
+answers table area [] = []
+answers table area (call ∷ later) = perform table area call .answer ∷ answers table (perform table area call .lent) later
+
+-- the areas after each call, refused ones included
+unfoldable pub areasEach : List ℕ → List ℕ → List Call → List (List ℕ)
+areasEach table area [] = []
+areasEach table area (call ∷ later) = let after = perform table area call .lent in after ∷ areasEach table after later
+
+-- 02's sentence of the calls: of an accepted table, from areas that are ready and agree, and fed so, every cycle of both runs is accepted, with number 0,
+-- place 0 and count 0, and the areas agree after each and at the end.
+pub record StayAlike (table one other : List ℕ) (feds feds′ : List (List ℕ)) : Type 0 where
+  pub accepted : answers table one (map cycles feds) ≡ map (λ inputs. Accepted 0) feds
+  pub accepted′ : answers table other (map cycles feds′) ≡ map (λ inputs. Accepted 0) feds′
+  pub each : AgreeEach (tableOf table) (areasEach table one (map cycles feds)) (areasEach table other (map cycles feds′))
+  pub end : Agree (tableOf table) (atEnd table one (map cycles feds)) (atEnd table other (map cycles feds′))
+
+abbrev pub CyclesStayAlike : Type 0
+CyclesStayAlike =
+    (table : List ℕ)
+    → TableKeeps table
+    → (one other : List ℕ)
+    → AreaReady (tableOf table) one
+    → AreaReady (tableOf table) other
+    → Agree (tableOf table) one other
+    → (feds feds′ : List (List ℕ))
+    → FedEach (tableOf table) feds feds′
+    → StayAlike table one other feds feds′
+
+-- And an accepted reset or cycle leaves an area that the next cycle accepts.
+abbrev pub LeavesReady : Type 0
+LeavesReady =
+    (table area : List ℕ) (call : Call)
+    → numbersOf (perform table area call .answer) .number ≡ 0
+    → AreaReady (tableOf table) (perform table area call .lent)
