@@ -102,14 +102,14 @@ shows-table-keeps : TableKeeps store
 unfolding everything
 shows-table-keeps = record { directory = directory-keeps; wire = λ w l. wire-keeps w l }
 
--- ---- lists of calls: every answer and every area, those of refused calls too
+-- ---- lists of calls: every answer and every area, those of refused calls too; each call on the area as the one before it left it
 abbrev list : List Call
 list = resets ∷ cycles (1 ∷ 2 ∷ []) ∷ cycles (1 ∷ 1 ∷ []) ∷ []
 
-shows-answers : answers store (1 ∷ 1 ∷ 1 ∷ 1 ∷ []) list ≡ Accepted 0 ∷ Refused GateWire 1 ∷ Accepted 0 ∷ []
+shows-answers : answers store (7 ∷ 7 ∷ 7 ∷ 7 ∷ []) list ≡ Accepted 0 ∷ Refused GateWire 1 ∷ Accepted 0 ∷ []
 shows-answers = unfold everything in refl
 
-shows-areas-each : areasEach store (1 ∷ 1 ∷ 1 ∷ 1 ∷ []) list ≡ (0 ∷ 0 ∷ 0 ∷ 0 ∷ []) ∷ (0 ∷ 0 ∷ 0 ∷ 0 ∷ []) ∷ (1 ∷ 0 ∷ 1 ∷ 1 ∷ []) ∷ []
+shows-areas-each : areasEach store (7 ∷ 7 ∷ 7 ∷ 7 ∷ []) list ≡ (0 ∷ 0 ∷ 0 ∷ 0 ∷ []) ∷ (0 ∷ 0 ∷ 0 ∷ 0 ∷ []) ∷ (1 ∷ 0 ∷ 1 ∷ 1 ∷ []) ∷ []
 shows-areas-each = unfold everything in refl
 
 -- ---- "equal in marks and trusted values, and fed inputs equal where marked trusted"
