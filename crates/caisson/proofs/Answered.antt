@@ -6,13 +6,10 @@ use Rattle.model.specs.declared.Refusal.{Refusal}
 use Rattle.model.specs.declared.Answer.{Answer}
 use Rattle.model.specs.declared.Answer.the-variants.{Accepted, Refused}
 use Rattle.model.specs.Answers.{Numbers, numberOf, numbersOf}
-use Rattle.model.specs.Calls.{Left, LeftRegisters}
-use Rattle.design.specs.Resets.{lends}
-use Rattle.model.specs.Raising.{LeftOut, leftOutAs}
-use Rattle.running.specs.Stages.{leftAs}
-use Rattle.calls.specs.Stages.{leftRegistersAs}
+use Rattle.model.specs.Calls.{Left, leftIn, leftAs}
+use Rattle.model.specs.Refusals.{NumbersLeft, inNumbers}
 use Rattle.caisson.specs.declared.HostAnswer.{HostAnswer}
-use Rattle.caisson.specs.Told.{told, toldLeft, inNumbers, toldLeftRegisters, registersInNumbers, toldLeftOut, outInNumbers}
+use Rattle.caisson.specs.Told.{told, toldLeft}
 
 pub accepted-numbers : {a : Answer} {n : ℕ} → a ≡ Accepted n → record { number = 0; place = 0; count = n } ≡ numbersOf a
 accepted-numbers h = rw h
@@ -23,14 +20,10 @@ refused-numbers h e = rw (h, e)
 pub same-answer : {m : Numbers} {a b : Answer} → m ≡ numbersOf a → a ≡ b → m ≡ numbersOf b
 same-answer p q = p ∙ ap numbersOf q
 
--- beside the areas
-pub left-told : (h : HostAnswer) (a : Answer) (registers targets : List ℕ) {left : Left} → told h ≡ numbersOf a → leftAs a registers targets ≡ left → toldLeft h registers targets ≡ inNumbers left
-left-told h a registers targets p q =
-    ap (λ (n : Numbers). record { numbers = n; lent = lends registers targets }) p ∙ ap inNumbers q
+-- beside what was lent
+pub left-told : {A : Type 0} (h : HostAnswer) (a : Answer) (lent : A) {left : Left A} → told h ≡ numbersOf a → leftAs a lent ≡ left → toldLeft h lent ≡ inNumbers left
+left-told h a lent p q = ap (λ (n : Numbers). record { numbers = n; lent = lent }) p ∙ ap inNumbers q
 
-pub registers-told : (h : HostAnswer) (a : Answer) (registers : List ℕ) {left : LeftRegisters} → told h ≡ numbersOf a → leftRegistersAs a registers ≡ left → toldLeftRegisters h registers ≡ registersInNumbers left
-registers-told h a registers p q =
-    ap (λ (n : Numbers). record { numbers = n; registers = registers }) p ∙ ap registersInNumbers q
-
-pub out-told : (h : HostAnswer) (a : Answer) (out : List ℕ) {left : LeftOut} → told h ≡ numbersOf a → leftOutAs a out ≡ left → toldLeftOut h out ≡ outInNumbers left
-out-told h a out p q = ap (λ (n : Numbers). record { numbers = n; out = out }) p ∙ ap outInNumbers q
+-- and of a call that is lent a part of what the host has
+pub left-in-told : {A B : Type 0} {h : HostAnswer} {lent : A} (left : Left A) (whole : A → B) → toldLeft h lent ≡ inNumbers left → toldLeft h (whole lent) ≡ inNumbers (leftIn whole left)
+left-in-told left whole e = ap (λ (x : NumbersLeft A). record { numbers = x .numbers; lent = whole (x .lent) }) e

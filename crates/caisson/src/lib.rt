@@ -7,6 +7,7 @@ use replay_model::TraceRecord;
 ghost use mathlib.Core.Path.{_≡_};
 ghost use Rattle.model.specs.Answers.{numbersOf};
 ghost use Rattle.model.specs.Calls.{check, registersLength, targetsLength, reset, writePort, run};
+ghost use Rattle.model.specs.Refusals.{inNumbers};
 ghost use Rattle.model.specs.Raising.{raise};
 ghost use Rattle.design.specs.Resets.{lends};
 ghost use Rattle.gates_model.specs.Calls.{gatesCheck, gatesReset, gatesCycle};
@@ -15,10 +16,8 @@ ghost use Rattle.journal.specs.Stages.{lendsJournal};
 ghost use Rattle.replay_model.specs.Calls.{replay as replayOf};
 ghost use Rattle.pruning_model.specs.Calls.{prune};
 ghost use Rattle.filing_model.specs.Calls.{file, earlier, handedBack, handedFrom};
-ghost use Rattle.caisson.specs.Told.{told, toldLeft, inNumbers, toldLeftRegisters, registersInNumbers, toldLeftOut, outInNumbers};
+ghost use Rattle.caisson.specs.Told.{told, toldLeft};
 ghost use Rattle.caisson.specs.ToldFiling.{toldWhich, partOf};
-ghost use Rattle.caisson.specs.ToldGates.{toldLeftFlipFlops, flipFlopsInNumbers};
-ghost use Rattle.caisson.specs.ToldJournal.{toldLeftJournal, journalInNumbers};
 ghost use Rattle.caisson.specs.Versions.{libraryVersion, imageFormat};
 
 // An answer as the host is given it: caisson_answer in the header.
@@ -97,7 +96,7 @@ pub extern "C" fn caisson_reset(
     registers: &mut [u8],
     targets: &mut [u8],
 ) -> HostAnswer
-    ensures { λ r. ⌜ toldLeft r (now (registers .exit)) (now (targets .exit)) ≡ inNumbers (reset (now (image .entry)) (lends (now (registers .entry)) (now (targets .entry)))) ⌝ }
+    ensures { λ r. ⌜ toldLeft r (lends (now (registers .exit)) (now (targets .exit))) ≡ inNumbers (reset (now (image .entry)) (lends (now (registers .entry)) (now (targets .entry)))) ⌝ }
 {
     let answer = calls::reset(image, registers, targets);
     in_numbers(answer)
@@ -111,7 +110,7 @@ pub extern "C" fn caisson_write_port(
     reg: u32,
     value: u32,
 ) -> HostAnswer
-    ensures { λ r. ⌜ toldLeftRegisters r (now (registers .exit)) ≡ registersInNumbers (writePort (now (image .entry)) (now (registers .entry)) reg value) ⌝ }
+    ensures { λ r. ⌜ toldLeft r (now (registers .exit)) ≡ inNumbers (writePort (now (image .entry)) (now (registers .entry)) reg value) ⌝ }
 {
     let answer = calls::write_port(image, registers, reg, value);
     in_numbers(answer)
@@ -125,7 +124,7 @@ pub extern "C" fn caisson_run(
     targets: &mut [u8],
     cycles: u32,
 ) -> HostAnswer
-    ensures { λ r. ⌜ toldLeft r (now (registers .exit)) (now (targets .exit)) ≡ inNumbers (run (now (image .entry)) (lends (now (registers .entry)) (now (targets .entry))) cycles) ⌝ }
+    ensures { λ r. ⌜ toldLeft r (lends (now (registers .exit)) (now (targets .exit))) ≡ inNumbers (run (now (image .entry)) (lends (now (registers .entry)) (now (targets .entry))) cycles) ⌝ }
 {
     let answer = calls::run(image, registers, targets, cycles);
     in_numbers(answer)
@@ -140,7 +139,7 @@ pub extern "C" fn caisson_run_journalled(
     journal: &mut [u8],
     cycles: u32,
 ) -> HostAnswer
-    ensures { λ r. ⌜ toldLeftJournal r (now (registers .exit)) (now (targets .exit)) (now (journal .exit)) ≡ journalInNumbers (runJournalled (now (image .entry)) (lendsJournal (now (registers .entry)) (now (targets .entry)) (now (journal .entry))) cycles) ⌝ }
+    ensures { λ r. ⌜ toldLeft r (lendsJournal (now (registers .exit)) (now (targets .exit)) (now (journal .exit))) ≡ inNumbers (runJournalled (now (image .entry)) (lendsJournal (now (registers .entry)) (now (targets .entry)) (now (journal .entry))) cycles) ⌝ }
 {
     let answer = journal::run_journalled(image, registers, targets, journal, cycles);
     in_numbers(answer)
@@ -155,7 +154,7 @@ pub extern "C" fn caisson_step_back(
     journal: &mut [u8],
     cycles: u32,
 ) -> HostAnswer
-    ensures { λ r. ⌜ toldLeftJournal r (now (registers .exit)) (now (targets .exit)) (now (journal .exit)) ≡ journalInNumbers (stepBack (now (image .entry)) (lendsJournal (now (registers .entry)) (now (targets .entry)) (now (journal .entry))) cycles) ⌝ }
+    ensures { λ r. ⌜ toldLeft r (lendsJournal (now (registers .exit)) (now (targets .exit)) (now (journal .exit))) ≡ inNumbers (stepBack (now (image .entry)) (lendsJournal (now (registers .entry)) (now (targets .entry)) (now (journal .entry))) cycles) ⌝ }
 {
     let answer = journal::step_back(image, registers, targets, journal, cycles);
     in_numbers(answer)
@@ -170,7 +169,7 @@ pub extern "C" fn caisson_replay(
     trace: &[TraceRecord],
     cycles: u32,
 ) -> HostAnswer
-    ensures { λ r. ⌜ toldLeft r (now (registers .exit)) (now (targets .exit)) ≡ inNumbers (replayOf (now (image .entry)) (lends (now (registers .entry)) (now (targets .entry))) (now (trace .entry)) cycles) ⌝ }
+    ensures { λ r. ⌜ toldLeft r (lends (now (registers .exit)) (now (targets .exit))) ≡ inNumbers (replayOf (now (image .entry)) (lends (now (registers .entry)) (now (targets .entry))) (now (trace .entry)) cycles) ⌝ }
 {
     let answer = replay::records::replay(image, registers, targets, trace, cycles);
     in_numbers(answer)
@@ -179,7 +178,7 @@ pub extern "C" fn caisson_replay(
 // The image with the labels of its inner registers raised, into a second area.
 #[no_mangle]
 pub extern "C" fn caisson_raise(image: &[u8], out: &mut [u8]) -> HostAnswer
-    ensures { λ r. ⌜ toldLeftOut r (now (out .exit)) ≡ outInNumbers (raise (now (image .entry)) (now (out .entry))) ⌝ }
+    ensures { λ r. ⌜ toldLeft r (now (out .exit)) ≡ inNumbers (raise (now (image .entry)) (now (out .entry))) ⌝ }
 {
     let answer = raising::raise(image, out);
     in_numbers(answer)
@@ -188,7 +187,7 @@ pub extern "C" fn caisson_raise(image: &[u8], out: &mut [u8]) -> HostAnswer
 // The image with only what can run, over the beginning of a second area.
 #[no_mangle]
 pub extern "C" fn caisson_prune(image: &[u8], out: &mut [u8]) -> HostAnswer
-    ensures { λ r. ⌜ toldLeftOut r (now (out .exit)) ≡ outInNumbers (prune (now (image .entry)) (now (out .entry))) ⌝ }
+    ensures { λ r. ⌜ toldLeft r (now (out .exit)) ≡ inNumbers (prune (now (image .entry)) (now (out .entry))) ⌝ }
 {
     let answer = pruning::prune(image, out);
     in_numbers(answer)
@@ -197,7 +196,7 @@ pub extern "C" fn caisson_prune(image: &[u8], out: &mut [u8]) -> HostAnswer
 // The filing form of an image, over the beginning of a second area.
 #[no_mangle]
 pub extern "C" fn caisson_file(image: &[u8], out: &mut [u8]) -> HostAnswer
-    ensures { λ r. ⌜ toldLeftOut r (now (out .exit)) ≡ outInNumbers (file (now (image .entry)) (now (out .entry))) ⌝ }
+    ensures { λ r. ⌜ toldLeft r (now (out .exit)) ≡ inNumbers (file (now (image .entry)) (now (out .entry))) ⌝ }
 {
     let answer = filing::file(image, out);
     in_numbers(answer)
@@ -251,7 +250,7 @@ pub extern "C" fn caisson_gates_check(table: &[u8]) -> HostAnswer
 // The start values and marks of a gate table's flip-flops.
 #[no_mangle]
 pub extern "C" fn caisson_gates_reset(table: &[u8], flipflops: &mut [u8]) -> HostAnswer
-    ensures { λ r. ⌜ toldLeftFlipFlops r (now (flipflops .exit)) ≡ flipFlopsInNumbers (gatesReset (now (table .entry)) (now (flipflops .entry))) ⌝ }
+    ensures { λ r. ⌜ toldLeft r (now (flipflops .exit)) ≡ inNumbers (gatesReset (now (table .entry)) (now (flipflops .entry))) ⌝ }
 {
     let answer = gates::reset(table, flipflops);
     in_numbers(answer)
@@ -264,7 +263,7 @@ pub extern "C" fn caisson_gates_cycle(
     inputs: &[u8],
     flipflops: &mut [u8],
 ) -> HostAnswer
-    ensures { λ r. ⌜ toldLeftFlipFlops r (now (flipflops .exit)) ≡ flipFlopsInNumbers (gatesCycle (now (table .entry)) (now (inputs .entry)) (now (flipflops .entry))) ⌝ }
+    ensures { λ r. ⌜ toldLeft r (now (flipflops .exit)) ≡ inNumbers (gatesCycle (now (table .entry)) (now (inputs .entry)) (now (flipflops .entry))) ⌝ }
 {
     let answer = gates::cycle(table, inputs, flipflops);
     in_numbers(answer)

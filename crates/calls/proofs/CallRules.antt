@@ -219,7 +219,7 @@ module _ (d : Table) (registers targets : List ℕ) (n : ℕ) {a : Answer} where
   unfolding runOn _before_
   run-refuses-unsound h judged right = rw (right, ← judged, h)
 
-  pub run-passes : {left : Left} {c : ℕ} → left ≡ runSound d (lends registers targets) n → a ≡ Accepted c → a ≡ soundOn d (lends registers targets) → lengthAnswer d (lends registers targets) ≡ Accepted 0 → left ≡ runOn d (lends registers targets) n
+  pub run-passes : {left : Left Lent} {c : ℕ} → left ≡ runSound d (lends registers targets) n → a ≡ Accepted c → a ≡ soundOn d (lends registers targets) → lengthAnswer d (lends registers targets) ≡ Accepted 0 → left ≡ runOn d (lends registers targets) n
   unfolding runOn runSound _before_
   run-passes k h judged right = rw (right, ← judged, h) k
 
@@ -259,7 +259,7 @@ module _ (image : List ℕ) {a : Answer} (e : a ≡ verdict image) where
     unfolding targetsLength _before_
     accepted-targets-length k = rw (← e, h) k
 
-    pub accepted-reset : {left : Left} (lent : Lent) → left ≡ resetOn (designOf image) lent → left ≡ reset image lent
+    pub accepted-reset : {left : Left Lent} (lent : Lent) → left ≡ resetOn (designOf image) lent → left ≡ reset image lent
     unfolding reset resetAnswer resetOn _before_
     accepted-reset lent k = rw (← e, h) k
 
@@ -267,6 +267,6 @@ module _ (image : List ℕ) {a : Answer} (e : a ≡ verdict image) where
     unfolding writePort writePortAnswer writePortOn _before_
     accepted-write registers r v k = rw (← e, h) k
 
-    pub accepted-run : {left : Left} (lent : Lent) (n : ℕ) → left ≡ runOn (designOf image) lent n → left ≡ run image lent n
+    pub accepted-run : {left : Left Lent} (lent : Lent) (n : ℕ) → left ≡ runOn (designOf image) lent n → left ≡ run image lent n
     unfolding run runAnswer runOn _before_
     accepted-run lent n k = rw (← e, h, ← sound-before (designOf image) lent (cyclesAnswer n before Accepted n)) k

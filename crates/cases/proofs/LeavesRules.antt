@@ -13,20 +13,10 @@ use Rattle.design.specs.Resets.{lends}
 use Rattle.pruning_model.specs.Calls.{prune}
 use Rattle.filing_model.specs.Calls.{file}
 use Rattle.journal_model.specs.Calls.{LentJournal, runJournalled, stepBack}
-use Rattle.journal.specs.Stages.{lendsJournal}
 use Rattle.cases.specs.Leaves.{numbered, painted, afterCall, afterJournalCall}
 
-pub areas-left : {a : Answer} {registers targets : List ℕ} {left : Left} → leftAs a (lends registers targets) ≡ left → lends registers targets ≡ left .lent
-areas-left e = ap (λ (l : Left). l .lent) e
-
-pub registers-left : {a : Answer} {registers : List ℕ} {left : Left (List ℕ)} → leftAs a registers ≡ left → registers ≡ left .lent
-registers-left e = ap (λ (l : Left (List ℕ)). l .lent) e
-
-pub journal-left : {a : Answer} {registers targets journal : List ℕ} {left : Left LentJournal} → leftAs a (lendsJournal registers targets journal) ≡ left → lendsJournal registers targets journal ≡ left .lent
-journal-left e = ap (λ (l : Left LentJournal). l .lent) e
-
-pub flipflops-left : {a : Answer} {area : List ℕ} {left : Left (List ℕ)} → leftAs a area ≡ left → area ≡ left .lent
-flipflops-left e = ap (λ (l : Left (List ℕ)). l .lent) e
+pub lent-left : {A : Type 0} {a : Answer} {lent : A} {left : Left A} → leftAs a lent ≡ left → lent ≡ left .lent
+lent-left e = ap (λ (l : Left A). l .lent) e
 
 -- an area that is painted, and written to by a call
 module _ (image : List ℕ) (byte n : ℕ) {a : Answer} {old out : List ℕ} (e : old ≡ painted byte n) where

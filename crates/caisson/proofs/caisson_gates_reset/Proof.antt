@@ -1,4 +1,4 @@
-use Rattle.caisson.proofs.GateAnswered.{flipflops-told}
+use Rattle.caisson.proofs.Answered.{left-told}
 use borrow.Author.Needs.{needs}
 use Rattle.caisson.proofs.caisson_gates_reset.Statement.{statement}
 use Rattle.caisson.proofs.caisson_gates_reset.Tie as tie
@@ -13,7 +13,7 @@ same-length : tie.Need-same-length
 same-length c = search needs
 
 returns : tie.Need-returns
-returns c = search (flipflops-told, needs)
+returns c = search (left-told, needs)
 
 pub caisson-gates-reset-spec : {M : Type 1} → statement M
 caisson-gates-reset-spec =

@@ -1,4 +1,4 @@
-use Rattle.caisson.proofs.Answered.{out-told}
+use Rattle.caisson.proofs.Answered.{left-told}
 use borrow.Author.Needs.{needs}
 use Rattle.caisson.proofs.caisson_prune.Statement.{statement}
 use Rattle.caisson.proofs.caisson_prune.Tie as tie
@@ -13,7 +13,7 @@ same-length : tie.Need-same-length
 same-length c = search needs
 
 returns : tie.Need-returns
-returns c = search (out-told, needs)
+returns c = search (left-told, needs)
 
 pub caisson-prune-spec : {M : Type 1} → statement M
 caisson-prune-spec = tie.close (tie.spec prune-requires in-numbers-requires same-length returns)

@@ -44,7 +44,7 @@ use Rattle.model.specs.Answers.{numbersOf}
 use Rattle.model.proofs.Answer as An
 use Rattle.model.proofs.Answer.Laws as An′
 use Rattle.design.specs.Resets.{lends}
-use Rattle.running.specs.Stages.{leftAs}
+use Rattle.model.specs.Calls.{leftAs}
 use Rattle.replay_model.specs.declared.TraceRecord.{TraceRecord}
 use Rattle.replay_model.specs.Calls.{replay as replayOf}
 use Rattle.replay_model.proofs.TraceRecord as T
@@ -156,7 +156,7 @@ module _
     Found = Answer × (List ℕ × List ℕ)
 
     abbrev Leaves : Found → Type 0
-    Leaves f = leftAs (f .0) (f .1 .0) (f .1 .1) ≡ replayOf (image .now) (lends (registers .now) (targets .now)) (trace .now) n
+    Leaves f = leftAs (f .0) (lends (f .1 .0) (f .1 .1)) ≡ replayOf (image .now) (lends (registers .now) (targets .now)) (trace .now) n
 
     abbrev Last : Type 0
     Last = Unit {0} × (List ℕ × (List ℕ × (Unit {0} × (Unit {0} × Unit {0}))))
@@ -196,7 +196,7 @@ module _
         split ! $ move ! (1 ∷ []) $ use1 W (raw (fact 𝓤 (told h ≡ numbersOf (f .0)))) (numbers-says (f .0) h) $ heard ! (told h ≡ numbersOf (f .0)) (λ e. split ! $ drop ! $ peeks ! Ho.the-row (Is Ho.the-row) (shows 𝓤 H A Ho.the-row) h (u ∷ []) (λ is.
         at-once ! $ show ! (λ (r : HostAnswer). guard 𝓤 (Is Ho.the-row r (u ∷ [])) (Post u)) h $ check ! is $
         suffices ! _ (ends-at 𝓤 H A caisson-replay.ended stayed (caisson-replay.clauses 𝓤 H A mem run) W ((κs, qs, tt, a, vals), tt) u h (tt, (f .1 .0, (f .1 .1, (tt, (tt, tt))))) (tt, (k .1, (k .2, (tt, (tt, tt)))))) $
-        says ! (left-told h (f .0) (f .1 .0) (f .1 .1) e (k .0)) $
+        says ! (left-told h (f .0) (lends (f .1 .0) (f .1 .1)) e (k .0)) $
         -- [the result; the tokens, the last registers, the last targets, image and trace]
         move ! (1 ∷ []) $ split ! $ frame ! $ split ! $ move ! (1 ∷ []) $ split ! $ move ! (1 ∷ []) $ fsplit ! $
         -- [image; trace; the last targets; the last registers; the result]

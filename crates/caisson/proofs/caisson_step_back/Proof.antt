@@ -1,4 +1,4 @@
-use Rattle.caisson.proofs.JournalAnswered.{journal-left-told}
+use Rattle.caisson.proofs.Answered.{left-told}
 use borrow.Author.Needs.{needs}
 use Rattle.caisson.proofs.caisson_step_back.Statement.{statement}
 use Rattle.caisson.proofs.caisson_step_back.Tie as tie
@@ -19,7 +19,7 @@ same-length-3 : tie.Need-same-length-3
 same-length-3 c = search needs
 
 returns : tie.Need-returns
-returns c = search (journal-left-told, needs)
+returns c = search (left-told, needs)
 
 pub caisson-step-back-spec : {M : Type 1} → statement M
 caisson-step-back-spec =

@@ -1,4 +1,4 @@
-use Rattle.caisson.proofs.Answered.{registers-told}
+use Rattle.caisson.proofs.Answered.{left-told}
 use borrow.Author.Needs.{needs}
 use Rattle.caisson.proofs.caisson_write_port.Statement.{statement}
 use Rattle.caisson.proofs.caisson_write_port.Tie as tie
@@ -17,7 +17,7 @@ same-length : tie.Need-same-length
 same-length c = search needs
 
 returns : tie.Need-returns
-returns c = search (registers-told, needs)
+returns c = search (left-told, needs)
 
 pub caisson-write-port-spec : {M : Type 1} → statement M
 caisson-write-port-spec = tie.close (tie.spec write-port-requires in-numbers-requires same-length returns)

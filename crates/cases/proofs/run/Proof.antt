@@ -1,4 +1,4 @@
-use Rattle.cases.proofs.LeavesRules.{areas-left}
+use Rattle.cases.proofs.LeavesRules.{lent-left}
 use borrow.Author.Needs.{needs}
 use Rattle.cases.proofs.run.Statement.{statement}
 use Rattle.cases.proofs.run.Tie as tie
@@ -28,7 +28,7 @@ same-length-2 : tie.Need-same-length-2
 same-length-2 c = search needs
 
 returns : tie.Need-returns
-returns c = search (areas-left, needs)
+returns c = search (lent-left, needs)
 
 same-length-3 : tie.Need-same-length-3
 same-length-3 c = search needs
@@ -37,7 +37,7 @@ same-length-4 : tie.Need-same-length-4
 same-length-4 c = search needs
 
 returns-2 : tie.Need-returns-2
-returns-2 c = search (areas-left, needs)
+returns-2 c = search (lent-left, needs)
 
 pub run-spec : {M : Type 1} → statement M
 run-spec =

@@ -1,4 +1,4 @@
-use Rattle.cases.proofs.LeavesRules.{registers-left}
+use Rattle.cases.proofs.LeavesRules.{lent-left}
 use borrow.Author.Needs.{needs}
 use Rattle.cases.proofs.write_port.Statement.{statement}
 use Rattle.cases.proofs.write_port.Tie as tie
@@ -28,13 +28,13 @@ same-length : tie.Need-same-length
 same-length c = search needs
 
 returns : tie.Need-returns
-returns c = search (registers-left, needs)
+returns c = search (lent-left, needs)
 
 same-length-2 : tie.Need-same-length-2
 same-length-2 c = search needs
 
 returns-2 : tie.Need-returns-2
-returns-2 c = search (registers-left, needs)
+returns-2 c = search (lent-left, needs)
 
 pub write-port-spec : {M : Type 1} → statement M
 write-port-spec =

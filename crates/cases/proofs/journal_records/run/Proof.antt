@@ -1,4 +1,4 @@
-use Rattle.cases.proofs.LeavesRules.{journal-left}
+use Rattle.cases.proofs.LeavesRules.{lent-left}
 use borrow.Author.Needs.{needs}
 use Rattle.cases.proofs.journal_records.run.Statement.{statement}
 use Rattle.cases.proofs.journal_records.run.Tie as tie
@@ -31,7 +31,7 @@ same-length-3 : tie.Need-same-length-3
 same-length-3 c = search needs
 
 returns : tie.Need-returns
-returns c = search (journal-left, needs)
+returns c = search (lent-left, needs)
 
 same-length-4 : tie.Need-same-length-4
 same-length-4 c = search needs
@@ -43,7 +43,7 @@ same-length-6 : tie.Need-same-length-6
 same-length-6 c = search needs
 
 returns-2 : tie.Need-returns-2
-returns-2 c = search (journal-left, needs)
+returns-2 c = search (lent-left, needs)
 
 pub run-spec : {M : Type 1} → statement M
 run-spec =
