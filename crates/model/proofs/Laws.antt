@@ -14,6 +14,7 @@ pub mod States
 pub mod Gotos
 pub mod Spares
 pub mod Bindings
+pub mod Views
 pub mod Commands
 pub mod Cycles
 pub mod Verdict

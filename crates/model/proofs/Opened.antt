@@ -27,7 +27,7 @@ use Rattle.model.specs.Bindings.{named, exprWith, cmdWith, boundIn, ownB
 use Rattle.model.specs.Machine.{Areas, Cycle, eval, exec, resetAreas, targetSound, cleared, goneTo, afterBody, runFrom, cycle, cycles, afterLast, afterCycles}
 use Rattle.model.specs.Calls.{Lent, Left, registerAreaAnswer, lengthAnswer, contentKept, contentsAnswer, targetsAnswer, bindingsAnswer, isWritable, portAnswer, valueAnswer, areasOf, lentOf, cyclesAnswer, check, registersLength, targetsLength, resetAnswer, reset, runAnswer, run, writePortAnswer, writePort}
 use Rattle.model.specs.Listing.{bytesOfText, decimal, spaced, header, line, lines, refusalLine, listed, listing}
-use Rattle.model.specs.Parties.{Event, perform, eventsOf, events, atEnd, valuesSeen, walkSeen, view, cyclesOf}
+use Rattle.model.specs.Parties.{Event, perform, eventsOf, events, atEnd, valuesSeen, walkSeen, widerWalkSeen, view, widerView, cyclesOf}
 
 -- every definition of the image checks
 unfoldable pub checks : ℕ
@@ -41,7 +41,7 @@ everything = 0
 
 -- and with these those of what a party sees
 unfoldable pub sights : ℕ
-unfolding everything valuesSeen walkSeen view
+unfolding everything valuesSeen walkSeen widerWalkSeen view widerView
 sights = 0
 
 -- every definition of the image checks and of raising

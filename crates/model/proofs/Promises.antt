@@ -17,10 +17,11 @@ use Rattle.model.specs.Refusals.{AllKept, FirstBroken, imageTable, callT
 use Rattle.model.specs.Rounding.{RoundedDown, RoundedTowardZero}
 use Rattle.model.specs.Signed.{signedValue, shiftCount, shiftedRight, dividedSigned}
 use Rattle.model.specs.Verdict.{verdict}
-use Rattle.model.specs.Parties.{Call, perform, atEnd, Beginning, start, Independent}
+use Rattle.model.specs.Parties.{Call, perform, atEnd, Beginning, start, Independent, IndependentWidely}
 use Rattle.model.proofs.Exact.{check-exact}
 use Rattle.model.proofs.Refused.{keeps-table, check-answers, registers-length-answers, targets-length-answers, call-exactly}
 use Rattle.model.proofs.Independence.Theorem.{independent}
+use Rattle.model.proofs.Independence.Theorem as theorem
 use Rattle.model.proofs.Grouping.{Grouped, grouped, none-left}
 use Rattle.model.proofs.Writing.{ChangesOnly, changes-only}
 use Rattle.model.proofs.Ports.{run-keeps-ports}
@@ -54,10 +55,13 @@ registers-length-exactly = registers-length-answers
 pub targets-length-exactly : (image : List ℕ) → AnswersBy (imageTable image) (targetLength * length (designOf image .states)) (numbersOf (targetsLength image))
 targets-length-exactly = targets-length-answers
 
-
 -- Demand 3: "Matching lists have equal views, and equal registers at or below the level at their end."
 pub independent-parties : Independent
 independent-parties = independent
+
+-- 02, E8, and more than it asks: the same of the view that shows of each state all registers bound in its scope, to the parameters of the states around it too.
+pub independent-widely : IndependentWidely
+independent-widely = theorem.independent-widely
 
 -- "An accepted run of n counts as n cycles": so a run may be cut. A run of n and then one of m leave what one of n + m leaves; all three are accepted, each
 -- with its count, or all are refused alike.

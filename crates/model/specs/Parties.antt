@@ -13,7 +13,7 @@ use Rattle.model.specs.Image.{Design, registerAt, designOf}
 use Rattle.model.specs.Lattice.{flowsTo, registerLabel}
 use Rattle.model.specs.Verdict.{verdict}
 use Rattle.model.specs.Values.{wordsOf, bytesOf}
-use Rattle.model.specs.Bindings.{ownBound, labelWith}
+use Rattle.model.specs.Bindings.{boundIn, ownBound, labelWith}
 use Rattle.model.specs.Machine.{Cycle, cycles}
 use Rattle.model.specs.Calls.{Lent, Left, leftIn, areasOf, reset, writePort, run}
 
@@ -106,12 +106,25 @@ module _ (d : Design) (level : ℕ) where
   walkSeen bindings (s ∷ more) =
       cond (stateSeen bindings s) (record { state = s; bound = ownBound d bindings s } ∷ walkSeen bindings more) (walkSeen bindings more)
 
+  -- 02, E8, and more than it asks: the same with the registers bound to all parameters in scope, those of the states around it too
+  unfoldable pub widerWalkSeen : List ℕ → List ℕ → List RanState
+  widerWalkSeen bindings [] = []
+  widerWalkSeen bindings (s ∷ more) =
+      cond (stateSeen bindings s) (record { state = s; bound = boundIn d bindings s } ∷ widerWalkSeen bindings more) (widerWalkSeen bindings more)
+
   abbrev pub shown : Cycle → Seen
   shown c = record { values = valuesSeen (c .after .registers); walk = walkSeen (c .ranWith) (c .walk) }
 
   -- "for each cycle in order, the values .. after it, and its walk .."
   unfoldable pub view : List Event → List Seen
   view happened = map shown (cyclesOf happened)
+
+  -- and with the wider walk
+  abbrev pub widelyShown : Cycle → Seen
+  widelyShown c = record { values = valuesSeen (c .after .registers); walk = widerWalkSeen (c .ranWith) (c .walk) }
+
+  unfoldable pub widerView : List Event → List Seen
+  widerView happened = map widelyShown (cyclesOf happened)
 
   -- "with refused calls and port writes to registers not at or below the level struck out, the same resets, port writes (register and value) and cycles
   -- remain"
@@ -165,6 +178,9 @@ module _ (image : List ℕ) (level : ℕ) (u : Use (designOf image)) where
   unfoldable pub views : List Seen
   views = view (designOf image) level history
 
+  unfoldable pub widerViews : List Seen
+  widerViews = widerView (designOf image) level history
+
   unfoldable pub seenAtEnd : List ℕ
   seenAtEnd = valuesSeen (designOf image) level (wordsOf (length (designOf image .registers)) (atEnd image (start image level (u .begins)) (u .calls) .registers))
 
@@ -179,3 +195,14 @@ Independent =
     → (one other : Use (designOf image))
     → remains image level one ≡ remains image level other
     → (views image level one ≡ views image level other) × (seenAtEnd image level one ≡ seenAtEnd image level other)
+
+-- The wider view too.
+abbrev pub IndependentWidely : Type 0
+IndependentWidely =
+    (image : List ℕ)
+    → verdict image ≡ Accepted 0
+    → (level : ℕ)
+    → level < length (designOf image .rows)
+    → (one other : Use (designOf image))
+    → remains image level one ≡ remains image level other
+    → widerViews image level one ≡ widerViews image level other

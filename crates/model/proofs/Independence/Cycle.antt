@@ -8,8 +8,8 @@ use mathlib.Core.List.{List, [], _∷_, _++_, map}
 use native.Mathlib.Omega.{arith}
 use native.Mathlib.Decide.{ℕ-discrete}
 use lib.Dec.{eqb}
-use lib.ListN.{length, getD, take, drop, length-map}
-use lib.Seq.{take-append-seam, drop-append-seam}
+use lib.ListN.{length, getD, take, length-map}
+use lib.Seq.{take-append-seam}
 use Rattle.model.specs.declared.Ending.the-variants.{Goto, Fall}
 use Rattle.model.specs.declared.Outcome.{Outcome}
 use Rattle.model.specs.declared.Outcome.the-variants.{Continued, Transferred}
@@ -23,7 +23,7 @@ use Rattle.model.specs.States.{parent, isChild, defaultTarget, within}
 use Rattle.model.specs.Trees.{bodyOf}
 use Rattle.model.specs.Falls.{holdsFall}
 use Rattle.model.specs.Machine.{Areas, Cycle, exec, goneTo, afterBody, runFrom}
-use Rattle.model.specs.Parties.{RanState, registerSeen, stateSeen, walkSeen}
+use Rattle.model.specs.Parties.{RanState, registerSeen, stateSeen, widerWalkSeen}
 use Rattle.model.specs.Neighbours.{unnumbered, withoutCommand}
 use Rattle.model.proofs.Laws.Booleans.{decide, and-both}
 use Rattle.model.proofs.Laws.States.{ChildOf, sibling-child, sibling-no-root}
@@ -36,7 +36,7 @@ use Rattle.model.proofs.Independence.Commands.{OutcomesAgree, SameSeen,
 use Rattle.model.proofs.Laws.Bindings.{bound-other, first-bound, second-bound}
 use Rattle.model.proofs.Laws.Spares.{body-spares}
 use Rattle.model.proofs.Laws.Scopes.{own-length, own-at}
-use Rattle.model.proofs.Independence.Instances.{AcceptedDesign, rooted, map-same, RunFlows, flows-with, label-with, bound-same, bound-split, root-split, label-same}
+use Rattle.model.proofs.Independence.Instances.{AcceptedDesign, rooted, map-same, RunFlows, flows-with, label-with, bound-same, bound-split, label-same}
 use Rattle.model.proofs.Independence.Path.{entryOf, ran, leftBy, target, entry, after, Live, gone, left-good, left-live, live-sound, live-label, body-holds, body-shaped, body-flows, ended, target-live, parent-lower, fall-points, fall-keeps}
 use Rattle.model.proofs.Independence.Rising.{Rising, Defaults, default-of-fall, default-bound, gone-defaults, entry-hidden, run-hidden}
 
@@ -50,11 +50,8 @@ pub record Alike (d₁ d₂ : Design) (level : ℕ) : Type 0 where
   pub bodies : (bindings : List ℕ) (s : ℕ) → s < length (d₁ .states) → stateSeen d₁ level bindings s ≡ true → unnumbered (bodyOf d₁ s) ≡ unnumbered (bodyOf d₂ s)
 
 -- two lists in two parts, the first ones as long as each other
-append-same : (xs xs′ ys ys′ : List ℕ) → length xs ≡ length xs′ → xs ++ ys ≡ xs′ ++ ys′ → (xs ≡ xs′) × (ys ≡ ys′)
-append-same xs xs′ ys ys′ size e = (
-  sym (take-append-seam xs ys) ∙ ap (λ (l : List ℕ). take (length xs) l) e ∙ rw size (take-append-seam xs′ ys′),
-  sym (drop-append-seam xs ys) ∙ ap (λ (l : List ℕ). drop (length xs) l) e ∙ rw size (drop-append-seam xs′ ys′),
-)
+append-same : (xs xs′ ys ys′ : List ℕ) → length xs ≡ length xs′ → xs ++ ys ≡ xs′ ++ ys′ → xs ≡ xs′
+append-same xs xs′ ys ys′ size e = sym (take-append-seam xs ys) ∙ ap (λ (l : List ℕ). take (length xs) l) e ∙ rw size (take-append-seam xs′ ys′)
 
 -- the beginning of the live path from s that is seen, each state with what is bound in its scope
 unfoldable pub pathSeen : Design → ℕ → ℕ → ℕ → List ℕ → List ℕ → List RanState
@@ -115,7 +112,7 @@ module _ (d₁ d₂ : Design) (level : ℕ) (alike : Alike d₁ d₂ level) wher
   same-byte : (s : ℕ) → stateLabel d₁ s ≡ stateLabel d₂ s
   same-byte s = ap (λ (x : State). x .label) (alike .records s)
 
-  same-count : (s : ℕ) → stateAt d₁ s .parameters ≡ stateAt d₂ s .parameters
+  pub same-count : (s : ℕ) → stateAt d₁ s .parameters ≡ stateAt d₂ s .parameters
   same-count s = ap (λ (x : State). x .parameters) (alike .records s)
 
   same-own : (s : ℕ) → ownParameters d₁ s ≡ ownParameters d₂ s
@@ -137,10 +134,6 @@ module _ (d₁ d₂ : Design) (level : ℕ) (alike : Alike d₁ d₂ level) wher
   same-bound : (bindings : List ℕ) (s : ℕ) → boundIn d₁ bindings s ≡ boundIn d₂ bindings s
   unfolding boundIn
   same-bound bindings s = rw (same-scope s) refl
-
-  same-own-bound : (bindings : List ℕ) (s : ℕ) → ownBound d₁ bindings s ≡ ownBound d₂ bindings s
-  unfolding ownBound
-  same-own-bound bindings s = rw (same-own s) refl
 
   same-label : (bindings : List ℕ) (s : ℕ) → labelWith d₁ bindings s ≡ labelWith d₂ bindings s
   unfolding labelWith
@@ -209,19 +202,19 @@ module _ (d₁ d₂ : Design) (level : ℕ) (alike : Alike d₁ d₂ level) wher
   pub agree-alike : {v w : List ℕ} → Agree d₂ level v w → Agree d₁ level v w
   agree-alike a = record { lengths = a .lengths; values = λ r seen. a .values r (sym (same-register-seen r) ∙ seen) }
 
-  -- what a walk shows begins with a state that both see, with the same bound to it
-  walks-on : (b₁ b₂ : List ℕ) (s : ℕ) → stateSeen d₁ level b₁ s ≡ stateSeen d₂ level b₂ s → ownBound d₁ b₁ s ≡ ownBound d₂ b₂ s → (walk₁ walk₂ : List ℕ) → walkSeen d₁ level b₁ walk₁ ≡ walkSeen d₂ level b₂ walk₂ → walkSeen d₁ level b₁ (s ∷ walk₁) ≡ walkSeen d₂ level b₂ (s ∷ walk₂)
-  unfolding walkSeen
-  walks-on b₁ b₂ s seen own walk₁ walk₂ e = rw (seen, own, e) refl
+  -- what a walk shows begins with a state that both see, in whose scope the same is bound
+  walks-on : (b₁ b₂ : List ℕ) (s : ℕ) → stateSeen d₁ level b₁ s ≡ stateSeen d₂ level b₂ s → boundIn d₁ b₁ s ≡ boundIn d₂ b₂ s → (walk₁ walk₂ : List ℕ) → widerWalkSeen d₁ level b₁ walk₁ ≡ widerWalkSeen d₂ level b₂ walk₂ → widerWalkSeen d₁ level b₁ (s ∷ walk₁) ≡ widerWalkSeen d₂ level b₂ (s ∷ walk₂)
+  unfolding widerWalkSeen
+  walks-on b₁ b₂ s seen bound walk₁ walk₂ e = rw (seen, bound, e) refl
 
-  nothing-walked : (b₁ b₂ : List ℕ) → walkSeen d₁ level b₁ [] ≡ walkSeen d₂ level b₂ []
-  unfolding walkSeen
+  nothing-walked : (b₁ b₂ : List ℕ) → widerWalkSeen d₁ level b₁ [] ≡ widerWalkSeen d₂ level b₂ []
+  unfolding widerWalkSeen
   nothing-walked b₁ b₂ = refl
 
   -- two runs from areas with these bindings show the same, and go on to paths that show the same
   pub record Together (f entry₁ entry₂ : ℕ) (b₁ b₂ : List ℕ) (c₁ c₂ : Cycle) : Type 0 where
     pub registers : Agree d₁ level (c₁ .after .registers) (c₂ .after .registers)
-    pub walks : walkSeen d₁ level b₁ (c₁ .walk) ≡ walkSeen d₂ level b₂ (c₂ .walk)
+    pub walks : widerWalkSeen d₁ level b₁ (c₁ .walk) ≡ widerWalkSeen d₂ level b₂ (c₂ .walk)
     pub paths : pathSeen d₁ level f entry₁ (c₁ .after .bindings) (c₁ .after .targets) ≡ pathSeen d₂ level f entry₂ (c₂ .after .bindings) (c₂ .after .targets)
 
   module _ (keeps₁ : AcceptedDesign d₁) (keeps₂ : AcceptedDesign d₂) (isLabel : level < length (d₁ .rows)) where
@@ -259,9 +252,9 @@ module _ (d₁ d₂ : Design) (level : ℕ) (alike : Alike d₁ d₂ level) wher
       unfolding boundIn
       length-together p = length-map (scopeOf d₁ p) (λ v. getD (a₁ .bindings) v 0) ∙ ap length (same-scope p) ∙ sym (length-map (scopeOf d₂ p) (λ v. getD (a₂ .bindings) v 0))
 
-      -- the same is bound in the parent's scope, and to the parameters of s itself
-      parts-together : s ≢ 0 → (boundIn d₁ (a₁ .bindings) (parent d₁ s) ≡ boundIn d₂ (a₂ .bindings) (parent d₁ s)) × (ownBound d₁ (a₁ .bindings) s ≡ ownBound d₂ (a₂ .bindings) s)
-      parts-together no-root =
+      -- the same is bound in the parent's scope
+      above-together : s ≢ 0 → boundIn d₁ (a₁ .bindings) (parent d₁ s) ≡ boundIn d₂ (a₂ .bindings) (parent d₁ s)
+      above-together no-root =
           append-same
           (boundIn d₁ (a₁ .bindings) (parent d₁ s))
           (boundIn d₂ (a₂ .bindings) (parent d₁ s))
@@ -269,13 +262,6 @@ module _ (d₁ d₂ : Design) (level : ℕ) (alike : Alike d₁ d₂ level) wher
           (ownBound d₂ (a₂ .bindings) s)
           (length-together (parent d₁ s))
           (sym (bound-split d₁ keeps₁ s (l₁ .state) no-root (a₁ .bindings)) ∙ bound ∙ rw (same-parent s) (bound-split d₂ keeps₂ s (l₂ .state) no-root (a₂ .bindings)))
-
-      own-together : ownBound d₁ (a₁ .bindings) s ≡ ownBound d₂ (a₂ .bindings) s
-      own-together = go (ℕ-discrete s 0)
-        where
-          go : Dec (s ≡ 0) → ownBound d₁ (a₁ .bindings) s ≡ ownBound d₂ (a₂ .bindings) s
-          go (yes e) = rw e (sym (root-split d₁ keeps₁ (a₁ .bindings)) ∙ rw e at bound ∙ root-split d₂ keeps₂ (a₂ .bindings))
-          go (no no-root) = parts-together no-root .1
 
       -- ---- gotos: to one state with one set of arguments, or to states that are not seen
       module _ (t x y : ℕ) (e₁ : EndedBy₁ (Transferred (Goto t x y))) where
@@ -309,7 +295,7 @@ module _ (d₁ d₂ : Design) (level : ℕ) (alike : Alike d₁ d₂ level) wher
         named-bound : boundIn d₁ (boundBy d₁ t x y (a₁ .bindings)) t ≡ boundIn d₂ (boundBy d₂ t x y (a₂ .bindings)) t
         named-bound =
             let state₂ : t < length (d₂ .states) = rw (alike .states) at (child₁ .state) in
-            let above = parts-together (sibling-no-root d₁ s t (e₁ .1)) .0 in
+            let above = above-together (sibling-no-root d₁ s t (e₁ .1)) in
             let up₁ : boundIn d₁ (boundBy d₁ t x y (a₁ .bindings)) (parent d₁ t) ≡ boundIn d₁ (a₁ .bindings) (parent d₁ s) = above-stays d₁ keeps₁ (a₁ .bindings) (child₁ .state) (child₁ .no-root) ∙ rw (child₁ .parent-is) refl in
             let up₂ : boundIn d₂ (boundBy d₂ t x y (a₂ .bindings)) (parent d₂ t) ≡ boundIn d₂ (a₂ .bindings) (parent d₁ s) = above-stays d₂ keeps₂ (a₂ .bindings) state₂ (child₁ .no-root) ∙ rw (← (same-parent t), child₁ .parent-is) refl in
             bound-split d₁ keeps₁ t (child₁ .state) (child₁ .no-root) (boundBy d₁ t x y (a₁ .bindings))
@@ -335,7 +321,7 @@ module _ (d₁ d₂ : Design) (level : ℕ) (alike : Alike d₁ d₂ level) wher
           → (holdsFall (bodyOf d₁ s) ≡ true → Together f entry₁ entry₂ (a₁ .bindings) (a₂ .bindings) fell₁ fell₂)
           → Together (suc f) (entryOf o₁ s) (entryOf o₂ s) (a₁ .bindings) (a₂ .bindings) (afterBody d₁ o₁ s a₁ fell₁) (afterBody d₂ o₂ s a₂ fell₂)
       unfolding afterBody
-      after-together agree paths Continued Continued o e₁ e₂ fell₁ fell₂ entry₁ entry₂ points₁ points₂ stays₁ stays₂ further = record { registers = agree; walks = walks-on (a₁ .bindings) (a₂ .bindings) s both-seen own-together [] [] (nothing-walked (a₁ .bindings) (a₂ .bindings)); paths = paths }
+      after-together agree paths Continued Continued o e₁ e₂ fell₁ fell₂ entry₁ entry₂ points₁ points₂ stays₁ stays₂ further = record { registers = agree; walks = walks-on (a₁ .bindings) (a₂ .bindings) s both-seen bound [] [] (nothing-walked (a₁ .bindings) (a₂ .bindings)); paths = paths }
       after-together agree paths Continued (Transferred e) o e₁ e₂ fell₁ fell₂ entry₁ entry₂ points₁ points₂ stays₁ stays₂ further = absurd o
       after-together agree paths (Transferred Fall) Continued o e₁ e₂ fell₁ fell₂ entry₁ entry₂ points₁ points₂ stays₁ stays₂ further = absurd o
       after-together agree paths (Transferred (Goto t x y)) Continued o e₁ e₂ fell₁ fell₂ entry₁ entry₂ points₁ points₂ stays₁ stays₂ further = absurd o
@@ -351,11 +337,11 @@ module _ (d₁ d₂ : Design) (level : ℕ) (alike : Alike d₁ d₂ level) wher
           let on₂ : pathSeen d₂ level (suc f) s (fell₂ .after .bindings) (fell₂ .after .targets) ≡ seenAt d₂ (a₂ .bindings) s ∷ pathSeen d₂ level f entry₂ (fell₂ .after .bindings) (fell₂ .after .targets) = rw (← (points₂ holds₂), ← (stays₂ holds₂)) (path-falls d₂ level f s (fell₂ .after .bindings) (fell₂ .after .targets) after-seen₂ holds₂) in
           record {
             registers = both .registers;
-            walks = walks-on (a₁ .bindings) (a₂ .bindings) s both-seen own-together (fell₁ .walk) (fell₂ .walk) (both .walks);
+            walks = walks-on (a₁ .bindings) (a₂ .bindings) s both-seen bound (fell₁ .walk) (fell₂ .walk) (both .walks);
             paths = on₁ ∙ rw (bound, both .paths) refl ∙ sym on₂;
           }
       after-together agree paths (Transferred (Goto t x y)) (Transferred (Goto u z w)) o e₁ e₂ fell₁ fell₂ entry₁ entry₂ points₁ points₂ stays₁ stays₂ further =
-          record { registers = agree; walks = walks-on (a₁ .bindings) (a₂ .bindings) s both-seen own-together [] [] (nothing-walked (a₁ .bindings) (a₂ .bindings)); paths = gone-together t x y u z w e₁ e₂ o }
+          record { registers = agree; walks = walks-on (a₁ .bindings) (a₂ .bindings) s both-seen bound [] [] (nothing-walked (a₁ .bindings) (a₂ .bindings)); paths = gone-together t x y u z w e₁ e₂ o }
 
       -- the bindings of the second run are sound in the first design too
       sound-there : allOf (boundSound d₁ (a₂ .bindings)) (scopeOf d₁ s) ≡ true

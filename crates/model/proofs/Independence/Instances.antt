@@ -134,10 +134,6 @@ module _ (d : Design) (keeps : AcceptedDesign d) where
   unfolding boundIn ownBound
   bound-split s k no-root bindings = rw (scope-step d s (rooted .lower s k no-root)) (map-append (λ v. getD bindings v 0) (scopeOf d (parent d s)) (ownParameters d s))
 
-  pub root-split : (bindings : List ℕ) → boundIn d bindings 0 ≡ ownBound d bindings 0
-  unfolding boundIn ownBound
-  root-split bindings = rw (scope-root d) refl
-
   -- a state without parameters has its parent's scope
   pub scope-same : (q c : ℕ) → c < length (d .states) → c ≢ 0 → parent d c ≡ q → stateAt d c .parameters ≡ 0 → scopeOf d c ≡ scopeOf d q
   unfolding ownParameters tabulateFrom

@@ -1,5 +1,6 @@
 -- A relation that no call breaks makes every list of calls show what one canonical run of what remains of it shows: a refused call and a write that is
--- not seen leave the relation as it is, and any other call makes the same step in both runs. So two lists of which the same remains show the same.
+-- not seen leave the relation as it is, and any other call makes the same step in both runs. So two lists of which the same remains show the same, in the view and
+-- in the wider one.
 use Prim.Native.Nat.{ℕ, zero, suc, _+_, _-_, _*_, _<_}
 use mathlib.Core.Path.{_≡_, refl, sym, _∙_, ap}
 use mathlib.Core.Bool.{Bool, true, false, cond}
@@ -18,7 +19,7 @@ use Rattle.model.specs.Verdict.{verdict}
 use Rattle.model.specs.Values.{modulus, fits, wordsOf}
 use Rattle.model.specs.Machine.{Areas, Cycle, resetAreas, cycle, cycles, afterLast, afterCycles}
 use Rattle.model.specs.Calls.{Lent, Left, contentKept, isWritable, areasOf, lentOf, reset}
-use Rattle.model.specs.Parties.{Call, resets, writes, runs, perform, Event, wasReset, wasWritten, cycled, eventsOf, events, atEnd, Seen, Remaining, aReset, aWrite, aCycle, registerSeen, valuesSeen, walkSeen, view, remaining, RightLengths, Use, withUnseen, start, history, remains, views, seenAtEnd, journalled, steppedBack, aJournalledCycle, aStepBack, cyclesOf, shown, Beginning}
+use Rattle.model.specs.Parties.{Call, resets, writes, runs, perform, Event, wasReset, wasWritten, cycled, eventsOf, events, atEnd, Seen, Remaining, aReset, aWrite, aCycle, registerSeen, valuesSeen, view, widerView, remaining, RightLengths, Use, withUnseen, start, history, remains, views, widerViews, seenAtEnd, journalled, steppedBack, aJournalledCycle, aStepBack, cyclesOf, shown, widelyShown, Beginning}
 use Rattle.model.proofs.Laws.Equivalences.{less-iff}
 use Rattle.model.proofs.Laws.Words.{length-bytesOf}
 use Rattle.model.proofs.Exact.{verdict-exact}
@@ -51,7 +52,7 @@ cycles-append (journalled c ∷ first) second = rw (cycles-append first second)
 cycles-append (steppedBack ∷ first) second = cycles-append first second
 
 module _ (d : Design) (level : ℕ) where
-  -- where a part of what remains leads, and what it shows
+  -- where a part of what remains leads
   abbrev onward : Course → Remaining → Course
   onward course aReset = courseOf (resetAreas d) (course .saved)
   onward course (aWrite r v) = courseOf (withRegister r v (course .areas)) (course .saved)
@@ -59,40 +60,44 @@ module _ (d : Design) (level : ℕ) where
   onward course aJournalledCycle = courseOf (cycle d (course .areas) .after) (course .saved ++ (course .areas ∷ []))
   onward course aStepBack = backOnce course
 
-  abbrev showing : Course → Remaining → List Seen
-  showing course aReset = []
-  showing course (aWrite r v) = []
-  showing course aCycle = shown d level (cycle d (course .areas)) ∷ []
-  showing course aJournalledCycle = shown d level (cycle d (course .areas)) ∷ []
-  showing course aStepBack = []
+  -- the cycles that it makes
+  abbrev cycling : Course → Remaining → List Cycle
+  cycling course aReset = []
+  cycling course (aWrite r v) = []
+  cycling course aCycle = cycle d (course .areas) ∷ []
+  cycling course aJournalledCycle = cycle d (course .areas) ∷ []
+  cycling course aStepBack = []
 
+  unfoldable pub followedCycles : Course → List Remaining → List Cycle
+  followedCycles course [] = []
+  followedCycles course (part ∷ more) = cycling course part ++ followedCycles (onward course part) more
+
+  -- what they show, in the view and in the wider one
   unfoldable pub followed : Course → List Remaining → List Seen
-  followed course [] = []
-  followed course (part ∷ more) = showing course part ++ followed (onward course part) more
+  followed course parts = map (shown d level) (followedCycles course parts)
+
+  unfoldable pub widelyFollowed : Course → List Remaining → List Seen
+  widelyFollowed course parts = map (widelyShown d level) (followedCycles course parts)
 
   unfoldable pub followedEnd : Course → List Remaining → Course
   followedEnd course [] = course
   followedEnd course (part ∷ more) = followedEnd (onward course part) more
 
   -- ---- one list and then another
-  pub followed-append : (course : Course) (first second : List Remaining)
-      → followed course (first ++ second) ≡ followed course first ++ followed (followedEnd course first) second
-  unfolding followed followedEnd
-  followed-append course [] second = refl
-  followed-append course (part ∷ first) second =
+  pub followed-cycles-append : (course : Course) (first second : List Remaining)
+      → followedCycles course (first ++ second) ≡ followedCycles course first ++ followedCycles (followedEnd course first) second
+  unfolding followedCycles followedEnd
+  followed-cycles-append course [] second = refl
+  followed-cycles-append course (part ∷ first) second =
       rw (
-        followed-append (onward course part) first second,
-        append-assoc (showing course part) (followed (onward course part) first) (followed (followedEnd (onward course part) first) second),
+        followed-cycles-append (onward course part) first second,
+        append-assoc (cycling course part) (followedCycles (onward course part) first) (followedCycles (followedEnd (onward course part) first) second),
       )
 
   pub end-append : (course : Course) (first second : List Remaining) → followedEnd course (first ++ second) ≡ followedEnd (followedEnd course first) second
   unfolding followedEnd
   end-append course [] second = refl
   end-append course (part ∷ first) second = end-append (onward course part) first second
-
-  pub view-append : (first second : List Event) → view d level (first ++ second) ≡ view d level first ++ view d level second
-  unfolding view
-  view-append first second = ap (map (shown d level)) (cycles-append first second) ∙ map-append (shown d level) (cyclesOf first) (cyclesOf second)
 
   pub remaining-append : (first second : List Event) → remaining d level (first ++ second) ≡ remaining d level first ++ remaining d level second
   unfolding remaining
@@ -118,53 +123,69 @@ module _ (d₁ d₂ : Design) (level : ℕ) where
   -- events of the first design show what the canonical run in the second shows, which they lead from a course to a course
   pub record Agrees (happened : List Event) (course reached : Course) : Type 0 where
     pub seen : view d₁ level happened ≡ followed d₂ level course (remaining d₁ level happened)
+    pub widely-seen : widerView d₁ level happened ≡ widelyFollowed d₂ level course (remaining d₁ level happened)
     pub at-end : followedEnd d₂ level course (remaining d₁ level happened) ≡ reached
+
+  -- what is shown of one list and then of another, in either view
+  shows-both : (show₁ show₂ : Cycle → Seen) (first second : List Event) (course between : Course)
+      → map show₁ (cyclesOf first) ≡ map show₂ (followedCycles d₂ level course (remaining d₁ level first))
+      → map show₁ (cyclesOf second) ≡ map show₂ (followedCycles d₂ level between (remaining d₁ level second))
+      → followedEnd d₂ level course (remaining d₁ level first) ≡ between
+      → map show₁ (cyclesOf (first ++ second)) ≡ map show₂ (followedCycles d₂ level course (remaining d₁ level (first ++ second)))
+  shows-both show₁ show₂ first second course between h k ends =
+      let before₂ = followedCycles d₂ level course (remaining d₁ level first) in
+      let after₂ = followedCycles d₂ level between (remaining d₁ level second) in
+      rw (remaining-append d₁ level first second, followed-cycles-append d₂ level course (remaining d₁ level first) (remaining d₁ level second), ends, cycles-append first second, map-append show₁ (cyclesOf first) (cyclesOf second), map-append show₂ before₂ after₂, h, k)
 
 module _ {d₁ d₂ : Design} {level : ℕ} where
   pub agrees-append : {first second : List Event} {course between reached : Course}
       → Agrees d₁ d₂ level first course between
       → Agrees d₁ d₂ level second between reached
       → Agrees d₁ d₂ level (first ++ second) course reached
-  agrees-append {first} {second} {course} h k =
-      let rest = remaining d₁ level second in
+  unfolding view widerView followed widelyFollowed
+  agrees-append {first} {second} {course} {between} h k =
       record {
-        seen = rw (view-append d₁ level first second, remaining-append d₁ level first second, followed-append d₂ level course (remaining d₁ level first) rest, h .at-end, h .seen, k .seen);
-        at-end = rw (remaining-append d₁ level first second, end-append d₂ level course (remaining d₁ level first) rest, h .at-end) (k .at-end);
+        seen = shows-both d₁ d₂ level (shown d₁ level) (shown d₂ level) first second course between (h .seen) (k .seen) (h .at-end);
+        widely-seen = shows-both d₁ d₂ level (widelyShown d₁ level) (widelyShown d₂ level) first second course between (h .widely-seen) (k .widely-seen) (h .at-end);
+        at-end = rw (remaining-append d₁ level first second, end-append d₂ level course (remaining d₁ level first) (remaining d₁ level second), h .at-end) (k .at-end);
       }
 
   module _ {areas : Areas} {saved : List Areas} where
     pub agrees-none : Agrees d₁ d₂ level [] (courseOf areas saved) (courseOf areas saved)
-    unfolding view cyclesOf remaining followed followedEnd
-    agrees-none = record { seen = refl; at-end = refl }
+    unfolding view widerView cyclesOf remaining followed widelyFollowed followedCycles followedEnd
+    agrees-none = record { seen = refl; widely-seen = refl; at-end = refl }
 
     agrees-reset : Agrees d₁ d₂ level (wasReset ∷ []) (courseOf areas saved) (courseOf (resetAreas d₂) saved)
-    unfolding view cyclesOf remaining followed followedEnd
-    agrees-reset = record { seen = refl; at-end = refl }
+    unfolding view widerView cyclesOf remaining followed widelyFollowed followedCycles followedEnd
+    agrees-reset = record { seen = refl; widely-seen = refl; at-end = refl }
 
     agrees-written : (r v : ℕ) → registerSeen d₁ level r ≡ true → Agrees d₁ d₂ level (wasWritten r v ∷ []) (courseOf areas saved) (courseOf (withRegister r v areas) saved)
-    unfolding view cyclesOf remaining followed followedEnd
-    agrees-written r v e = record { seen = rw e; at-end = rw e }
+    unfolding view widerView cyclesOf remaining followed widelyFollowed followedCycles followedEnd
+    agrees-written r v e = record { seen = rw e; widely-seen = rw e; at-end = rw e }
 
     agrees-struck : (r v : ℕ) → registerSeen d₁ level r ≡ false → Agrees d₁ d₂ level (wasWritten r v ∷ []) (courseOf areas saved) (courseOf areas saved)
-    unfolding view cyclesOf remaining followed followedEnd
-    agrees-struck r v e = record { seen = rw e; at-end = rw e }
+    unfolding view widerView cyclesOf remaining followed widelyFollowed followedCycles followedEnd
+    agrees-struck r v e = record { seen = rw e; widely-seen = rw e; at-end = rw e }
 
-    agrees-cycled : (c : Cycle) → shown d₁ level c ≡ shown d₂ level (cycle d₂ areas) → Agrees d₁ d₂ level (cycled c ∷ []) (courseOf areas saved) (courseOf (cycle d₂ areas .after) saved)
-    unfolding view cyclesOf remaining followed followedEnd
-    agrees-cycled c e = record { seen = rw e; at-end = refl }
+    agrees-cycled : (c : Cycle) → shown d₁ level c ≡ shown d₂ level (cycle d₂ areas) → widelyShown d₁ level c ≡ widelyShown d₂ level (cycle d₂ areas) → Agrees d₁ d₂ level (cycled c ∷ []) (courseOf areas saved) (courseOf (cycle d₂ areas .after) saved)
+    unfolding view widerView cyclesOf remaining followed widelyFollowed followedCycles followedEnd
+    agrees-cycled c e k = record { seen = rw e; widely-seen = rw k; at-end = refl }
 
-    agrees-journalled : (c : Cycle) → shown d₁ level c ≡ shown d₂ level (cycle d₂ areas) → Agrees d₁ d₂ level (journalled c ∷ []) (courseOf areas saved) (courseOf (cycle d₂ areas .after) (saved ++ (areas ∷ [])))
-    unfolding view cyclesOf remaining followed followedEnd
-    agrees-journalled c e = record { seen = rw e; at-end = refl }
+    agrees-journalled : (c : Cycle) → shown d₁ level c ≡ shown d₂ level (cycle d₂ areas) → widelyShown d₁ level c ≡ widelyShown d₂ level (cycle d₂ areas) → Agrees d₁ d₂ level (journalled c ∷ []) (courseOf areas saved) (courseOf (cycle d₂ areas .after) (saved ++ (areas ∷ [])))
+    unfolding view widerView cyclesOf remaining followed widelyFollowed followedCycles followedEnd
+    agrees-journalled c e k = record { seen = rw e; widely-seen = rw k; at-end = refl }
 
     pub agrees-back : Agrees d₁ d₂ level (steppedBack ∷ []) (courseOf areas saved) (backOnce (courseOf areas saved))
-    unfolding view cyclesOf remaining followed followedEnd
-    agrees-back = record { seen = refl; at-end = refl }
+    unfolding view widerView cyclesOf remaining followed widelyFollowed followedCycles followedEnd
+    agrees-back = record { seen = refl; widely-seen = refl; at-end = refl }
 
 module _ {d₁ d₂ : Design} {level : ℕ} {Related : Areas → Areas → Type 0} (same : Bisimulation d₁ d₂ level Related) where
   -- one cycle of both
   pub shows-cycle : (a b : Areas) → Related a b → shown d₁ level (cycle d₁ a) ≡ shown d₂ level (cycle d₂ b)
   shows-cycle a b h = rw (same .values (cycle d₁ a .after) (cycle d₂ b .after) (same .cycles a b h), same .walks a b h)
+
+  pub widely-shows-cycle : (a b : Areas) → Related a b → widelyShown d₁ level (cycle d₁ a) ≡ widelyShown d₂ level (cycle d₂ b)
+  widely-shows-cycle a b h = rw (same .values (cycle d₁ a .after) (cycle d₂ b .after) (same .cycles a b h), same .wider-walks a b h)
 
   -- n cycles of both
   pub related-cycles : (n : ℕ) (a b : Areas) → Related a b → Related (afterCycles d₁ n a) (afterCycles d₂ n b)
@@ -177,7 +198,7 @@ module _ {d₁ d₂ : Design} {level : ℕ} {Related : Areas → Areas → Type 
   unfolding afterCycles afterLast cycles
   agrees-cycles zero a b saved h = agrees-none
   agrees-cycles (suc n) a b saved h =
-      agrees-append (agrees-cycled (cycle d₁ a) (shows-cycle a b h)) (agrees-cycles n (cycle d₁ a .after) (cycle d₂ b .after) saved (same .cycles a b h))
+      agrees-append (agrees-cycled (cycle d₁ a) (shows-cycle a b h) (widely-shows-cycle a b h)) (agrees-cycles n (cycle d₁ a .after) (cycle d₂ b .after) saved (same .cycles a b h))
 
   -- n journalled cycles save the areas before each
   pub agrees-journalled-cycles : (n : ℕ) (a b : Areas) (saved : List Areas) → Related a b
@@ -188,7 +209,7 @@ module _ {d₁ d₂ : Design} {level : ℕ} {Related : Areas → Areas → Type 
       let after = cycle d₂ b .after in
       rw
       (← append-assoc saved (b ∷ []) (areasBefore d₂ n after))
-      (agrees-append (agrees-journalled (cycle d₁ a) (shows-cycle a b h)) (agrees-journalled-cycles n (cycle d₁ a .after) after (saved ++ (b ∷ [])) (same .cycles a b h)))
+      (agrees-append (agrees-journalled (cycle d₁ a) (shows-cycle a b h) (widely-shows-cycle a b h)) (agrees-journalled-cycles n (cycle d₁ a .after) after (saved ++ (b ∷ [])) (same .cycles a b h)))
 
 -- the canonical run begins with nothing saved
 abbrev pub startCourse : Design → ℕ → Course
@@ -383,25 +404,27 @@ module _
       (startAreas d₂ level (λ r. 0))
       (same .starts given (λ r. 0) (begins .within) (λ r l. pow-pos (registerAt d₂ r .width))))
 
-  -- a use shows what the canonical run of what remains shows
+  -- a use shows what the canonical run of what remains shows, and in the wider view too
   pub use-follows : (u : Use (designOf image))
       → (views image level u ≡ followed d₂ level (startCourse d₂ level) (remains image level u))
       × (seenAtEnd image level u ≡ valuesSeen d₂ level (followedEnd d₂ level (startCourse d₂ level) (remains image level u) .areas .registers))
-  unfolding views remains seenAtEnd history
+      × (widerViews image level u ≡ widelyFollowed d₂ level (startCourse d₂ level) (remains image level u))
+  unfolding views widerViews remains seenAtEnd history
   use-follows u =
       let begun = start image level (u .begins) in
       let led = list-leads (u .calls) begun (startAreas d₂ level (λ r. 0)) [] (start-follows (u .begins)) in
-      (led .agrees .seen, rw (led .agrees .at-end) (values-follow (atEnd image begun (u .calls)) (led .reached) (led .following)))
+      (led .agrees .seen, rw (led .agrees .at-end) (values-follow (atEnd image begun (u .calls)) (led .reached) (led .following)), led .agrees .widely-seen)
 
 -- Two uses of an image of which the same remains show the same: both show what one canonical run shows.
 pub lists-independent : (image : List ℕ) → verdict image ≡ Accepted 0 → (level : ℕ) (Related : Areas → Areas → Type 0)
     → Bisimulation (designOf image) (designOf image) level Related
     → (one other : Use (designOf image))
     → remains image level one ≡ remains image level other
-    → (views image level one ≡ views image level other) × (seenAtEnd image level one ≡ seenAtEnd image level other)
+    → (views image level one ≡ views image level other) × (seenAtEnd image level one ≡ seenAtEnd image level other) × (widerViews image level one ≡ widerViews image level other)
 lists-independent image accepted level Related same one other e =
     let first = use-follows image accepted (designOf image) level Related same one in
     let second = use-follows image accepted (designOf image) level Related same other in
     let seen = rw e at (first .0) in
     let at-end = rw e at (first .1) in
-    (seen ∙ sym (second .0), at-end ∙ sym (second .1))
+    let widely-seen = rw e at (first .2) in
+    (seen ∙ sym (second .0), at-end ∙ sym (second .1), widely-seen ∙ sym (second .2))

@@ -9,7 +9,7 @@ use Rattle.model.specs.Image.{Design}
 use Rattle.model.specs.Values.{modulus}
 use Rattle.model.specs.Bindings.{bindingSound}
 use Rattle.model.specs.Machine.{Areas, resetAreas, targetSound, cycle}
-use Rattle.model.specs.Parties.{registerSeen, valuesSeen, walkSeen, givenUnseen}
+use Rattle.model.specs.Parties.{registerSeen, valuesSeen, walkSeen, widerWalkSeen, givenUnseen}
 
 -- areas that an accepted run may have: the right lengths, values within the widths, sound targets and bindings
 pub record Good (d : Design) (areas : Areas) : Type 0 where
@@ -41,5 +41,6 @@ pub record Bisimulation (d₁ d₂ : Design) (level : ℕ) (Related : Areas → 
   pub resets : Related (resetAreas d₁) (resetAreas d₂)
   pub cycles : (a b : Areas) → Related a b → Related (cycle d₁ a .after) (cycle d₂ b .after)
   pub walks : (a b : Areas) → Related a b → walkSeen d₁ level (cycle d₁ a .ranWith) (cycle d₁ a .walk) ≡ walkSeen d₂ level (cycle d₂ b .ranWith) (cycle d₂ b .walk)
+  pub wider-walks : (a b : Areas) → Related a b → widerWalkSeen d₁ level (cycle d₁ a .ranWith) (cycle d₁ a .walk) ≡ widerWalkSeen d₂ level (cycle d₂ b .ranWith) (cycle d₂ b .walk)
   pub writes-seen : (a b : Areas) → Related a b → (r v : ℕ) → v < modulus (d₁ .registers) r → Related (withRegister r v a) (withRegister r v b)
   pub writes-unseen : (a b : Areas) → Related a b → (r v : ℕ) → v < modulus (d₁ .registers) r → registerSeen d₁ level r ≡ false → Related (withRegister r v a) b

@@ -18,7 +18,7 @@ use Rattle.model.specs.Parameters.{allOf, scopeOf, labelUnder}
 use Rattle.model.specs.Bindings.{boundIn, bodyWith, labelWith, boundBy, boundSound}
 use Rattle.model.specs.Rules.{FlowsTo, DefaultChild}
 use Rattle.model.specs.Machine.{Areas, Cycle, goneTo, afterBody, runFrom}
-use Rattle.model.specs.Parties.{stateSeen, walkSeen}
+use Rattle.model.specs.Parties.{stateSeen, widerWalkSeen}
 use Rattle.model.proofs.Laws.Booleans.{and-first, and-false}
 use Rattle.model.proofs.Laws.States.{ChildOf, is-child, default-child, default-least, sibling-child}
 use Rattle.model.proofs.Exact.Falls.{holds-iff}
@@ -53,7 +53,7 @@ module _ (d : Design) where
   -- a run that shows nothing to the level and changes nothing that it sees
   pub record Hidden (level : ℕ) (a : Areas) (c : Cycle) : Type 0 where
     pub registers : Agree d level (a .registers) (c .after .registers)
-    pub walk : walkSeen d level (a .bindings) (c .walk) ≡ []
+    pub walk : widerWalkSeen d level (a .bindings) (c .walk) ≡ []
 
 module _ (d : Design) (keeps : AcceptedDesign d) where
   -- the default child of a state that holds a fall
@@ -166,8 +166,8 @@ module _ (d : Design) (keeps : AcceptedDesign d) where
         let risen = run-risen f s a live good rising in
         unseen-above d level keeps isLabel (labelWith d (a .bindings) s) (labelWith d (after d f s a .bindings) (entry d f s a)) (live-label d keeps a good s live) (risen .label) (risen .up) unseen
 
-    after-hidden : (s : ℕ) (v : List ℕ) (a : Areas) → stateSeen d level (a .bindings) s ≡ false → Agree d level v (a .registers) → (o : Outcome) (fell : Cycle) → (o ≡ Transferred Fall → Hidden d level a fell) → Agree d level v (afterBody d o s a fell .after .registers) × (walkSeen d level (a .bindings) (afterBody d o s a fell .walk) ≡ [])
-    unfolding afterBody walkSeen
+    after-hidden : (s : ℕ) (v : List ℕ) (a : Areas) → stateSeen d level (a .bindings) s ≡ false → Agree d level v (a .registers) → (o : Outcome) (fell : Cycle) → (o ≡ Transferred Fall → Hidden d level a fell) → Agree d level v (afterBody d o s a fell .after .registers) × (widerWalkSeen d level (a .bindings) (afterBody d o s a fell .walk) ≡ [])
+    unfolding afterBody widerWalkSeen
     after-hidden s v a unseen agree Continued fell k = (agree, rw unseen refl)
     after-hidden s v a unseen agree (Transferred Fall) fell k = (agree-trans d level agree (k refl .registers), rw unseen (k refl .walk))
     after-hidden s v a unseen agree (Transferred (Goto t x y)) fell k = (agree, rw unseen refl)
@@ -178,7 +178,7 @@ module _ (d : Design) (keeps : AcceptedDesign d) where
         exec-confined d level keeps isLabel (a .bindings) s (labelWith d (a .bindings) s ∷ []) (a .registers) (bodyWith d (a .bindings) s) (body-flows d keeps a good s live) (live-label d keeps a good s live, tt) (and-false (stateSeen d level (a .bindings) s) true unseen)
 
     pub run-hidden : (f s : ℕ) (a : Areas) → Live d a s → Good d a → Rising d f s (a .bindings) (a .targets) → stateSeen d level (a .bindings) s ≡ false → Hidden d level a (runFrom d f s a)
-    unfolding runFrom walkSeen
+    unfolding runFrom widerWalkSeen
     run-hidden zero s a live good rising unseen = record { registers = agree-self d level (a .registers); walk = refl }
     run-hidden (suc f) s a live good rising unseen =
         let holds : ran d s a .outcome ≡ Transferred Fall → holdsFall (bodyOf d s) ≡ true = λ e. sym (body-holds d keeps (a .bindings) s) ∙ (rw e at (ended d keeps s a good live)) .1 in

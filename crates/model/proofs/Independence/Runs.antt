@@ -1,10 +1,10 @@
 -- The relation that holds between two runs from reset, and that no step of a list of calls breaks: both areas are good, labels rise along both live paths,
 -- and the registers and the beginnings of the paths that are seen agree.
 use Prim.Native.Nat.{ℕ, zero, suc, _+_, _*_, _≤_, _<_}
-use mathlib.Core.Path.{_≡_, refl, sym, _∙_, ap}
+use mathlib.Core.Path.{_≡_, refl, sym, _∙_, ap, fun-ext}
 use mathlib.Core.Logic.{_⊎_, inl, inr}
 use mathlib.Core.Bool.{Bool, true, false, cond}
-use mathlib.Core.List.{List, [], _∷_}
+use mathlib.Core.List.{List, [], _∷_, map}
 use native.Mathlib.Omega.{arith}
 use native.Mathlib.Decide.{decLt, ℕ-discrete}
 use lib.Dec.{eqb}
@@ -24,7 +24,7 @@ use Rattle.model.specs.Bindings.{labelWith, bodyWith, boundIn, onPath, b
 use Rattle.model.specs.Rules.{DefaultChild}
 use Rattle.model.specs.Values.{modulus}
 use Rattle.model.specs.Machine.{Areas, resetAreas, runFrom, cycle}
-use Rattle.model.specs.Parties.{registerSeen, valuesSeen, walkSeen, givenUnseen}
+use Rattle.model.specs.Parties.{RanState, registerSeen, valuesSeen, walkSeen, widerWalkSeen, givenUnseen}
 use Rattle.model.proofs.Laws.Booleans.{decide, cond-true, or-first}
 use Rattle.model.proofs.Laws.Indices.{length-tabulate, getD-tabulate, join-same}
 use Rattle.model.proofs.Laws.Cycles.{reset-length}
@@ -36,10 +36,11 @@ use Rattle.model.proofs.Independence.Widths.{Fitting, set-fitting, rese
 use Rattle.model.proofs.Laws.Scopes.{all-own-iff, scope-root}
 use Rattle.model.proofs.Laws.Paths.{path-above}
 use Rattle.model.proofs.Laws.Bindings.{sound-make}
+use Rattle.model.proofs.Laws.Views.{walk-by-wider}
 use Rattle.model.proofs.Independence.Instances.{AcceptedDesign}
 use Rattle.model.proofs.Independence.Path.{entryOf, ran, entry, live-sound, root-live, parent-lower, ended, run-good, run-ran}
 use Rattle.model.proofs.Independence.Rising.{Rising, Defaults, run-rises, default-rises}
-use Rattle.model.proofs.Independence.Cycle.{Alike, pathSeen, default-paths, same-register-seen, agree-alike, Together, run-together}
+use Rattle.model.proofs.Independence.Cycle.{Alike, pathSeen, default-paths, same-count, same-register-seen, agree-alike, Together, run-together}
 
 module _ (d : Design) where
   -- ---- reset
@@ -244,9 +245,16 @@ module _ (d₁ d₂ : Design) (level : ℕ) where
             (related .paths) in
             rw (entry-root d₁ keeps₁ (length (d₁ .states)) a rooted (related .good₁), entry-root d₂ keeps₂ (length (d₁ .states)) b rooted₂ (related .good₂)) at run
 
-        cycle-walks : walkSeen d₁ level (cycle d₁ a .ranWith) (cycle d₁ a .walk) ≡ walkSeen d₂ level (cycle d₂ b .ranWith) (cycle d₂ b .walk)
+        cycle-wider-walks : widerWalkSeen d₁ level (cycle d₁ a .ranWith) (cycle d₁ a .walk) ≡ widerWalkSeen d₂ level (cycle d₂ b .ranWith) (cycle d₂ b .walk)
         unfolding cycle
-        cycle-walks = rw (as-many, run-ran d₁ (length (d₁ .states)) 0 a, run-ran d₂ (length (d₁ .states)) 0 b) (together .walks)
+        cycle-wider-walks = rw (as-many, run-ran d₁ (length (d₁ .states)) 0 a, run-ran d₂ (length (d₁ .states)) 0 b) (together .walks)
+
+        -- both designs have as many parameters in each state, so they take the same part of it
+        cycle-walks : walkSeen d₁ level (cycle d₁ a .ranWith) (cycle d₁ a .walk) ≡ walkSeen d₂ level (cycle d₂ b .ranWith) (cycle d₂ b .walk)
+        cycle-walks =
+            walk-by-wider d₁ (cycle d₁ a .ranWith) level (cycle d₁ a .walk)
+            ∙ rw cycle-wider-walks (ap (λ (part : RanState → RanState). map part (widerWalkSeen d₂ level (cycle d₂ b .ranWith) (cycle d₂ b .walk))) (fun-ext (λ x. rw (same-count d₁ d₂ level alike (x .state)) refl)))
+            ∙ sym (walk-by-wider d₂ (cycle d₂ b .ranWith) level (cycle d₂ b .walk))
 
         cycle-related : Related (cycle d₁ a .after) (cycle d₂ b .after)
         unfolding cycle
@@ -285,6 +293,7 @@ module _ (d₁ d₂ : Design) (level : ℕ) where
             resets = reset-related;
             cycles = cycle-related;
             walks = cycle-walks;
+            wider-walks = cycle-wider-walks;
             writes-seen =
                 λ a b related r v l.
                 record {

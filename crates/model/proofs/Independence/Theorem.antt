@@ -10,7 +10,7 @@ use Rattle.model.specs.Limits.{stateLength}
 use Rattle.model.specs.Image.{Labels, Registers, States, count, offset, stateOf, sectionOf, designOf}
 use Rattle.model.specs.Rules.{DirectoryKeeps, Keeps}
 use Rattle.model.specs.Verdict.{verdict}
-use Rattle.model.specs.Parties.{Independent}
+use Rattle.model.specs.Parties.{Use, remains, views, widerViews, seenAtEnd, Independent, IndependentWidely}
 use Rattle.model.proofs.Laws.Words.{length-recordsOf}
 use Rattle.model.proofs.Exact.{verdict-exact}
 use Rattle.model.proofs.Independence.Relation.{Bisimulation}
@@ -64,11 +64,20 @@ related-neighbours image edited accepted accepted′ level isLabel same =
     isLabel
 
 -- within one design: what it has in common with itself is the same
-pub independent : Independent
-independent image accepted level isLabel =
+both-views : (image : List ℕ) → verdict image ≡ Accepted 0 → (level : ℕ) → level < length (designOf image .rows)
+    → (one other : Use (designOf image))
+    → remains image level one ≡ remains image level other
+    → (views image level one ≡ views image level other) × (seenAtEnd image level one ≡ seenAtEnd image level other) × (widerViews image level one ≡ widerViews image level other)
+both-views image accepted level isLabel =
     lists-independent
     image
     accepted
     level
     (Related (designOf image) (designOf image) level)
     (related-neighbours image image accepted accepted level isLabel refl)
+
+pub independent : Independent
+independent image accepted level isLabel one other same = let both = both-views image accepted level isLabel one other same in (both .0, both .1)
+
+pub independent-widely : IndependentWidely
+independent-widely image accepted level isLabel one other same = both-views image accepted level isLabel one other same .2
