@@ -10,6 +10,8 @@ pub mod Pieces
 pub mod Listed
 pub mod Determined
 pub mod Forms
+pub mod Matched
+pub mod Renumbered
 pub mod Order
 pub mod Exact
 pub mod Written

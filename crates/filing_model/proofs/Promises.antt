@@ -16,13 +16,14 @@ use Rattle.model.specs.Refusals.{inNumbers, Exactly}
 use Rattle.renumbering.specs.Runs.{SameRuns}
 use Rattle.filing_model.specs.declared.Earlier.the-variants.{First, Neither}
 use Rattle.filing_model.specs.Filed.{filed, filedImage}
-use Rattle.filing_model.specs.Same.{DifferAtMostInNumbers}
+use Rattle.filing_model.specs.Same.{DifferAtMostInNumbers, NodesRenumbered}
 use Rattle.filing_model.specs.Order.{comesBefore}
 use Rattle.filing_model.specs.Calls.{file, earlier, handedBack}
 use Rattle.filing_model.specs.Rules.{fileTable}
 use Rattle.filing_model.proofs.Trees.{Nodes, bodiesWritten}
 use Rattle.filing_model.proofs.Images.{filed-accepted, filed-long, filed-runs, filed-same}
 use Rattle.filing_model.proofs.Forms as forms
+use Rattle.filing_model.proofs.Renumbered as renumbered
 use Rattle.filing_model.proofs.Order as order
 use Rattle.filing_model.proofs.Exact as exact
 use Rattle.filing_model.proofs.Written as written
@@ -39,6 +40,11 @@ form-written-out = forms.form-written
 pub same-form-exactly : (image other : List ℕ) → AreBytes image → AreBytes other → verdict image ≡ Accepted 0 → verdict other ≡ Accepted 0
     → (filedImage image ≡ filedImage other) ↔ DifferAtMostInNumbers image other
 same-form-exactly = forms.same-form
+
+-- To differ at most in node numbers is to be one design under new numbers: some renumbering of nodes takes the one to the other.
+pub differ-exactly : (image other : List ℕ) → AreBytes image → AreBytes other → verdict image ≡ Accepted 0 → verdict other ≡ Accepted 0
+    → DifferAtMostInNumbers image other ↔ NodesRenumbered (designOf image) (designOf other)
+differ-exactly = renumbered.differ-exactly
 
 -- The form of an accepted image is accepted,
 pub form-is-accepted : (image : List ℕ) → AreBytes image → verdict image ≡ Accepted 0 → verdict (filedImage image) ≡ Accepted 0
