@@ -1,7 +1,7 @@
 -- Two orders match numbers: a number goes to the one that stands in the second order where it stands in the first. So where two records are the same under the places of the one
 -- order and of the other, the second is the first under the matched numbers.
 use Prim.Native.Nat.{ℕ, _<_}
-use mathlib.Core.Path.{_≡_, refl, sym, _∙_, ap}
+use mathlib.Core.Path.{_≡_, sym, _∙_, ap}
 use mathlib.Core.List.{List}
 use native.Mathlib.Omega.{arith}
 use lib.ListN.{length, getD}

@@ -7,7 +7,7 @@ use mathlib.Core.List.{List, [], _∷_, List·Memᴰ, List·Memᴰ·head, List·
 use native.Mathlib.Omega.{arith}
 use lib.ListN.{length}
 use Rattle.model.specs.declared.Answer.the-variants.{Accepted}
-use Rattle.model.specs.Image.{AreBytes, Design, State, Node, stateAt, commandAt, expressionAt, designOf}
+use Rattle.model.specs.Image.{AreBytes, Design, Node, stateAt, commandAt, expressionAt, designOf}
 use Rattle.model.specs.Kinds.{CommandKind, skips, assigns, sequences, falls, goes, branches, unknownCommand, ExpressionKind, constants, reads, unknownExpression, operates, commandKind, expressionKind}
 use Rattle.model.specs.Nodes.{commandParts, expressionParts, partsOf, operandsOf}
 use Rattle.model.specs.Rules.{StructureKeeps}
@@ -16,7 +16,6 @@ use Rattle.model.proofs.Exact.{verdict-exact}
 use Rattle.model.proofs.Independence.Theorem.{rooted}
 use Rattle.encoding.proofs.RoundTrip.{design-encodable}
 use Rattle.renumbering.specs.Renumbering.{renumberedState, renumberedCommand, renumberedExpression}
-use Rattle.renumbering.specs.Renumbers.{Renumbers}
 use Rattle.renumbering.proofs.Parts.{part-below, operand-below}
 use Rattle.renumbering.proofs.Trees.{command-kind-kept, expression-kind-kept}
 use Rattle.filing_model.specs.Filed.{commandOrder, expressionOrder, newCommand, newExpression, filed}

@@ -1,14 +1,19 @@
 -- Cases at the boundaries of "they differ at most in node numbers": designs that do, and designs that differ in one thing more.
 use Prim.Native.Nat.{ℕ}
 use mathlib.Core.Path.{_≡_, refl, ap}
+use mathlib.Core.Bool.{not}
 use mathlib.Core.List.{List, [], _∷_, map}
 use lib.ListN.{replicate, getD}
 use native.Mathlib.Omega.{arith}
-use Rattle.model.specs.Image.{noState, noRegister}
+use lib.Dec.{eqb}
+use borrow.Author.Tests.{eq-eqb}
+use Rattle.model.specs.Image.{State, Node, Register, noState, noRegister, expressionAt, designOf}
 use Rattle.model.specs.Trees.{Expr, constant, register, binary, Cmd, skip, assign, sequence, fall, goto, branch}
+use Rattle.model.proofs.Laws.Booleans.{not-true, true-or-false}
+use Rattle.model.proofs.Laws.Indices.{all-at}
 use Rattle.model.proofs.Opened.{checks, accepted, judged}
 use Rattle.model.proofs.Designs.{assemble, registerRecord, stateRecord, falls, goesTo, chain}
-use Rattle.filing_model.specs.Same.{Unnumbered, DifferAtMostInNumbers}
+use Rattle.filing_model.specs.Same.{Unnumbered, DifferAtMostInNumbers, NodesRenumbered}
 use Rattle.filing_model.proofs.Opened.{filing}
 use Rattle.filing_model.proofs.Boundaries.Forms.{nested, nestedWith, nestedFiled}
 
@@ -68,3 +73,31 @@ shows-states e = unfold filing in let z : _≡_ {A = ℕ} 0 1 = ap (λ (u : Unnu
 -- the bodies of two states exchanged: the same nodes, and other bodies
 shows-bodies : DifferAtMostInNumbers plain (small chain 3 0 2 1) → ⊥
 shows-bodies e = unfold filing in let z : _≡_ {A = ℕ} 1 2 = ap secondMark e in omega arith
+
+-- ---- "some renumbering of nodes takes one design to the other": of none of these pairs
+-- another constant: the second design has none of 7, whatever number its node had
+shows-constant-renumbered : NodesRenumbered (designOf nested) (designOf (nestedWith 6)) → ⊥
+shows-constant-renumbered r =
+    unfold filing in
+    let none = all-at (λ e. not (eqb (expressionAt (designOf (nestedWith 6)) e .b) 7)) 5 refl (r .expression 1) (r .renumbers .expressions-new 1 (omega arith)) in
+    true-or-false _ (eq-eqb _ 7 (ap (λ (x : Node). x .b) (r .renumbers .expression-is 1 (omega arith)))) (not-true _ none)
+
+-- other rows of labels
+shows-rows-renumbered : NodesRenumbered (designOf plain) (designOf (small (1 ∷ []) 3 0 1 2)) → ⊥
+shows-rows-renumbered r = unfold filing in let z : _≡_ {A = ℕ} 1 3 = ap (λ (xs : List ℕ). getD xs 0 0) (r .renumbers .rows) in omega arith
+
+-- another reset value
+shows-registers-renumbered : NodesRenumbered (designOf plain) (designOf (small chain 4 0 1 2)) → ⊥
+shows-registers-renumbered r = unfold filing in let z : _≡_ {A = ℕ} 4 3 = ap (λ (xs : List Register). getD xs 0 noRegister .reset) (r .renumbers .registers) in omega arith
+
+-- another label of states
+shows-states-renumbered : NodesRenumbered (designOf plain) (designOf (small chain 3 1 1 2)) → ⊥
+shows-states-renumbered r = unfold filing in let z : _≡_ {A = ℕ} 1 0 = ap (λ (x : State). x .label) (r .renumbers .state-is 1 (omega arith)) in omega arith
+
+-- the bodies of two states exchanged: state 1 has command 2 now, so command 1 would have to be 2, which goes elsewhere
+shows-bodies-renumbered : NodesRenumbered (designOf plain) (designOf (small chain 3 0 2 1)) → ⊥
+shows-bodies-renumbered r =
+    unfold filing in
+    let is : _≡_ {A = ℕ} 2 (r .command 1) = ap (λ (x : State). x .command) (r .renumbers .state-is 1 (omega arith)) in
+    let z : _≡_ {A = ℕ} 2 1 = ap (λ (x : Node). x .item) (rw (← is) at (r .renumbers .command-is 1 (omega arith))) in
+    omega arith
