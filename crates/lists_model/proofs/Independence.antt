@@ -13,13 +13,14 @@ use Rattle.model.specs.declared.Answer.the-variants.{Accepted, Refused}
 use Rattle.model.specs.Limits.{valueCount}
 use Rattle.model.specs.Image.{Design, recordsOf, designOf}
 use Rattle.model.specs.Verdict.{verdict}
+use Rattle.model.specs.Neighbours.{common}
 use Rattle.model.specs.Machine.{Areas, afterLast, afterCycles}
 use Rattle.model.specs.Calls.{Left, areasOf, lentOf}
 use Rattle.model.specs.Parties.{Event, steppedBack, valuesSeen, start}
 use Rattle.model.specs.Parties as parties
 use Rattle.model.proofs.Independence.Relation.{startAreas, Bisimulation}
 use Rattle.model.proofs.Independence.Runs.{Related}
-use Rattle.model.proofs.Independence.Lists.{Course, courseOf, backOnce, followed, followedEnd, Agrees, agrees-append, agrees-none, agrees-back, agrees-journalled-cycles, areasBefore, startCourse, Follows, follows-lent, values-follow, call-leads, list-leads, start-follows, related-cycles}
+use Rattle.model.proofs.Independence.Lists.{Course, courseOf, backOnce, followed, widelyFollowed, followedEnd, Agrees, agrees-append, agrees-none, agrees-back, agrees-journalled-cycles, areasBefore, startCourse, Follows, follows-lent, values-follow, call-leads, list-leads, start-follows, related-cycles}
 use Rattle.model.proofs.Independence.Theorem.{common-level, related-neighbours}
 use Rattle.journal_model.specs.Journals.{countLength, countIn, savedLength, savedOf, savedIn}
 use Rattle.journal_model.specs.Calls.{LentJournal, savedBack, runJournalledAnswer, runJournalled, stepBackAnswer, restored, stepBack}
@@ -32,8 +33,8 @@ use Rattle.replay_model.specs.Calls.{replayAnswer, replay}
 use Rattle.replay_model.specs.ByHand.{byHand}
 use Rattle.replay_model.proofs.Exact.{replay-answer}
 use Rattle.replay_model.proofs.ByHand.{made-by-hand}
-use Rattle.lists_model.specs.Lists.{Call, resets, writes, runs, runsJournalled, goesBack, replays, withJournal, perform, performed, eventsOf, events, atEnd, Use, begun, history, remains, views, seenAtEnd}
-use Rattle.lists_model.specs.Demands.{IndependentNeighbours}
+use Rattle.lists_model.specs.Lists.{Call, resets, writes, runs, runsJournalled, goesBack, replays, withJournal, perform, performed, eventsOf, events, atEnd, Use, begun, history, remains, views, widerViews, seenAtEnd}
+use Rattle.lists_model.specs.Demands.{IndependentNeighbours, IndependentWidely}
 use Rattle.lists_model.proofs.Saved.{AllFollow, none-follow, follow-length, follow-append, follow-take, follow-at, before-follow}
 
 -- ---- the canonical run goes back
@@ -65,11 +66,11 @@ back-at-once (suc (suc k)) course l =
     let kept : n - 1 - suc k ≡ n - suc (suc k) = omega arith in
     back-at-once (suc k) (backOnce course) (omega arith)
     ∙ rw (shorter, kept) (
-      rw (
-        getD-take (n - 1) (course .saved) (n - suc (suc k)) (getD (course .saved) (n - 1) (course .areas)) (omega arith),
-        take-take (n - suc (suc k)) (n - 1) (course .saved) (omega arith),
-        getD-there (course .saved) (n - suc (suc k)) (getD (course .saved) (n - 1) (course .areas)) (course .areas) (omega arith),
-      )
+    rw (
+      getD-take (n - 1) (course .saved) (n - suc (suc k)) (getD (course .saved) (n - 1) (course .areas)) (omega arith),
+      take-take (n - suc (suc k)) (n - 1) (course .saved) (omega arith),
+      getD-there (course .saved) (n - suc (suc k)) (getD (course .saved) (n - 1) (course .areas)) (course .areas) (omega arith),
+    )
     )
 
 -- ---- what follows the canonical run
@@ -263,21 +264,35 @@ module _
   use-follows : (u : Use (designOf image))
       → (views image level u ≡ followed d₂ level (startCourse d₂ level) (remains image level u))
       × (seenAtEnd image level u ≡ valuesSeen d₂ level (followedEnd d₂ level (startCourse d₂ level) (remains image level u) .areas .registers))
-  unfolding views remains seenAtEnd history begun
+      × (widerViews image level u ≡ widelyFollowed d₂ level (startCourse d₂ level) (remains image level u))
+  unfolding views widerViews remains seenAtEnd history begun
   use-follows u =
       let begins : ListFollows image Related (begun image level u) (startCourse d₂ level) =
       record { areas = start-follows image accepted d₂ level Related same (u .begins); saved = rw (none-saved (designOf image) (u .journal) (u .empty)) none-follow } in
       let led = all-claimed (u .calls) (begun image level u) (startCourse d₂ level) begins in
       let left = atEnd image (begun image level u) (u .calls) .areas in
-      (led .agrees .seen, rw (led .agrees .at-end) (values-follow image accepted d₂ level Related same left (led .reached .areas) (led .following .areas)))
+      (led .agrees .seen, rw (led .agrees .at-end) (values-follow image accepted d₂ level Related same left (led .reached .areas) (led .following .areas)), led .agrees .widely-seen)
 
 -- Two uses of which the same remains show the same: both show what one canonical run shows.
+module _
+    (image edited : List ℕ) (accepted : verdict image ≡ Accepted 0) (accepted′ : verdict edited ≡ Accepted 0)
+    (level : ℕ) (isLabel : level < length (designOf image .rows)) (same : common (designOf image) level ≡ common (designOf edited) level)
+    (one : Use (designOf image)) (other : Use (designOf edited)) (matching : remains image level one ≡ remains edited level other)
+  where
+    all-same : (views image level one ≡ views edited level other) × (seenAtEnd image level one ≡ seenAtEnd edited level other) × (widerViews image level one ≡ widerViews edited level other)
+    all-same =
+        let d₁ = designOf image in
+        let d₂ = designOf edited in
+        let first = use-follows image accepted d₂ level (Related d₁ d₂ level) (related-neighbours image edited accepted accepted′ level isLabel same) one in
+        let second = use-follows edited accepted′ d₂ level (Related d₂ d₂ level) (related-neighbours edited edited accepted′ accepted′ level (common-level image edited level same isLabel) refl) other in
+        let seen = rw matching at (first .0) in
+        let at-end = rw matching at (first .1) in
+        let widely = rw matching at (first .2) in
+        (seen ∙ sym (second .0), at-end ∙ sym (second .1), widely ∙ sym (second .2))
+
 pub independent-across : IndependentNeighbours
 independent-across image edited accepted accepted′ level isLabel same one other matching =
-    let d₁ = designOf image in
-    let d₂ = designOf edited in
-    let first = use-follows image accepted d₂ level (Related d₁ d₂ level) (related-neighbours image edited accepted accepted′ level isLabel same) one in
-    let second = use-follows edited accepted′ d₂ level (Related d₂ d₂ level) (related-neighbours edited edited accepted′ accepted′ level (common-level image edited level same isLabel) refl) other in
-    let seen = rw matching at (first .0) in
-    let at-end = rw matching at (first .1) in
-    (seen ∙ sym (second .0), at-end ∙ sym (second .1))
+    let all = all-same image edited accepted accepted′ level isLabel same one other matching in (all .0, all .1)
+
+pub widely-across : IndependentWidely
+widely-across image edited accepted accepted′ level isLabel same one other matching = all-same image edited accepted accepted′ level isLabel same one other matching .2

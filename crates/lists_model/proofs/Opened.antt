@@ -5,10 +5,10 @@ use Rattle.model.specs.Parties.{Seen, givenUnseen, remaining, withUnseen, start
 use Rattle.model.proofs.Opened.{sights}
 use Rattle.journal_model.proofs.Opened.{journalling}
 use Rattle.replay_model.proofs.Opened.{replaying}
-use Rattle.lists_model.specs.Lists.{perform, eventsOf, events, atEnd, begun, history, remains, views, seenAtEnd}
+use Rattle.lists_model.specs.Lists.{perform, eventsOf, events, atEnd, begun, history, remains, views, widerViews, seenAtEnd}
 
 unfoldable pub listing : ℕ
-unfolding sights journalling replaying givenUnseen remaining withUnseen start perform eventsOf events atEnd begun history remains views seenAtEnd
+unfolding sights journalling replaying givenUnseen remaining withUnseen start perform eventsOf events atEnd begun history remains views widerViews seenAtEnd
 listing = 0
 
 -- the values, and the states of the walk, of a design without parameters

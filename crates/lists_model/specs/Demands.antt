@@ -11,7 +11,7 @@ use Rattle.model.specs.Verdict.{verdict}
 use Rattle.model.specs.Neighbours.{common}
 use Rattle.replay_model.specs.declared.TraceRecord.{TraceRecord}
 use Rattle.replay_model.specs.ByHand.{traceSeen}
-use Rattle.lists_model.specs.Lists.{replays, perform, Use, begun, remains, views, seenAtEnd}
+use Rattle.lists_model.specs.Lists.{replays, perform, Use, begun, remains, views, widerViews, seenAtEnd}
 
 -- "Then that level sees equal runs across the two designs, under the port and reset premises that already hold within one." The second image is the first with some bodies edited;
 -- each list is made on its own image.
@@ -26,6 +26,19 @@ IndependentNeighbours =
     → (one : Use (designOf image)) (other : Use (designOf edited))
     → remains image level one ≡ remains edited level other
     → (views image level one ≡ views edited level other) × (seenAtEnd image level one ≡ seenAtEnd edited level other)
+
+-- The wider view, with the registers bound to all parameters in scope of a state that is seen (02, E8), is the same too.
+abbrev pub IndependentWidely : Type 0
+IndependentWidely =
+    (image edited : List ℕ)
+    → verdict image ≡ Accepted 0
+    → verdict edited ≡ Accepted 0
+    → (level : ℕ)
+    → level < length (designOf image .rows)
+    → common (designOf image) level ≡ common (designOf edited) level
+    → (one : Use (designOf image)) (other : Use (designOf edited))
+    → remains image level one ≡ remains edited level other
+    → widerViews image level one ≡ widerViews edited level other
 
 -- 02, E9: "Two matching lists that begin with empty journals which nobody else writes, journal the same cycles and go back by equal numbers at equal moments still give a party equal
 -- views, and equal registers at or below its level at the end."

@@ -10,7 +10,7 @@ use Rattle.model.specs.Image.{Design, designOf}
 use Rattle.model.specs.Values.{wordsOf}
 use Rattle.model.specs.Machine.{cycles}
 use Rattle.model.specs.Calls.{Lent, Left, leftIn, areasOf}
-use Rattle.model.specs.Parties.{Event, journalled, steppedBack, Seen, Remaining, valuesSeen, view, remaining, Beginning, start}
+use Rattle.model.specs.Parties.{Event, journalled, steppedBack, Seen, Remaining, valuesSeen, view, widerView, remaining, Beginning, start}
 use Rattle.model.specs.Parties as parties
 use Rattle.journal_model.specs.Journals.{countIn}
 use Rattle.journal_model.specs.Calls.{LentJournal, runJournalled, stepBack}
@@ -87,6 +87,10 @@ module _ (image : List ℕ) (level : ℕ) (u : Use (designOf image)) where
 
   unfoldable pub views : List Seen
   views = view (designOf image) level history
+
+  -- 02, E8, and more than it asks: with the registers bound to all parameters in scope
+  unfoldable pub widerViews : List Seen
+  widerViews = widerView (designOf image) level history
 
   unfoldable pub seenAtEnd : List ℕ
   seenAtEnd = valuesSeen (designOf image) level (wordsOf (length (designOf image .registers)) (atEnd image begun (u .calls) .areas .registers))
