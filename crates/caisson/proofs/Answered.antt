@@ -1,11 +1,16 @@
 -- The numbers of an answer, by its cases.
 use Prim.Native.Nat.{ℕ}
 use mathlib.Core.List.{List}
-use mathlib.Core.Path.{_≡_, _∙_, ap}
+use mathlib.Core.Path.{_≡_, refl, sym, _∙_, ap}
 use Rattle.model.specs.declared.Refusal.{Refusal}
+use Rattle.model.specs.declared.Refusal.the-variants.{OutputArea}
+use Rattle.model.specs.declared.Found.{Found}
+use Rattle.model.specs.declared.Found.the-variants.{At, Nowhere}
 use Rattle.model.specs.declared.Answer.{Answer}
 use Rattle.model.specs.declared.Answer.the-variants.{Accepted, Refused}
 use Rattle.model.specs.Answers.{Numbers, numberOf, numbersOf}
+use Rattle.model.specs.Verdict.{_before_, refusedAt}
+use Rattle.model.proofs.Laws.Numbers.{no-number-zero}
 use Rattle.model.specs.Calls.{Left, leftIn, leftAs}
 use Rattle.model.specs.Refusals.{NumbersLeft, inNumbers}
 use Rattle.caisson.specs.declared.HostAnswer.{HostAnswer}
@@ -26,4 +31,24 @@ left-told h a lent p q = ap (λ (n : Numbers). record { numbers = n; lent = lent
 
 -- and of a call that is lent a part of what the host has
 pub left-in-told : {A B : Type 0} {h : HostAnswer} {lent : A} (left : Left A) (whole : A → B) → toldLeft h lent ≡ inNumbers left → toldLeft h (whole lent) ≡ inNumbers (leftIn whole left)
-left-in-told left whole e = ap (λ (x : NumbersLeft A). record { numbers = x .numbers; lent = whole (x .lent) }) e
+left-in-told {A = A} left whole e = ap (λ (x : NumbersLeft A). record { numbers = x .numbers; lent = whole (x .lent) }) e
+
+-- ---- what an equation of a call says of the numbers and of what was lent
+module _ {A : Type 0} (h : HostAnswer) (after : A) (left : Left A) (e : toldLeft h after ≡ inNumbers left) where
+  pub numbers-told : told h ≡ numbersOf (left .answer)
+  numbers-told = ap (λ (x : NumbersLeft A). x .numbers) e
+
+  pub lent-told : after ≡ left .lent
+  lent-told = ap (λ (x : NumbersLeft A). x .lent) e
+
+  pub number-told : h .number ≡ numbersOf (left .answer) .number
+  number-told = ap (λ (x : Numbers). x .number) numbers-told
+
+  pub accepted-told : h .number ≡ 0 → numbersOf (left .answer) .number ≡ 0
+  accepted-told accepted = sym number-told ∙ accepted
+
+-- a call that refuses a short output area and else answers a length
+pub output-counts : (n : ℕ) (f : Found) → numbersOf (refusedAt OutputArea f before Accepted n) .number ≡ 0 → numbersOf (refusedAt OutputArea f before Accepted n) .count ≡ n
+unfolding refusedAt _before_
+output-counts n Nowhere e = refl
+output-counts n (At i) e = absurd (no-number-zero OutputArea e)

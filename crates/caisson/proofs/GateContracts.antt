@@ -8,11 +8,11 @@ use denote.Ref.{RefT, Gone, now}
 use denote.Triple.Clauses.{AtExit}
 use borrow.Fn.Kinds.{Dens, endedOf}
 use Rattle.model.specs.Answers.{numbersOf}
+use Rattle.model.specs.Refusals.{inNumbers}
 use Rattle.gates_model.specs.Calls.{gatesCheck}
 use Rattle.gates_model.specs.Runs.{Call, resets, cycles, perform}
 use Rattle.caisson.specs.declared.HostAnswer.{HostAnswer}
-use Rattle.caisson.specs.Told.{told}
-use Rattle.caisson.specs.ToldGates.{toldLeftFlipFlops, flipFlopsInNumbers}
+use Rattle.caisson.specs.Told.{told, toldLeft}
 use Rattle.caisson.proofs.caisson_gates_check.Kinds as check-kinds
 use Rattle.caisson.proofs.caisson_gates_check.Reads as check-reads
 use Rattle.caisson.proofs.caisson_gates_reset.Kinds as reset-kinds
@@ -22,7 +22,7 @@ use Rattle.caisson.proofs.caisson_gates_cycle.Reads as cycle-reads
 
 -- A call took the area from `before` to `after` and was answered h, all as its definition says.
 abbrev pub GatesMade : List ℕ → List ℕ → Call → HostAnswer → List ℕ → Type 0
-GatesMade table before call h after = toldLeftFlipFlops h after ≡ flipFlopsInNumbers (perform table before call)
+GatesMade table before call h after = toldLeft h after ≡ inNumbers (perform table before call)
 
 -- ---- the ties: a function's postcondition, at any arguments (a), answer (h) and arguments at exit (e)
 pub gates-check-tie : (κs : Lfts 1) (a : Dens κs check-kinds.ps) (h : HostAnswer) (e : AtExit (endedOf 1 check-kinds.ps check-kinds.r) κs)

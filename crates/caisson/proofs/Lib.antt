@@ -1,20 +1,19 @@
--- Laws of answers in numbers, and the promises as a host has them.
+-- The contracts of the exported functions, what follows for a host, and the page of promises.
 pub mod Answered
-pub mod Contracts
-pub mod Promises
-pub mod RaiseContracts
-pub mod RaisePromises
-pub mod GateAnswered
-pub mod GateContracts
-pub mod GatePromises
-pub mod JournalAnswered
-pub mod JournalContracts
-pub mod JournalPromises
-pub mod ReplayContracts
-pub mod ReplayPromises
-pub mod PruneContracts
-pub mod PrunePromises
 pub mod FileAnswered
+pub mod Contracts
+pub mod OutContracts
 pub mod FileContracts
-pub mod FilePromises
+pub mod GateContracts
+pub mod Calls
+pub mod Hosts
+pub mod Raising
+pub mod Journals
+pub mod Replays
+pub mod Widths
+pub mod Alike
+pub mod Pruning
+pub mod Filing
+pub mod Gates
+pub mod Promises
 pub mod Versions

@@ -1,49 +1,88 @@
--- The promises as a C host has them. Each takes the postconditions of the exported functions (`Contracts.antt`), and no more.
-use Prim.Native.Nat.{ℕ, _+_, _*_, _≤_, _<_}
-use mathlib.Core.Path.{_≡_, refl, sym, _∙_, ap}
-use mathlib.Core.Logic.{_↔_, Iff·trans}
-use mathlib.Core.List.{List, [], _∷_}
-use lib.ListN.{length}
+-- What is promised to a C host: 01's three demands, and each claim of 02 in its order. Every promise is stated in full, over what the exported functions are proved to leave
+-- (`Checked`, `Called`, `AllCalled` and their like in `Contracts`, `OutContracts`, `FileContracts` and `GateContracts`), and closed by one citation; the proofs stand in the files cited
+-- and behind them in the crates of the definitions. That an image or an area holds bytes (`AreBytes`) is a premise of some: a slice of the language does.
+use Prim.Native.Nat.{ℕ, _+_, _-_, _*_, _≤_, _<_}
+use mathlib.Core.Path.{_≡_, refl}
+use mathlib.Core.Logic.{_↔_}
+use mathlib.Core.Bool.{false, _&&_}
+use mathlib.Core.List.{List, [], _∷_, map}
+use lib.ListN.{length, take}
 use Rattle.model.specs.declared.Refusal.{Refusal}
+use Rattle.model.specs.declared.Refusal.the-variants.{Depth, Shape}
+use Rattle.model.specs.declared.Answer.the-variants.{Accepted, Refused}
+use Rattle.model.specs.declared.Found.the-variants.{At, Nowhere}
 use Rattle.model.specs.Limits.{cyclesMax, wordLength, targetLength}
-use Rattle.model.specs.Image.{AreBytes, designOf}
-use Rattle.model.specs.Answers.{Numbers, numberOf, numbersOf}
+use Rattle.model.specs.Image.{byteAt, AreBytes, designOf}
+use Rattle.model.specs.Answers.{numberOf, numbersOf}
 use Rattle.model.specs.Ports.{PortsKept}
 use Rattle.model.specs.Kinds.{subtract}
 use Rattle.model.specs.Trees.{exprOf, exprDepth}
-use Rattle.model.specs.Values.{apply, wordsOf}
+use Rattle.model.specs.Values.{apply}
 use Rattle.model.specs.Machine.{cycle}
 use Rattle.model.specs.Listing.{bytesOfText, listing}
-use Rattle.model.specs.Calls.{Lent}
-use Rattle.model.specs.Refusals.{AllKept, FirstBroken, imageTable, callTable, callCount, AnswersBy, WithinWidths}
-use Rattle.model.specs.declared.Answer.the-variants.{Accepted, Refused}
-use Rattle.model.specs.declared.Refusal.the-variants.{Depth, Shape}
-use Rattle.model.specs.declared.Found.the-variants.{At, Nowhere}
-use Rattle.model.specs.Verdict.{verdict}
+use Rattle.model.specs.Verdict.{verdict, structure}
+use Rattle.model.specs.Refusals.{AllKept, FirstBroken, AnswersBy, Exactly, imageTable, raiseTable, WithinWidths}
+use Rattle.model.specs.Parties.{Event, remaining, view, widerView}
+use Rattle.model.specs.Parties as parties
 use Rattle.model.specs.Neighbours.{common}
-use Rattle.model.specs.Parties.{Call, resets, writes, runs, perform, Event, events, atEnd, Use, withUnseen, start, history, remains, views, valuesSeen, view, remaining, seenAtEnd}
-use Rattle.model.proofs.Exact.{verdict-exact}
+use Rattle.model.specs.Raising.{LeastRaising}
 use Rattle.model.proofs.Grouping.{Grouped}
 use Rattle.model.proofs.Writing.{ChangesOnly}
 use Rattle.model.proofs.Promises as meaning
 use Rattle.model.proofs.Opened.{areas, faultOfRows, walks, anyLent}
 use Rattle.model.proofs.Designs.{lease, deep, gotoRoot}
 use Rattle.model_cases.proofs.Cases as cases
+use Rattle.journal_model.specs.Calls.{LentJournal}
+use Rattle.replay_model.specs.declared.TraceRecord.{TraceRecord}
+use Rattle.replay_model.specs.ByHand.{traceSeen}
+use Rattle.lists_model.specs.Lists.{Call, resets, writes, runs, runsJournalled, goesBack, replays, listed}
+use Rattle.lists_model.specs.Rules.{callTable, callCount}
+use Rattle.lists_model.proofs.Exact as lists
+use Rattle.pruning_model.specs.Pruned.{prunedImage}
+use Rattle.pruning_model.specs.Rules.{pruneTable}
+use Rattle.pruning_model.proofs.Promises as pruning-meaning
+use Rattle.filing_model.specs.Filed.{filedImage}
+use Rattle.filing_model.specs.Rules.{fileTable}
+use Rattle.filing_model.proofs.Promises as filing-meaning
+use Rattle.model.proofs.RaisingPromises as raising-meaning
 use Rattle.caisson.specs.declared.HostAnswer.{HostAnswer}
-use Rattle.caisson.specs.Told.{told, NumbersLeft}
-use Rattle.caisson.proofs.Contracts.{Checked, RegistersMeasured, TargetsMeasured, Called, AllCalled, Hosted, checked-told, registers-measured, targets-measured, called-made}
+use Rattle.caisson.specs.Told.{told, toldLeft}
+use Rattle.caisson.proofs.Contracts.{Checked, RegistersMeasured, TargetsMeasured, Called, Hosted, checked-told, registers-measured, targets-measured, called-made}
+use Rattle.caisson.proofs.OutContracts.{RaiseCalled, PruneCalled, FileCalled, raise-called, prune-called, file-called}
+use Rattle.caisson.proofs.Calls as calls
+use Rattle.caisson.proofs.Hosts.{Accepts, seenIn, happened, SeeTheSame, didPlainly, HostReplayed}
+use Rattle.caisson.proofs.Hosts as hosts
 
--- Demand 2, of check: a host is told 0, 0, 0 exactly when the image keeps every row of the table of refusals, at every place.
+-- ---- 01, demands 1 and 2
+-- Check: a host is told 0, 0, 0 exactly when the image keeps every row of the table of refusals, at every place; and a refusal's number and a place exactly when all rules before it in the
+-- table are kept everywhere, and the place is the lowest at which this rule is broken.
 pub told-accepted-exactly : (image : List ℕ) (h : HostAnswer) → Checked image h → (told h ≡ record { number = 0; place = 0; count = 0 }) ↔ AllKept (imageTable image)
-told-accepted-exactly image h checked = rw (checked-told image h checked) (Iff·trans (meaning.accepted-exactly image) (meaning.keeps-exactly image))
+told-accepted-exactly = calls.told-accepted
 
-pub told-verdict : (image : List ℕ) (h : HostAnswer) → Checked image h → told h ≡ record { number = 0; place = 0; count = 0 } → verdict image ≡ Accepted 0
-told-verdict image h checked accepted = verdict-exact image .1 (meaning.keeps-exactly image .1 (told-accepted-exactly image h checked .0 accepted))
+pub told-refused-exactly :
+    (image : List ℕ) (h : HostAnswer) → Checked image h
+    → (refusal : Refusal) (place : ℕ) → (told h ≡ record { number = numberOf refusal; place = place; count = 0 }) ↔ FirstBroken (imageTable image) refusal place
+told-refused-exactly image h checked = rw (checked-told image h checked) (meaning.refused-exactly image)
 
--- 01: "Proved cases, one table", P1 to P10 in their order.
+-- The two functions that tell a length answer that of the area as the count, where the image is accepted.
+pub registers-length-told :
+    (image : List ℕ) (h : HostAnswer) → RegistersMeasured image h → AnswersBy (imageTable image) (wordLength * length (designOf image .registers)) (told h)
+registers-length-told image h measured = rw (registers-measured image h measured) (meaning.registers-length-exactly image)
+
+pub targets-length-told : (image : List ℕ) (h : HostAnswer) → TargetsMeasured image h → AnswersBy (imageTable image) (targetLength * length (designOf image .states)) (told h)
+targets-length-told image h measured = rw (targets-measured image h measured) (meaning.targets-length-exactly image)
+
+-- The six calls that change areas, each by its own table: accepted with its count exactly when every rule is kept, refused exactly by the first that is broken; and "No lent byte changes"
+-- on a refusal, the journal's included.
+pub called-exactly :
+    (image : List ℕ) (before after : LentJournal) (call : Call) (h : HostAnswer) → Called image before call h after
+    → Exactly (callTable image before call) (callCount call) before (toldLeft h after)
+called-exactly image before after call h called = rw (called-made image before after call h called) (lists.call-exactly image before call)
+
+-- "Proved cases, one table", P1 to P10 in their order.
 pub proved-cases
     : (listing (4 ∷ 0 ∷ lease) ≡ bytesOfText "cycle;walk;registers\n1;0 1;3 0\n2;0 2 3;2 0\n3;0 2 3;1 0\n4;0 2;0 0\n")
-    × (walks (events lease anyLent (resets ∷ writes 1 7 ∷ runs 3 ∷ [])) ≡ (0 ∷ 1 ∷ []) ∷ (0 ∷ 2 ∷ 3 ∷ []) ∷ (0 ∷ 2 ∷ 4 ∷ []) ∷ [])
+    × (walks (parties.events lease anyLent (parties.resets ∷ parties.writes 1 7 ∷ parties.runs 3 ∷ [])) ≡ (0 ∷ 1 ∷ []) ∷ (0 ∷ 2 ∷ 3 ∷ []) ∷ (0 ∷ 2 ∷ 4 ∷ []) ∷ [])
     × (cycle (designOf lease) (areas (3 ∷ 0 ∷ []) (1 ∷ 1 ∷ 4 ∷ 3 ∷ 4 ∷ [])) .after .targets ≡ 2 ∷ 1 ∷ 3 ∷ 3 ∷ 4 ∷ [])
     × (apply subtract 0 1 ≡ 4294967295)
     × ((exprDepth (exprOf (designOf (deep 63)) 126) ≡ 64) × (verdict (deep 63) ≡ Accepted 0))
@@ -54,181 +93,91 @@ pub proved-cases
     × (verdict gotoRoot ≡ Refused Shape 1)
 proved-cases = cases.proved-cases
 
--- ---- what a call told and left
-pub called-told : (image : List ℕ) (before after : Lent) (call : Call) (h : HostAnswer) → Called image before call h after → told h ≡ numbersOf (perform image before call .answer)
-called-told image before after call h called = ap (λ (x : NumbersLeft). x .numbers) (called-made image before after call h called)
+-- ---- 01, demand 3, and 02's sentences on lists
+-- 01: two hosts use one image that the library accepts, with lists of reset, port write and run. Where the same remains of both lists at a level, "Matching lists have equal views, and
+-- equal registers at or below the level at their end."
+pub hosts-independent :
+    (image : List ℕ) → Accepts image → (level : ℕ) → level < length (designOf image .rows)
+    → (one other : Hosted image level) (list list′ : List parties.Call)
+    → one .calls ≡ map listed list
+    → other .calls ≡ map listed list′
+    → remaining (designOf image) level (didPlainly image level one list) ≡ remaining (designOf image) level (didPlainly image level other list′)
+    → (view (designOf image) level (didPlainly image level one list) ≡ view (designOf image) level (didPlainly image level other list′))
+    × (seenIn image level (one .end) ≡ seenIn image level (other .end))
+hosts-independent = hosts.hosts-plainly
 
-pub called-leaves : (image : List ℕ) (before after : Lent) (call : Call) (h : HostAnswer) → Called image before call h after → after ≡ perform image before call .lent
-called-leaves image before after call h called = ap (λ (x : NumbersLeft). x .lent) (called-made image before after call h called)
-
--- Refusals are as exact. A host is told a refusal's number and a place exactly when all rules before it in the table are kept everywhere, and the place is
--- the lowest at which this rule is broken: by check, and by every call, whose acceptance has its count.
-pub told-refused-exactly :
-    (image : List ℕ) (h : HostAnswer)
-    → Checked image h
-    → (refusal : Refusal) (place : ℕ)
-    → (told h ≡ record { number = numberOf refusal; place = place; count = 0 }) ↔ FirstBroken (imageTable image) refusal place
-told-refused-exactly image h checked = rw (checked-told image h checked) (meaning.refused-exactly image)
-
-pub called-exactly :
-    (image : List ℕ) (before after : Lent) (call : Call) (h : HostAnswer)
-    → Called image before call h after
-    → AnswersBy (callTable image before call) (callCount call) (told h)
-called-exactly image before after call h called = rw (called-told image before after call h called) (meaning.calls-exactly image before call)
-
--- The two functions that tell a length answer that of the area as the count, where the image is accepted.
-pub registers-length-told :
-    (image : List ℕ) (h : HostAnswer) → RegistersMeasured image h → AnswersBy (imageTable image) (wordLength * length (designOf image .registers)) (told h)
-registers-length-told image h measured = rw (registers-measured image h measured) (meaning.registers-length-exactly image)
-
-pub targets-length-told : (image : List ℕ) (h : HostAnswer) → TargetsMeasured image h → AnswersBy (imageTable image) (targetLength * length (designOf image .states)) (told h)
-targets-length-told image h measured = rw (targets-measured image h measured) (meaning.targets-length-exactly image)
-
--- ---- demand 1: a refusal changes no lent byte
-pub refused-keeps : (image : List ℕ) (before after : Lent) (call : Call) (h : HostAnswer) → Called image before call h after → (h .number ≡ 0 → ⊥) → after ≡ before
-refused-keeps image before after call h called refused =
-    let number = ap (λ (x : Numbers). x .number) (called-told image before after call h called) in
-    called-leaves image before after call h called ∙ meaning.refused-leaves image before call (λ z. refused (number ∙ z))
-
--- ---- demand 3, of lists of exported calls
-pub all-called-ends : (image : List ℕ) (calls : List Call) (before after : Lent) → AllCalled image before calls after → after ≡ atEnd image before calls
-unfolding atEnd
-all-called-ends image [] before after same = sym same
-all-called-ends image (call ∷ more) before after (h, between, called, others) =
-    all-called-ends image more between after others ∙ ap (λ (lent : Lent). atEnd image lent more) (called-leaves image before between call h called)
-
-module _ (image : List ℕ) (level : ℕ) where
-  -- the values seen in a register area
-  abbrev pub seenIn : Lent → List ℕ
-  seenIn lent = valuesSeen (designOf image) level (wordsOf (length (designOf image .registers)) (lent .registers))
-
-  module _ (host : Hosted image level) where
-    -- the areas from which the calls of the list start, and what these do
-    abbrev pub started : Lent
-    started = withUnseen image level (host .given) (host .left)
-
-    abbrev pub happened : List Event
-    happened = events image started (host .calls)
-
-    abbrev used : Use (designOf image)
-    used = record { lent = host .lent; lengths = host .lengths; given = host .given; within = host .within; calls = host .calls }
-
-    started-so : started ≡ start image level used
-    unfolding start perform
-    started-so = ap (withUnseen image level (host .given)) (called-leaves image (host .lent) (host .left) resets (host .answer) (host .reset))
-
-    happened-so : happened ≡ history image level used
-    unfolding history
-    happened-so = ap (λ (lent : Lent). events image lent (host .calls)) started-so
-
-    remains-so : remaining (designOf image) level happened ≡ remains image level used
-    unfolding remains
-    remains-so = ap (remaining (designOf image) level) happened-so
-
-    views-so : view (designOf image) level happened ≡ views image level used
-    unfolding views
-    views-so = ap (view (designOf image) level) happened-so
-
-    end-so : seenIn (host .end) ≡ seenAtEnd image level used
-    unfolding seenAtEnd
-    end-so = ap seenIn (all-called-ends image (host .calls) started (host .end) (host .called) ∙ ap (λ (lent : Lent). atEnd image lent (host .calls)) started-so)
-
--- 02, E14, "A neighbour edits his design": two hosts use one image each, which the library accepts, and the two have the same in common at a level. Where the same remains of
--- both lists there, the views are equal, and the registers at or below it agree at the end.
+-- Lists of all six calls, 02, E14, "A neighbour edits his design": two hosts use one image each, and the two have the same in common at a level. A replay counts as the port writes and
+-- cycles that it makes.
 pub neighbour-hosts-independent :
-    (image edited : List ℕ)
-    → (h h′ : HostAnswer)
-    → Checked image h
-    → told h ≡ record { number = 0; place = 0; count = 0 }
-    → Checked edited h′
-    → told h′ ≡ record { number = 0; place = 0; count = 0 }
-    → (level : ℕ)
-    → level < length (designOf image .rows)
+    (image edited : List ℕ) → Accepts image → Accepts edited → (level : ℕ) → level < length (designOf image .rows)
     → common (designOf image) level ≡ common (designOf edited) level
     → (one : Hosted image level) (other : Hosted edited level)
     → remaining (designOf image) level (happened image level one) ≡ remaining (designOf edited) level (happened edited level other)
-    → (view (designOf image) level (happened image level one) ≡ view (designOf edited) level (happened edited level other))
-    × (seenIn image level (one .end) ≡ seenIn edited level (other .end))
-neighbour-hosts-independent image edited h h′ checked accepted checked′ accepted′ level label shared one other same =
-    let matching = sym (remains-so image level one) ∙ same ∙ remains-so edited level other in
-    let both = meaning.independent-neighbours image edited (told-verdict image h checked accepted) (told-verdict edited h′ checked′ accepted′) level label shared (used image level one) (used edited level other) matching in
-    (views-so image level one ∙ both .0 ∙ sym (views-so edited level other), end-so image level one ∙ both .1 ∙ sym (end-so edited level other))
+    → SeeTheSame image edited level one other
+neighbour-hosts-independent = hosts.hosts-across
 
--- Two hosts use one image that the library accepts. Where the same remains of both lists at a level, the views are equal, and the registers at or below
--- it agree at the end.
-pub hosts-independent :
-    (image : List ℕ)
-    → (h : HostAnswer)
-    → Checked image h
-    → told h ≡ record { number = 0; place = 0; count = 0 }
-    → (level : ℕ)
-    → level < length (designOf image .rows)
+-- 02, E9: "Two matching lists that begin with empty journals which nobody else writes, journal the same cycles and go back by equal numbers at equal moments still give a party equal
+-- views, and equal registers at or below its level at the end."
+pub journal-hosts-independent :
+    (image : List ℕ) → Accepts image → (level : ℕ) → level < length (designOf image .rows)
     → (one other : Hosted image level)
     → remaining (designOf image) level (happened image level one) ≡ remaining (designOf image) level (happened image level other)
-    → (view (designOf image) level (happened image level one) ≡ view (designOf image) level (happened image level other))
-    × (seenIn image level (one .end) ≡ seenIn image level (other .end))
-hosts-independent image h checked accepted level label one other same =
-    neighbour-hosts-independent image image h h checked accepted checked accepted level label refl one other same
+    → SeeTheSame image image level one other
+journal-hosts-independent image accepts level label = hosts.hosts-across image image accepts accepts level label refl
 
--- ---- what else a host may rely on
--- A run may be cut: one of n and then one of m leave what one of n + m leaves. All three are accepted, each with its count, or all are refused alike.
+-- 02, E10: "Replayed from reset for the same n, traces equal in the records at or below a level give that level equal views where neither is refused".
+pub replay-hosts-independent :
+    (image : List ℕ) → Accepts image → (level : ℕ) → level < length (designOf image .rows)
+    → (one other : Hosted image level) (trace trace′ : List TraceRecord) (n : ℕ)
+    → HostReplayed image level one trace n
+    → HostReplayed image level other trace′ n
+    → traceSeen (designOf image) level trace ≡ traceSeen (designOf image) level trace′
+    → SeeTheSame image image level one other
+replay-hosts-independent = hosts.hosts-replay
+
+-- 02, E8, and more than it asks: the wider view, with the registers bound to all parameters in scope of a state that is seen, is the same too.
+pub hosts-widely-independent :
+    (image edited : List ℕ) → Accepts image → Accepts edited → (level : ℕ) → level < length (designOf image .rows)
+    → common (designOf image) level ≡ common (designOf edited) level
+    → (one : Hosted image level) (other : Hosted edited level)
+    → remaining (designOf image) level (happened image level one) ≡ remaining (designOf edited) level (happened edited level other)
+    → widerView (designOf image) level (happened image level one) ≡ widerView (designOf edited) level (happened edited level other)
+hosts-widely-independent = hosts.hosts-widely
+
+-- ---- 01, what else a host may rely on
+-- "An accepted run of n counts as n cycles": a run may be cut. All three are accepted, each with its count, or all are refused alike.
 pub runs-grouped :
-    (image : List ℕ)
-    → (before between after whole : Lent)
-    → (n m : ℕ)
-    → n + m ≤ cyclesMax
-    → (first second both : HostAnswer)
+    (image : List ℕ) (before between after whole : LentJournal) (n m : ℕ) → n + m ≤ cyclesMax → (first second both : HostAnswer)
     → Called image before (runs n) first between
     → Called image between (runs m) second after
     → Called image before (runs (n + m)) both whole
-    → (after ≡ whole) × Grouped n m (told first) (told second) (told both)
-unfolding perform
-runs-grouped image before between after whole n m few first second both one other all =
-    rw (
-      called-leaves image between after (runs m) second other,
-      called-told image between after (runs m) second other,
-      called-leaves image before between (runs n) first one,
-      called-told image before between (runs n) first one,
-      called-leaves image before whole (runs (n + m)) both all,
-      called-told image before whole (runs (n + m)) both all,
-    )
-    (meaning.runs-grouped image before n m few)
+    → (after .areas ≡ whole .areas) × Grouped n m (told first) (told second) (told both)
+runs-grouped = calls.grouped-told
 
--- A run of 0 changes nothing, whatever it answers.
-pub run-of-none : (image : List ℕ) (before after : Lent) → AreBytes (before .registers) → (h : HostAnswer) → Called image before (runs 0) h after → after ≡ before
-unfolding perform
-run-of-none image before after bytes h called = called-leaves image before after (runs 0) h called ∙ meaning.run-of-none image before bytes
+-- "with 0 it changes nothing", accepted or refused.
+pub run-of-none : (image : List ℕ) (before after : LentJournal) (h : HostAnswer) → AreBytes (before .areas .registers) → Called image before (runs 0) h after → after ≡ before
+run-of-none = calls.run-of-none-left
 
 -- A port write changes the four bytes of its register, to those of the value, where it is accepted; and nothing else, whatever it answers.
 pub write-changes-only :
-    (image : List ℕ) (before after : Lent)
-    → AreBytes (before .registers)
-    → (r v : ℕ)
-    → (h : HostAnswer)
-    → Called image before (writes r v) h after
-    → ChangesOnly r v (before .registers) (told h) (after .registers) × (after .targets ≡ before .targets)
-unfolding perform
-write-changes-only image before after bytes r v h called =
-    let left = called-leaves image before after (writes r v) h called in
-    rw (left, called-told image before after (writes r v) h called) (meaning.write-changes-only image (before .registers) bytes r v, refl)
+    (image : List ℕ) (before after : LentJournal) (h : HostAnswer) → AreBytes (before .areas .registers) → (r v : ℕ) → Called image before (writes r v) h after
+    → ChangesOnly r v (before .areas .registers) (told h) (after .areas .registers) × (after .areas .targets ≡ before .areas .targets) × (after .journal ≡ before .journal)
+write-changes-only = calls.write-changes
 
--- 02, E1, "Ports belong to the host": a run of any number of cycles, whatever it answers, leaves every byte of every port as it was.
+-- ---- 02, E1, "Ports belong to the host": a run of any number of cycles, whatever it answers, leaves every byte of every port. A journalled run is in `Journals`, a replay in `Replays`.
 pub ports-kept :
-    (image : List ℕ) (before after : Lent)
-    → AreBytes (before .registers)
-    → (n : ℕ)
-    → (h : HostAnswer)
-    → Called image before (runs n) h after
-    → PortsKept (designOf image) (before .registers) (after .registers)
-unfolding perform
-ports-kept image before after bytes n h called = rw (called-leaves image before after (runs n) h called) (meaning.ports-kept image before bytes n)
+    (image : List ℕ) (before after : LentJournal) (h : HostAnswer) → AreBytes (before .areas .registers) → (n : ℕ) → Called image before (runs n) h after
+    → PortsKept (designOf image) (before .areas .registers) (after .areas .registers)
+ports-kept = calls.run-ports
 
--- 02, E2: where a reset, a port write or a run is accepted, every register is within its width afterwards, whatever the areas held before.
-pub within-widths :
-    (image : List ℕ) (before after : Lent) (call : Call) (h : HostAnswer)
-    → Called image before call h after
-    → h .number ≡ 0
-    → WithinWidths (designOf image) (after .registers)
-within-widths image before after call h called accepted =
-    let number = ap (λ (x : Numbers). x .number) (called-told image before after call h called) in
-    rw (called-leaves image before after call h called) (meaning.within-widths image before call (sym number ∙ accepted))
+-- ---- 02, E6, E11 and E12: the calls that write an image into a second area, each by its own table, with the bytes of the result as the count of the last two
+pub raise-exactly : (image area : List ℕ) (h : HostAnswer) (after : List ℕ) → RaiseCalled image area h after → Exactly (raiseTable image area) 0 area (toldLeft h after)
+raise-exactly image area h after called = rw (raise-called image area h after called) (raising-meaning.raise-exactly image area)
+
+pub prune-exactly :
+    (image area : List ℕ) (h : HostAnswer) (after : List ℕ) → PruneCalled image area h after → Exactly (pruneTable image area) (length (prunedImage image)) area (toldLeft h after)
+prune-exactly image area h after called = rw (prune-called image area h after called) (pruning-meaning.prune-exactly image area)
+
+pub file-exactly :
+    (image area : List ℕ) (h : HostAnswer) (after : List ℕ) → FileCalled image area h after → Exactly (fileTable image area) (length (filedImage image)) area (toldLeft h after)
+file-exactly image area h after called = rw (file-called image area h after called) (filing-meaning.file-exactly image area)

@@ -16,7 +16,7 @@ use Rattle.journal_model.specs.Calls.{LentJournal, runJournalled, stepBack}
 use Rattle.cases.specs.Leaves.{numbered, painted, afterCall, afterJournalCall}
 
 pub lent-left : {A : Type 0} {a : Answer} {lent : A} {left : Left A} → leftAs a lent ≡ left → lent ≡ left .lent
-lent-left e = ap (λ (l : Left A). l .lent) e
+lent-left {A = A} e = ap (λ (l : Left A). l .lent) e
 
 -- an area that is painted, and written to by a call
 module _ (image : List ℕ) (byte n : ℕ) {a : Answer} {old out : List ℕ} (e : old ≡ painted byte n) where

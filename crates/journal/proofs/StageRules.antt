@@ -26,7 +26,7 @@ use Rattle.running.specs.Stages.{soundOn}
 use Rattle.running.proofs.RunningRules.{bytes-left}
 use Rattle.calls.proofs.CallRules.{right-lengths}
 use Rattle.journal_model.specs.Journals.{countLength, countIn, journalWith, savedLength, savedIn, hasRoom, savedBefore}
-use Rattle.journal_model.specs.Calls.{roomAnswer, stepsAnswer}
+use Rattle.journal_model.specs.Calls.{roomAnswer, stepsAnswer, LentJournal}
 use Rattle.journal_model.specs.Rules.{RoomKeeps}
 use Rattle.journal_model.proofs.Laws.{room-iff}
 use Rattle.journal_saving.proofs.SavingRules.{saved-size}

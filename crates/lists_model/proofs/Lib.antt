@@ -2,6 +2,7 @@
 pub mod Saved
 pub mod Exact
 pub mod Independence
+pub mod Listed
 pub mod Demands
 pub mod Opened
 pub mod Cases

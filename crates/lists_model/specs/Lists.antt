@@ -94,3 +94,9 @@ module _ (image : List ℕ) (level : ℕ) (u : Use (designOf image)) where
 
   unfoldable pub seenAtEnd : List ℕ
   seenAtEnd = valuesSeen (designOf image) level (wordsOf (length (designOf image .registers)) (atEnd image begun (u .calls) .areas .registers))
+
+-- 01's calls among the six
+abbrev pub listed : parties.Call → Call
+listed parties.resets = resets
+listed (parties.writes r v) = writes r v
+listed (parties.runs n) = runs n
