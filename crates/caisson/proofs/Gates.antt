@@ -10,13 +10,16 @@ use Rattle.model.specs.declared.Answer.{Answer}
 use Rattle.model.specs.declared.Answer.the-variants.{Accepted, Refused}
 use Rattle.model.specs.Answers.{Numbers, numbersOf}
 use Rattle.gates_model.specs.Tables.{tableOf}
-use Rattle.gates_model.specs.Runs.{Agree, Call, perform, atEnd, kept, remains, areasAfter, AgreeEach, cycles, answers, areasEach, AreaReady, FedEach}
+use Rattle.gates_model.specs.Runs.{Agree, Call, perform, atEnd, kept, remains, areasAfter, AgreeEach, cycles, answers, areasEach, AreaReady, FedEach, callTable}
 use Rattle.model.proofs.Laws.Numbers.{no-number-zero}
 use Rattle.gates_model.proofs.Promises as meaning
 use Rattle.caisson.specs.declared.HostAnswer.{HostAnswer}
 use Rattle.caisson.specs.Told.{told, toldLeft}
 use Rattle.caisson.proofs.GateContracts.{GatesChecked, GatesCalled, AllGatesCalled, gates-checked-told, gates-called-made}
 use Rattle.caisson.proofs.Answered.{numbers-told, lent-told}
+use Rattle.gates_model.specs.Rules.{checkTable}
+use Rattle.model.specs.Refusals.{AnswersBy, Exactly}
+use Rattle.gates_model.proofs.Exact.{check-answers}
 
 -- ---- what a call told and left
 gates-called-told : (table before after : List ℕ) (call : Call) (h : HostAnswer) → GatesCalled table before call h after → told h ≡ numbersOf (perform table before call .answer)
@@ -24,6 +27,14 @@ gates-called-told table before after call h called = numbers-told h after (perfo
 
 gates-called-leaves : (table before after : List ℕ) (call : Call) (h : HostAnswer) → GatesCalled table before call h after → after ≡ perform table before call .lent
 gates-called-leaves table before after call h called = lent-told h after (perform table before call) (gates-called-made table before after call h called)
+
+-- ---- check and the two calls, each by its table
+pub gates-checked : (table : List ℕ) (h : HostAnswer) → GatesChecked table h → AnswersBy (checkTable table) 0 (told h)
+gates-checked table h checked = rw (gates-checked-told table h checked) (check-answers table)
+
+pub gates-called-exactly :
+    (table before after : List ℕ) (call : Call) (h : HostAnswer) → GatesCalled table before call h after → Exactly (callTable table before call) 0 before (toldLeft h after)
+gates-called-exactly table before after call h called = rw (gates-called-made table before after call h called) (meaning.calls-exactly table before call)
 
 -- ---- independence, of lists of exported calls
 all-gates-called-ends : (table : List ℕ) (calls : List Call) (before after : List ℕ) → AllGatesCalled table before calls after → after ≡ atEnd table before calls

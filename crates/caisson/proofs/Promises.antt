@@ -4,7 +4,7 @@
 use Prim.Native.Nat.{ℕ, _+_, _-_, _*_, _≤_, _<_}
 use mathlib.Core.Path.{_≡_, refl}
 use mathlib.Core.Logic.{_↔_}
-use mathlib.Core.Bool.{false, _&&_}
+use mathlib.Core.Bool.{true}
 use mathlib.Core.List.{List, [], _∷_, map}
 use lib.ListN.{length, take}
 use Rattle.model.specs.declared.Refusal.{Refusal}
@@ -12,7 +12,9 @@ use Rattle.model.specs.declared.Refusal.the-variants.{Depth, Shape}
 use Rattle.model.specs.declared.Answer.the-variants.{Accepted, Refused}
 use Rattle.model.specs.declared.Found.the-variants.{At, Nowhere}
 use Rattle.model.specs.Limits.{cyclesMax, wordLength, targetLength}
-use Rattle.model.specs.Image.{byteAt, AreBytes, designOf}
+use Rattle.model.specs.Image.{byteAt, AreBytes, designOf, stateAt}
+use Rattle.model.specs.Parameters.{hasParameters}
+use Rattle.model.specs.Rules.{Keeps}
 use Rattle.model.specs.Answers.{numberOf, numbersOf}
 use Rattle.model.specs.Ports.{PortsKept}
 use Rattle.model.specs.Kinds.{subtract}
@@ -35,13 +37,17 @@ use Rattle.model_cases.proofs.Cases as cases
 use Rattle.journal_model.specs.Calls.{LentJournal}
 use Rattle.replay_model.specs.declared.TraceRecord.{TraceRecord}
 use Rattle.replay_model.specs.ByHand.{traceSeen}
+use Rattle.replay_model.proofs.Areas.{OtherPortsKept}
 use Rattle.lists_model.specs.Lists.{Call, resets, writes, runs, runsJournalled, goesBack, replays, listed}
 use Rattle.lists_model.specs.Rules.{callTable, callCount}
 use Rattle.lists_model.proofs.Exact as lists
-use Rattle.pruning_model.specs.Pruned.{prunedImage}
+use Rattle.renumbering.specs.Runs.{SameRuns}
+use Rattle.pruning_model.specs.Reached.{Reached}
+use Rattle.pruning_model.specs.Pruned.{newState, prunedImage}
 use Rattle.pruning_model.specs.Rules.{pruneTable}
 use Rattle.pruning_model.proofs.Promises as pruning-meaning
 use Rattle.filing_model.specs.Filed.{filedImage}
+use Rattle.filing_model.specs.Same.{DifferAtMostInNumbers, NodesRenumbered}
 use Rattle.filing_model.specs.Rules.{fileTable}
 use Rattle.filing_model.proofs.Promises as filing-meaning
 use Rattle.model.proofs.RaisingPromises as raising-meaning
@@ -52,6 +58,20 @@ use Rattle.caisson.proofs.OutContracts.{RaiseCalled, PruneCalled, FileC
 use Rattle.caisson.proofs.Calls as calls
 use Rattle.caisson.proofs.Hosts.{Accepts, seenIn, happened, SeeTheSame, didPlainly, HostReplayed}
 use Rattle.caisson.proofs.Hosts as hosts
+use Rattle.caisson.proofs.Widths as widths
+use Rattle.caisson.proofs.Raising as raising
+use Rattle.caisson.proofs.Journals as journals
+use Rattle.caisson.proofs.Replays as replays
+use Rattle.caisson.proofs.Alike.{FromReset, toldBy, hosts-alike}
+use Rattle.caisson.proofs.Pruning as pruning
+use Rattle.caisson.proofs.Filing as filing
+use Rattle.gates_model.specs.Tables.{tableOf}
+use Rattle.gates_model.specs.Rules.{checkTable}
+use Rattle.gates_model.specs.Runs.{Agree, AgreeEach, AreaReady, FedEach, cycles}
+use Rattle.gates_model.specs.Runs as gates-runs
+use Rattle.caisson.proofs.GateContracts.{GatesChecked, GatesCalled, AllGatesCalled}
+use Rattle.caisson.proofs.Gates.{gatesToldEach, gatesLeftEach}
+use Rattle.caisson.proofs.Gates as gates
 
 -- ---- 01, demands 1 and 2
 -- Check: a host is told 0, 0, 0 exactly when the image keeps every row of the table of refusals, at every place; and a refusal's number and a place exactly when all rules before it in the
@@ -164,20 +184,156 @@ pub write-changes-only :
     → ChangesOnly r v (before .areas .registers) (told h) (after .areas .registers) × (after .areas .targets ≡ before .areas .targets) × (after .journal ≡ before .journal)
 write-changes-only = calls.write-changes
 
--- ---- 02, E1, "Ports belong to the host": a run of any number of cycles, whatever it answers, leaves every byte of every port. A journalled run is in `Journals`, a replay in `Replays`.
+-- ---- 02, E1, "Ports belong to the host": a run of any number of cycles, whatever it answers, leaves every byte of every port.
 pub ports-kept :
     (image : List ℕ) (before after : LentJournal) (h : HostAnswer) → AreBytes (before .areas .registers) → (n : ℕ) → Called image before (runs n) h after
     → PortsKept (designOf image) (before .areas .registers) (after .areas .registers)
 ports-kept = calls.run-ports
 
--- ---- 02, E6, E11 and E12: the calls that write an image into a second area, each by its own table, with the bytes of the result as the count of the last two
+-- A journalled run does too, and a replay leaves every byte of every port that no record names.
+pub journalled-ports-kept :
+    (image : List ℕ) (before after : LentJournal) (n : ℕ) (h : HostAnswer) → Called image before (runsJournalled n) h after → AreBytes (before .areas .registers)
+    → PortsKept (designOf image) (before .areas .registers) (after .areas .registers)
+journalled-ports-kept = journals.journalled-ports-kept
+
+pub replay-other-ports-kept :
+    (image : List ℕ) (before after : LentJournal) (trace : List TraceRecord) (n : ℕ) (h : HostAnswer) → Called image before (replays trace n) h after
+    → AreBytes (before .areas .registers) → OtherPortsKept (designOf image) trace (before .areas .registers) (after .areas .registers)
+replay-other-ports-kept = replays.replay-other-ports-kept
+
+-- ---- 02, E2: where one of the six calls is accepted, every register is within its width afterwards, whatever the areas held before. Going back by 0 restores nothing.
+pub within-widths :
+    (image : List ℕ) (before after : LentJournal) (h : HostAnswer) (call : Call) → Called image before call h after → h .number ≡ 0 → (call ≡ goesBack 0 → ⊥)
+    → WithinWidths (designOf image) (after .areas .registers)
+within-widths = widths.within
+
+-- ---- 02, E6: raising, by its own table; 20 (E8) exactly if a state has a parameter
 pub raise-exactly : (image area : List ℕ) (h : HostAnswer) (after : List ℕ) → RaiseCalled image area h after → Exactly (raiseTable image area) 0 area (toldLeft h after)
 raise-exactly image area h after called = rw (raise-called image area h after called) (raising-meaning.raise-exactly image area)
 
+pub raise-parameters-exactly :
+    (image area : List ℕ) (h : HostAnswer) (after : List ℕ) → RaiseCalled image area h after → structure image ≡ Accepted 0
+    → (told h ≡ record { number = 20; place = 0; count = 0 }) ↔ (hasParameters (designOf image) ≡ true)
+raise-parameters-exactly = raising.told-parameters-exactly
+
+-- "The result is the least: every accepted raising gives each register a label at or above ours."
+pub raised-least : (image area : List ℕ) (h : HostAnswer) (after : List ℕ) → RaiseCalled image area h after → h .number ≡ 0 → LeastRaising image after
+raised-least = raising.told-least
+
+-- "An accepted image comes back unchanged", and so does what was raised; what the area held before does not matter.
+pub accepted-comes-back :
+    (image area : List ℕ) (h : HostAnswer) (after : List ℕ) → RaiseCalled image area h after → Keeps image
+    → ((s : ℕ) → s < length (designOf image .states) → stateAt (designOf image) s .parameters ≡ 0)
+    → length area ≡ length image
+    → (told h ≡ record { number = 0; place = 0; count = 0 }) × (after ≡ image)
+accepted-comes-back = raising.told-comes-back
+
+pub raised-twice :
+    (image area after again third : List ℕ) (one other : HostAnswer) → RaiseCalled image area one after → one .number ≡ 0 → RaiseCalled after again other third
+    → length again ≡ length image
+    → (told other ≡ record { number = 0; place = 0; count = 0 }) × (third ≡ after)
+raised-twice = raising.told-twice
+
+pub raised-whatever-held :
+    (image area other after third : List ℕ) (one two : HostAnswer) → RaiseCalled image area one after → one .number ≡ 0 → RaiseCalled image other two third
+    → length other ≡ length area
+    → (told two ≡ told one) × (third ≡ after)
+raised-whatever-held = raising.told-whatever-held
+
+-- ---- 02, E11: pruning, by its own table, with the bytes of the result as the count; "and output bytes beyond the result keep their values", whatever it answers
 pub prune-exactly :
     (image area : List ℕ) (h : HostAnswer) (after : List ℕ) → PruneCalled image area h after → Exactly (pruneTable image area) (length (prunedImage image)) area (toldLeft h after)
 prune-exactly image area h after called = rw (prune-called image area h after called) (pruning-meaning.prune-exactly image area)
 
+pub pruned-beyond :
+    (image area : List ℕ) (h : HostAnswer) (after : List ℕ) → PruneCalled image area h after → (i : ℕ) → length (prunedImage image) ≤ i → byteAt after i ≡ byteAt area i
+pruned-beyond = pruning.told-beyond
+
+-- Of an image that the library accepts, the bytes that an accepted pruning wrote, so many as it answers:
+module _ (image : List ℕ) (bytes : AreBytes image) (accepts : Accepts image) (area : List ℕ) (h : HostAnswer) (after : List ℕ) (called : PruneCalled image area h after) (written : h .number ≡ 0) where
+  -- "It is accepted" by check,
+  pub pruned-accepted : (k : HostAnswer) → Checked (take (h .count) after) k → told k ≡ record { number = 0; place = 0; count = 0 }
+  pruned-accepted = pruning.pruned-accepted image bytes accepts area h after called written
+
+  -- "and every run from reset .. gives the same registers and the same walk under the new numbers": every state of a walk is reached, and no two reached ones have one number;
+  pub pruned-runs-alike : SameRuns image (take (h .count) after) (Reached (designOf image)) (newState (designOf image))
+  pruned-runs-alike = pruning.pruned-runs image bytes accepts area h after called written
+
+  -- so hosts that reset, write ports and run alike on both are told the same, and hold the same registers;
+  pub pruned-hosts-alike :
+      (list : List parties.Call) (one : FromReset image list) (other : FromReset (take (h .count) after) list)
+      → (toldBy image list one ≡ toldBy (take (h .count) after) list other) × (one .end .areas .registers ≡ other .end .areas .registers)
+  pruned-hosts-alike = hosts-alike image (take (h .count) after) pruned-runs-alike
+
+  -- "Doing it twice changes nothing"; a design all of whose states are reached comes back byte for byte; and an area as long as the image is never too short.
+  pub pruned-twice : (again : List ℕ) (k : HostAnswer) (last : List ℕ) → PruneCalled (take (h .count) after) again k last → k .number ≡ 0 → take (k .count) last ≡ take (h .count) after
+  pruned-twice = pruning.pruned-again image bytes accepts area h after called written
+
+  pub whole-comes-back : ((s : ℕ) → s < length (designOf image .states) → Reached (designOf image) s) → take (h .count) after ≡ image
+  whole-comes-back = pruning.pruned-whole image bytes accepts area h after called written
+
+  pub never-longer : h .count ≤ length image
+  never-longer = pruning.pruned-shorter image bytes accepts area h after called written
+
+-- ---- 02, E12: filing, by its own table; "bytes beyond the form keep their values"
 pub file-exactly :
     (image area : List ℕ) (h : HostAnswer) (after : List ℕ) → FileCalled image area h after → Exactly (fileTable image area) (length (filedImage image)) area (toldLeft h after)
 file-exactly image area h after called = rw (file-called image area h after called) (filing-meaning.file-exactly image area)
+
+pub filed-beyond :
+    (image area : List ℕ) (h : HostAnswer) (after : List ℕ) → FileCalled image area h after → (i : ℕ) → length (filedImage image) ≤ i → byteAt after i ≡ byteAt area i
+filed-beyond = filing.told-beyond-form
+
+module _ (image : List ℕ) (bytes : AreBytes image) (accepts : Accepts image) (area : List ℕ) (h : HostAnswer) (after : List ℕ) (called : FileCalled image area h after) (written : h .number ≡ 0) where
+  -- The form that was written is accepted, differs at most in node numbers, is its own form, is as long as the image and runs alike.
+  pub form-accepted : (k : HostAnswer) → Checked (take (h .count) after) k → told k ≡ record { number = 0; place = 0; count = 0 }
+  form-accepted = filing.form-accepted image bytes accepts area h after called written
+
+  pub form-same : DifferAtMostInNumbers (take (h .count) after) image
+  form-same = filing.form-same image bytes accepts area h after called written
+
+  pub form-twice : (again : List ℕ) (k : HostAnswer) (last : List ℕ) → FileCalled (take (h .count) after) again k last → k .number ≡ 0 → take (k .count) last ≡ take (h .count) after
+  form-twice = filing.form-again image bytes accepts area h after called written
+
+  pub form-long : h .count ≡ length image
+  form-long = filing.form-long image bytes accepts area h after called written
+
+  pub form-hosts-alike :
+      (list : List parties.Call) (one : FromReset image list) (other : FromReset (take (h .count) after) list)
+      → (toldBy image list one ≡ toldBy (take (h .count) after) list other) × (one .end .areas .registers ≡ other .end .areas .registers)
+  form-hosts-alike = hosts-alike image (take (h .count) after) (filing.form-runs image bytes accepts area h after called written)
+
+  -- "Two accepted images have the same form exactly when they differ at most in node numbers",
+  pub same-form-exactly :
+      (other : List ℕ) → AreBytes other → Accepts other → (area′ : List ℕ) (h′ : HostAnswer) (after′ : List ℕ) → FileCalled other area′ h′ after′ → h′ .number ≡ 0
+      → (take (h .count) after ≡ take (h′ .count) after′) ↔ DifferAtMostInNumbers image other
+  same-form-exactly = filing.forms-same image bytes accepts area h after called written
+
+-- which is exactly when some renumbering of nodes takes one to the other.
+pub differ-exactly :
+    (image other : List ℕ) → AreBytes image → AreBytes other → verdict image ≡ Accepted 0 → verdict other ≡ Accepted 0
+    → DifferAtMostInNumbers image other ↔ NodesRenumbered (designOf image) (designOf other)
+differ-exactly = filing-meaning.differ-exactly
+
+-- ---- 02, E13: gate tables. Check and the two calls by their tables, and a refusal changes no lent byte.
+pub gates-checked-exactly : (table : List ℕ) (h : HostAnswer) → GatesChecked table h → AnswersBy (checkTable table) 0 (told h)
+gates-checked-exactly = gates.gates-checked
+
+pub gates-called-exactly :
+    (table area after : List ℕ) (call : gates-runs.Call) (h : HostAnswer) → GatesCalled table area call h after → Exactly (gates-runs.callTable table area call) 0 area (toldLeft h after)
+gates-called-exactly = gates.gates-called-exactly
+
+-- "Two runs of one accepted table, equal in marks and trusted values, and fed inputs equal where marked trusted, stay so after any number of cycles": each cycle answers 0, 0, 0.
+pub gate-hosts-stay-alike :
+    (table : List ℕ) (h : HostAnswer) → GatesChecked table h → told h ≡ record { number = 0; place = 0; count = 0 }
+    → (one other : List ℕ) → AreaReady (tableOf table) one → AreaReady (tableOf table) other → Agree (tableOf table) one other
+    → (feds feds′ : List (List ℕ)) → FedEach (tableOf table) feds feds′
+    → (end end′ : List ℕ) (called : AllGatesCalled table one (map cycles feds) end) (called′ : AllGatesCalled table other (map cycles feds′) end′)
+    → (gatesToldEach table (map cycles feds) one end called ≡ map (λ (inputs : List ℕ). record { number = 0; place = 0; count = 0 }) feds)
+    × (gatesToldEach table (map cycles feds′) other end′ called′ ≡ map (λ (inputs : List ℕ). record { number = 0; place = 0; count = 0 }) feds′)
+    × AgreeEach (tableOf table) (gatesLeftEach table (map cycles feds) one end called) (gatesLeftEach table (map cycles feds′) other end′ called′)
+gate-hosts-stay-alike = gates.gate-hosts-stay-alike
+
+-- An accepted reset or cycle leaves an area that the next cycle accepts.
+pub gates-leave-ready : (table area after : List ℕ) (call : gates-runs.Call) (h : HostAnswer) → GatesCalled table area call h after → h .number ≡ 0 → AreaReady (tableOf table) after
+gates-leave-ready = gates.gates-leave-ready

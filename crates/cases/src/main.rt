@@ -205,7 +205,7 @@ fn reset(image: &[u8], registers: &mut [u8], targets: &mut [u8]) -> bool
 }
 
 fn write_port(image: &[u8], registers: &mut [u8], targets: &[u8], register: u32, value: u32) -> bool
-    ensures { λ _. ⌜ now (registers .exit) ≡ writePort (now (image .entry)) (now (registers .entry)) register value .registers ⌝ }
+    ensures { λ _. ⌜ now (registers .exit) ≡ writePort (now (image .entry)) (now (registers .entry)) register value .lent ⌝ }
 {
     let answer = calls::write_port(image, registers, register, value);
     print(b"write")
