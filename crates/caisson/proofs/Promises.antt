@@ -4,9 +4,13 @@
 use Prim.Native.Nat.{ℕ, _+_, _-_, _*_, _≤_, _<_}
 use mathlib.Core.Path.{_≡_, refl}
 use mathlib.Core.Logic.{_↔_}
-use mathlib.Core.Bool.{true}
+use mathlib.Core.Bool.{true, false, _&&_}
 use mathlib.Core.List.{List, [], _∷_, map}
 use lib.ListN.{length, take}
+use contract.Lifetimes.{Lfts}
+use denote.Ref.{now}
+use denote.Triple.Clauses.{AtExit}
+use borrow.Fn.Kinds.{Dens, endedOf}
 use Rattle.model.specs.declared.Refusal.{Refusal}
 use Rattle.model.specs.declared.Refusal.the-variants.{Depth, Shape}
 use Rattle.model.specs.declared.Answer.the-variants.{Accepted, Refused}
@@ -27,7 +31,7 @@ use Rattle.model.specs.Refusals.{AllKept, FirstBroken, AnswersBy, Exactly, imag
 use Rattle.model.specs.Parties.{Event, remaining, view, widerView}
 use Rattle.model.specs.Parties as parties
 use Rattle.model.specs.Neighbours.{common}
-use Rattle.model.specs.Raising.{LeastRaising}
+use Rattle.model.specs.Raising.{LeastRaising, accepts}
 use Rattle.model.proofs.Grouping.{Grouped}
 use Rattle.model.proofs.Writing.{ChangesOnly}
 use Rattle.model.proofs.Promises as meaning
@@ -35,8 +39,12 @@ use Rattle.model.proofs.Opened.{areas, faultOfRows, walks, anyLent}
 use Rattle.model.proofs.Designs.{lease, deep, gotoRoot}
 use Rattle.model_cases.proofs.Cases as cases
 use Rattle.journal_model.specs.Calls.{LentJournal}
+use Rattle.journal_model.proofs.Returning.{BackAt, Returned}
+use Rattle.journal_model.proofs.Others.{OtherByte}
 use Rattle.replay_model.specs.declared.TraceRecord.{TraceRecord}
-use Rattle.replay_model.specs.ByHand.{traceSeen}
+use Rattle.replay_model.specs.Traces.{tracePart, traceRest}
+use Rattle.replay_model.specs.ByHand.{byHand, traceSeen}
+use Rattle.replay_model.proofs.Latest.{latestOf}
 use Rattle.replay_model.proofs.Areas.{OtherPortsKept}
 use Rattle.lists_model.specs.Lists.{Call, resets, writes, runs, runsJournalled, goesBack, replays, listed}
 use Rattle.lists_model.specs.Rules.{callTable, callCount}
@@ -48,20 +56,28 @@ use Rattle.pruning_model.specs.Rules.{pruneTable}
 use Rattle.pruning_model.proofs.Promises as pruning-meaning
 use Rattle.filing_model.specs.Filed.{filedImage}
 use Rattle.filing_model.specs.Same.{DifferAtMostInNumbers, NodesRenumbered}
+use Rattle.filing_model.specs.Order.{comesBefore}
+use Rattle.filing_model.specs.Calls.{earlier, handedBack, handedFrom}
 use Rattle.filing_model.specs.Rules.{fileTable}
 use Rattle.filing_model.proofs.Promises as filing-meaning
 use Rattle.model.proofs.RaisingPromises as raising-meaning
 use Rattle.caisson.specs.declared.HostAnswer.{HostAnswer}
+use Rattle.caisson.specs.declared.HostWhich.{HostWhich}
 use Rattle.caisson.specs.Told.{told, toldLeft}
-use Rattle.caisson.proofs.Contracts.{Checked, RegistersMeasured, TargetsMeasured, Called, Hosted, checked-told, registers-measured, targets-measured, called-made}
+use Rattle.caisson.specs.ToldFiling.{toldWhich, bytesOf}
+use Rattle.caisson.proofs.Contracts.{Checked, RegistersMeasured, TargetsMeasured, Called, AllCalled, Hosted, checked-told, registers-measured, targets-measured, called-made}
 use Rattle.caisson.proofs.OutContracts.{RaiseCalled, PruneCalled, FileCalled, raise-called, prune-called, file-called}
+use Rattle.caisson.proofs.FileContracts.{EarlierCalled}
+use Rattle.caisson.proofs.caisson_earlier_part.Kinds as part-kinds
+use Rattle.caisson.proofs.caisson_earlier_part.Reads as part-reads
 use Rattle.caisson.proofs.Calls as calls
 use Rattle.caisson.proofs.Hosts.{Accepts, seenIn, happened, SeeTheSame, didPlainly, HostReplayed}
 use Rattle.caisson.proofs.Hosts as hosts
 use Rattle.caisson.proofs.Widths as widths
 use Rattle.caisson.proofs.Raising as raising
 use Rattle.caisson.proofs.Journals as journals
-use Rattle.caisson.proofs.Replays as replays
+use Rattle.caisson.proofs.Replays.{EachAccepted}
+use Rattle.caisson.proofs.Replays as replaying
 use Rattle.caisson.proofs.Alike.{FromReset, toldBy, hosts-alike}
 use Rattle.caisson.proofs.Pruning as pruning
 use Rattle.caisson.proofs.Filing as filing
@@ -199,7 +215,7 @@ journalled-ports-kept = journals.journalled-ports-kept
 pub replay-other-ports-kept :
     (image : List ℕ) (before after : LentJournal) (trace : List TraceRecord) (n : ℕ) (h : HostAnswer) → Called image before (replays trace n) h after
     → AreBytes (before .areas .registers) → OtherPortsKept (designOf image) trace (before .areas .registers) (after .areas .registers)
-replay-other-ports-kept = replays.replay-other-ports-kept
+replay-other-ports-kept = replaying.replay-other-ports-kept
 
 -- ---- 02, E2: where one of the six calls is accepted, every register is within its width afterwards, whatever the areas held before. Going back by 0 restores nothing.
 pub within-widths :
@@ -239,6 +255,85 @@ pub raised-whatever-held :
     → length other ≡ length area
     → (told two ≡ told one) × (third ≡ after)
 raised-whatever-held = raising.told-whatever-held
+
+-- ---- 02, E9: journals
+module _ (image : List ℕ) (before ran : LentJournal) (n : ℕ) (one : HostAnswer) (called : Called image before (runsJournalled n) one ran) where
+  -- "A journalled run is a run": one that is accepted tells and leaves what a run of the same areas does.
+  pub journalled-as-run : one .number ≡ 0 → (plain : HostAnswer) (left : LentJournal) → Called image before (runs n) plain left → (told plain ≡ told one) × (left .areas ≡ ran .areas)
+  journalled-as-run = journals.told-as-run image before ran n one called
+
+  -- "its other bytes keep their values", whatever it answers.
+  pub journalled-others-keep : (i : ℕ) → OtherByte image before n i → byteAt (ran .journal) i ≡ byteAt (before .journal) i
+  journalled-others-keep = journals.told-others-keep image before ran n one called
+
+  -- Behind one that is accepted, a step back by k of its cycles is accepted and leaves the areas that a run of n - k leaves; by all of them it leaves what was before the run, "and in the
+  -- journal only lowers the count, by k".
+  module _ (bytes : AreBytes (before .areas .registers)) (accepted : one .number ≡ 0) (after : LentJournal) (k : ℕ) (other : HostAnswer) (back : Called image ran (goesBack k) other after) where
+    pub back-some : k ≤ n → (told other ≡ record { number = 0; place = 0; count = k }) × BackAt image before ran k (n - k) (record { answer = Accepted k; lent = after })
+    back-some = journals.told-back-some image before ran after bytes n k one other called accepted back
+
+    pub back-returns : k ≡ n → (told other ≡ record { number = 0; place = 0; count = k }) × Returned image before ran k (record { answer = Accepted k; lent = after })
+    back-returns = journals.told-back-returns image before ran after bytes n k one other called accepted back
+
+-- A journalled run may be cut, and going back by j and then by k is going back by j + k, where both states are sound; "With k of 0 nothing changes", accepted or refused.
+pub journalled-halves :
+    (image : List ℕ) (before between after whole : LentJournal) → AreBytes (before .areas .registers) → (n m : ℕ) (first second both : HostAnswer)
+    → Called image before (runsJournalled (n + m)) both whole
+    → both .number ≡ 0
+    → Called image before (runsJournalled n) first between
+    → Called image between (runsJournalled m) second after
+    → (told first ≡ record { number = 0; place = 0; count = n }) × (told second ≡ record { number = 0; place = 0; count = m }) × (after ≡ whole)
+journalled-halves = journals.told-halves
+
+pub steps-back-add :
+    (image : List ℕ) (before between after whole : LentJournal) (j k : ℕ) (first second both : HostAnswer)
+    → Called image before (goesBack (j + k)) both whole
+    → both .number ≡ 0
+    → Called image before (goesBack j) first between
+    → first .number ≡ 0
+    → Called image between (goesBack k) second after
+    → (told second ≡ record { number = 0; place = 0; count = k }) × (after ≡ whole)
+steps-back-add = journals.told-steps-add
+
+pub step-back-none : (image : List ℕ) (before after : LentJournal) (h : HostAnswer) → Called image before (goesBack 0) h after → after ≡ before
+step-back-none = journals.told-back-none
+
+-- ---- 02, E10: replays
+-- "The outcome equals port writes and single cycles made by hand", through the exported calls.
+pub replay-by-hand :
+    (image : List ℕ) (before after : LentJournal) (trace : List TraceRecord) (n : ℕ) (h : HostAnswer) → Called image before (replays trace n) h after
+    → AreBytes (before .areas .registers) → h .number ≡ 0 → (end : LentJournal) (called : AllCalled image before (map listed (byHand trace 0 n)) end)
+    → EachAccepted image (map listed (byHand trace 0 n)) before end called × (end ≡ after)
+replay-by-hand = replaying.told-by-hand
+
+-- "of two for one cycle and port the later supersedes the earlier, and the answer counts those superseded"
+pub replay-of-latest :
+    (image : List ℕ) (before after other : LentJournal) (trace : List TraceRecord) (n : ℕ) (h k : HostAnswer) → Called image before (replays trace n) h after → h .number ≡ 0
+    → Called image before (replays (latestOf trace) n) k other
+    → (told k ≡ record { number = 0; place = 0; count = 0 }) × (other .areas ≡ after .areas)
+replay-of-latest = replaying.told-latest
+
+-- "Replaying n cycles and then m, the trace divided at cycle n and its cycles recounted, gives the areas of replaying both together, where n plus m is allowed and the whole trace is not
+-- refused": both parts are accepted, and their counts add.
+pub replay-divided :
+    (image : List ℕ) (before between after whole : LentJournal) (trace : List TraceRecord) (n m : ℕ) (first second both : HostAnswer)
+    → Called image before (replays trace (n + m)) both whole
+    → both .number ≡ 0
+    → Called image before (replays (tracePart n trace) n) first between
+    → Called image between (replays (traceRest n trace) m) second after
+    → (first .number ≡ 0) × (second .number ≡ 0) × (first .count + second .count ≡ both .count) × (after .areas ≡ whole .areas)
+replay-divided = replaying.told-divided
+
+-- Without records a replay is a run, with none superseded; and one of no cycles changes nothing.
+pub replay-without-records :
+    (image : List ℕ) (before after ran : LentJournal) (n : ℕ) (h k : HostAnswer) → Called image before (replays [] n) h after → Called image before (runs n) k ran
+    → (h .number ≡ k .number) × (h .place ≡ k .place) × (h .count ≡ 0) × (after .areas ≡ ran .areas)
+replay-without-records = replaying.told-without-records
+
+pub replay-of-none :
+    (image : List ℕ) (before after : LentJournal) → AreBytes (before .areas .registers) → (trace : List TraceRecord) (h : HostAnswer) → Called image before (replays trace 0) h after
+    → after ≡ before
+replay-of-none = replaying.told-replay-of-none
 
 -- ---- 02, E11: pruning, by its own table, with the bytes of the result as the count; "and output bytes beyond the result keep their values", whatever it answers
 pub prune-exactly :
@@ -314,6 +409,32 @@ pub differ-exactly :
     (image other : List ℕ) → AreBytes image → AreBytes other → verdict image ≡ Accepted 0 → verdict other ≡ Accepted 0
     → DifferAtMostInNumbers image other ↔ NodesRenumbered (designOf image) (designOf other)
 differ-exactly = filing-meaning.differ-exactly
+
+-- "Of two lent images the earlier one is handed back as it was lent": its bytes, and where they begin; "the first of them if equal", "and an empty part of the first if either is refused".
+module _ (κs : Lfts 2) (a : Dens κs part-kinds.ps) (e : AtExit (endedOf 2 part-kinds.ps part-kinds.r) κs) (called : part-reads.Post κs a tt e) where
+  pub part-handed-back :
+      (now (now (e .1 .1 .0)) ≡ handedBack (now (a .0)) (now (a .1 .0)) (earlier (now (a .0)) (now (a .1 .0))))
+      × (now (e .1 .1 .0) .ptr ≡ handedFrom (a .0 .ptr) (a .1 .0 .ptr) (earlier (now (a .0)) (now (a .1 .0))))
+  part-handed-back = filing.part-handed-back κs a e called
+
+  pub part-first-where-equal :
+      verdict (now (a .0)) ≡ Accepted 0 → verdict (now (a .1 .0)) ≡ Accepted 0 → filedImage (now (a .0)) ≡ filedImage (now (a .1 .0))
+      → (now (now (e .1 .1 .0)) ≡ now (a .0)) × (now (e .1 .1 .0) .ptr ≡ a .0 .ptr)
+  part-first-where-equal = filing.part-first-where-equal κs a e called
+
+  pub part-of-first-where-refused :
+      (accepts (verdict (now (a .0))) && accepts (verdict (now (a .1 .0)))) ≡ false → (now (now (e .1 .1 .0)) ≡ []) × (now (e .1 .1 .0) .ptr ≡ a .0 .ptr)
+  part-of-first-where-refused = filing.part-of-first-where-refused κs a e called
+
+-- The same without pointers: which image, and how long a part; and no lent image comes before what is handed back.
+module _ (first second : List ℕ) (h : HostWhich) (called : EarlierCalled first second h) where
+  pub told-handed-back : bytesOf first second (toldWhich h) ≡ handedBack first second (earlier first second)
+  told-handed-back = filing.told-handed-back first second h called
+
+  pub told-earlier-least :
+      verdict first ≡ Accepted 0 → verdict second ≡ Accepted 0
+      → (comesBefore (filedImage first) (filedImage (bytesOf first second (toldWhich h))) ≡ false) × (comesBefore (filedImage second) (filedImage (bytesOf first second (toldWhich h))) ≡ false)
+  told-earlier-least = filing.told-earlier-least first second h called
 
 -- ---- 02, E13: gate tables. Check and the two calls by their tables, and a refusal changes no lent byte.
 pub gates-checked-exactly : (table : List ℕ) (h : HostAnswer) → GatesChecked table h → AnswersBy (checkTable table) 0 (told h)
