@@ -79,12 +79,12 @@
  * A party sees the same of two such hosts if their calls agree in all that it may see, and if both journal
  * the same cycles and go back by equal numbers at equal moments. So nothing hidden may decide when a host
  * journals, or when and how far it goes back. A journal has the registers of all levels in it: it is shown
- * to nobody who may not see them all. A replay is in this the port writes and cycles that it makes: two
- * replays from reset, of as many cycles and of traces that are equal in the records of the ports at or below
- * a level, show that level the same, where neither is refused. What is proved is this, that a replay leaves what
- * its port writes and cycles leave, and the promise about lists of the other five calls; a list that has replays
- * among other calls is no theorem of its own yet. How many records were superseded, and whether
- * a trace is refused, depends on the records of all levels: it is told to nobody who may not see them all.
+ * to nobody who may not see them all. A replay may stand among the other calls: in the comparison an accepted
+ * one is taken as the port writes and cycles that it makes, and a refused one is struck out, as any refused
+ * call is. This is proved of lists of all six calls. So two replays from reset, of as many cycles and of traces
+ * that are equal in the records of the ports at or below a level, show that level the same, where neither is
+ * refused. How many records were superseded, and whether a trace is refused, depends on the records of all
+ * levels: it is told to nobody who may not see them all.
  *
  * Each register has a width of 1 to CAISSON_WIDTH bits and holds values below 2 to the power of it. In
  * the area it takes CAISSON_WORD bytes all the same, with zeros above its width. An assignment stores
