@@ -19,7 +19,7 @@ use Rattle.model.specs.Limits.{cyclesMax, wordLength, targetLength}
 use Rattle.model.specs.Image.{byteAt, AreBytes, designOf, stateAt}
 use Rattle.model.specs.Parameters.{hasParameters}
 use Rattle.model.specs.Rules.{Keeps}
-use Rattle.model.specs.Answers.{numberOf, numbersOf}
+use Rattle.model.specs.Answers.{numberOf}
 use Rattle.model.specs.Ports.{PortsKept}
 use Rattle.model.specs.Kinds.{subtract}
 use Rattle.model.specs.Trees.{exprOf, exprDepth}
@@ -28,7 +28,7 @@ use Rattle.model.specs.Machine.{cycle}
 use Rattle.model.specs.Listing.{bytesOfText, listing}
 use Rattle.model.specs.Verdict.{verdict, structure}
 use Rattle.model.specs.Refusals.{AllKept, FirstBroken, AnswersBy, Exactly, imageTable, raiseTable, WithinWidths}
-use Rattle.model.specs.Parties.{Event, remaining, view, widerView}
+use Rattle.model.specs.Parties.{remaining, view, widerView}
 use Rattle.model.specs.Parties as parties
 use Rattle.model.specs.Neighbours.{common}
 use Rattle.model.specs.Raising.{LeastRaising, accepts}
@@ -86,7 +86,7 @@ use Rattle.gates_model.specs.Rules.{checkTable}
 use Rattle.gates_model.specs.Runs.{Agree, AgreeEach, AreaReady, FedEach, cycles}
 use Rattle.gates_model.specs.Runs as gates-runs
 use Rattle.caisson.proofs.GateContracts.{GatesChecked, GatesCalled, AllGatesCalled}
-use Rattle.caisson.proofs.Gates.{gatesToldEach, gatesLeftEach}
+use Rattle.caisson.proofs.Gates.{acceptedAreas, gatesToldEach, gatesLeftEach}
 use Rattle.caisson.proofs.Gates as gates
 
 -- ---- 01, demands 1 and 2
@@ -431,6 +431,12 @@ module _ (first second : List ℕ) (h : HostWhich) (called : EarlierCalled first
   pub told-handed-back : bytesOf first second (toldWhich h) ≡ handedBack first second (earlier first second)
   told-handed-back = filing.told-handed-back first second h called
 
+  pub told-first-where-equal : verdict first ≡ Accepted 0 → verdict second ≡ Accepted 0 → filedImage first ≡ filedImage second → toldWhich h ≡ record { second = 0; len = length first }
+  told-first-where-equal = filing.told-first-where-equal first second h called
+
+  pub told-neither : (accepts (verdict first) && accepts (verdict second)) ≡ false → toldWhich h ≡ record { second = 0; len = 0 }
+  told-neither = filing.told-neither first second h called
+
   pub told-earlier-least :
       verdict first ≡ Accepted 0 → verdict second ≡ Accepted 0
       → (comesBefore (filedImage first) (filedImage (bytesOf first second (toldWhich h))) ≡ false) × (comesBefore (filedImage second) (filedImage (bytesOf first second (toldWhich h))) ≡ false)
@@ -454,6 +460,13 @@ pub gate-hosts-stay-alike :
     × (gatesToldEach table (map cycles feds′) other end′ called′ ≡ map (λ (inputs : List ℕ). record { number = 0; place = 0; count = 0 }) feds′)
     × AgreeEach (tableOf table) (gatesLeftEach table (map cycles feds) one end called) (gatesLeftEach table (map cycles feds′) other end′ called′)
 gate-hosts-stay-alike = gates.gate-hosts-stay-alike
+
+-- So through lists of resets and cycles, refused ones struck out: the areas agree after each accepted call and at the end.
+pub gate-hosts-independent :
+    (table one other : List ℕ) → Agree (tableOf table) one other → (list list′ : List gates-runs.Call) → gates-runs.remains table one list ≡ gates-runs.remains table other list′
+    → (end end′ : List ℕ) (called : AllGatesCalled table one list end) (called′ : AllGatesCalled table other list′ end′)
+    → AgreeEach (tableOf table) (acceptedAreas table list one end called) (acceptedAreas table list′ other end′ called′) × Agree (tableOf table) end end′
+gate-hosts-independent = gates.gate-hosts-independent
 
 -- An accepted reset or cycle leaves an area that the next cycle accepts.
 pub gates-leave-ready : (table area after : List ℕ) (call : gates-runs.Call) (h : HostAnswer) → GatesCalled table area call h after → h .number ≡ 0 → AreaReady (tableOf table) after
