@@ -2,3 +2,4 @@
 pub mod Lists
 pub mod Elsewhere
 pub mod Replays
+pub mod Neighbours

@@ -2,4 +2,5 @@
 pub mod Cycles
 pub mod Ports
 pub mod Superseded
+pub mod Seen
 pub mod FarEnds

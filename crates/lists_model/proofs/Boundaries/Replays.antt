@@ -1,4 +1,4 @@
--- Cases at the boundaries of what a party sees of a replay: which records are in sight, what the view has of the cycles, and that the count tells more.
+-- Cases at the boundaries of what a party sees of a replay: what the view has of the cycles, and that the count tells more. Which records are in sight is shown in `replay_model`.
 use Prim.Native.Nat.{ℕ}
 use native.Mathlib.Omega.{arith}
 use mathlib.Core.Path.{_≡_, refl}
@@ -9,32 +9,16 @@ use Rattle.model.specs.Image.{designOf, registerAt}
 use Rattle.model.specs.Answers.{Numbers, numbersOf}
 use Rattle.model.specs.Parties.{Remaining, aReset, aWrite, aCycle, aJournalledCycle, aStepBack, cyclesOf}
 use Rattle.model.proofs.Opened.{everything, accepted, refused, lent, anyLent}
-use Rattle.model.proofs.Designs.{lease, oneState, diamond, registerRecord, goesTo}
+use Rattle.model.proofs.Designs.{lease}
 use Rattle.replay_model.specs.declared.TraceRecord.{TraceRecord}
 use Rattle.replay_model.specs.Calls.{replay}
 use Rattle.replay_model.specs.ByHand.{byHand, traceSeen}
 use Rattle.lists_model.specs.Lists.{Call, resets, writes, runs, runsJournalled, goesBack, replays, events, Use, begun, remains, views, seenAtEnd}
 use Rattle.lists_model.specs.Demands.{IndependentJournals, IndependentReplays}
+use Rattle.lists_model.specs.Rules.{callCount}
 use Rattle.lists_model.proofs.Opened.{listing, seen}
 use Rattle.journal_model.proofs.Opened.{journalOf, spare}
 use Rattle.replay_model.proofs.Opened.{reading, meters, meterAreas, month}
-
--- ---- "the records at or below a level"
--- four labels of which 1 and 2 cannot be compared, and a port of each
-abbrev fourPorts : List ℕ
-fourPorts = oneState diamond (registerRecord 0 1 0 ∷ registerRecord 1 1 0 ∷ registerRecord 2 1 0 ∷ registerRecord 3 1 0 ∷ []) 1 (goesTo 1 ∷ []) []
-
-abbrev ofEach : List TraceRecord
-ofEach = reading 0 3 13 ∷ reading 0 2 12 ∷ reading 1 1 11 ∷ reading 1 0 10 ∷ reading 2 1 21 ∷ []
-
-shows-trace-seen
-    : map (λ (level : ℕ). traceSeen (designOf fourPorts) level ofEach) (0 ∷ 1 ∷ 2 ∷ 3 ∷ [])
-    ≡ (reading 1 0 10 ∷ [])
-    ∷ (reading 1 1 11 ∷ reading 1 0 10 ∷ reading 2 1 21 ∷ [])
-    ∷ (reading 0 2 12 ∷ reading 1 0 10 ∷ [])
-    ∷ ofEach
-    ∷ []
-shows-trace-seen = unfold listing in refl
 
 -- ---- one replay
 -- registers out of sight are given 0; r4 is reset to 50; the journal is empty
@@ -239,3 +223,7 @@ shows-mixed-claim claim = claim meters (unfold everything in refl) 0 (unfold eve
 -- a replay leaves the journal as it is, and one goes back over it
 shows-back-over-replay : seenAtEnd meters 1 (meterUse (runsJournalled 1 ∷ replays month 4 ∷ goesBack 1 ∷ [])) ≡ 0 ∷ 0 ∷ 4 ∷ 0 ∷ 50 ∷ []
 shows-back-over-replay = unfold listing in refl
+
+-- ---- "the cycles done" of runs, "the answer counts those superseded" of a replay: the count of each call
+shows-counts : map callCount (resets ∷ writes 2 5 ∷ runs 3 ∷ runsJournalled 4 ∷ goesBack 6 ∷ replays busy 7 ∷ []) ≡ 0 ∷ 0 ∷ 3 ∷ 4 ∷ 6 ∷ 2 ∷ []
+shows-counts = unfold listing in refl
