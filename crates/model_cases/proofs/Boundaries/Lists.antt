@@ -8,9 +8,10 @@ use lib.Dec.{eqb}
 use lib.ListN.{length, replicate}
 use Rattle.model.specs.Image.{registerAt, designOf}
 use Rattle.model.specs.Values.{bytesOf}
-use Rattle.model.specs.Parties.{Call, Seen, RightLengths, Use, Independent, resets, runs, writes, aReset, aWrite, aCycle, events, atEnd, givenUnseen, valuesSeen, walkSeen, view, remaining, withUnseen, start, history, remains, views, seenAtEnd}
+use Rattle.model.specs.Parties.{Call, Seen, RightLengths, Use, Independent, resets, runs, writes, aReset, aWrite, aCycle, events, atEnd, givenUnseen, valuesSeen, walkSeen, view, remaining, withUnseen, start, history, remains, views, seenAtEnd, journalled, steppedBack, cycled, wasReset, aJournalledCycle, aStepBack, cyclesOf}
 use Rattle.model.proofs.Opened.{checks, everything, lent, lentBound, anyLent, resetLent, shortLent, longTargets}
 use Rattle.model.proofs.Designs.{lease, assemble, registerRecord, stateRecord, assigns, sequences, falls, goesTo, branches, constant, reads, adds}
+use Rattle.model.specs.Machine.{Cycle}
 
 -- both registers of the lease design have width 32
 leaseWithin : (given : ℕ → ℕ) → ((r : ℕ) → given r < 2 ^ 32) → (r : ℕ) → r < length (designOf lease .registers) → given r < 2 ^ registerAt (designOf lease) r .width
@@ -44,6 +45,14 @@ shows-remains-0 = unfold whole in refl
 
 shows-remains-1 : remains lease 1 aUse ≡ aCycle ∷ aCycle ∷ aWrite 1 5 ∷ aCycle ∷ []
 shows-remains-1 = unfold whole in refl
+
+-- 02, E9: a journalled cycle remains apart from a cycle and shows what it shows; a step back remains, at every level, and shows nothing
+shows-journalled-remain
+    : (c : Cycle) → remaining (designOf lease) 0 (journalled c ∷ steppedBack ∷ cycled c ∷ steppedBack ∷ []) ≡ aJournalledCycle ∷ aStepBack ∷ aCycle ∷ aStepBack ∷ []
+shows-journalled-remain c = unfold whole in refl
+
+shows-journalled-seen : (c other : Cycle) → cyclesOf (journalled c ∷ steppedBack ∷ wasReset ∷ cycled other ∷ journalled other ∷ []) ≡ c ∷ other ∷ other ∷ []
+shows-journalled-seen c other = unfold whole in refl
 
 -- "equal registers at or below the level at their end"
 shows-end : seenAtEnd lease 0 aUse ∷ seenAtEnd lease 1 aUse ∷ [] ≡ (1 ∷ []) ∷ (1 ∷ 5 ∷ []) ∷ []
