@@ -25,9 +25,13 @@ refused-numbers h e = rw (h, e)
 pub same-answer : {m : Numbers} {a b : Answer} → m ≡ numbersOf a → a ≡ b → m ≡ numbersOf b
 same-answer p q = p ∙ ap numbersOf q
 
+-- of what a call leaves
+pub answer-told : {A : Type 0} (h : HostAnswer) (a : Answer) (lent : A) {left : Left A} → told h ≡ numbersOf a → leftAs a lent ≡ left → told h ≡ numbersOf (left .answer)
+answer-told {A = A} h a lent p q = p ∙ ap (λ (x : Left A). numbersOf (x .answer)) q
+
 -- beside what was lent
 pub left-told : {A : Type 0} (h : HostAnswer) (a : Answer) (lent : A) {left : Left A} → told h ≡ numbersOf a → leftAs a lent ≡ left → toldLeft h lent ≡ inNumbers left
-left-told h a lent p q = ap (λ (n : Numbers). record { numbers = n; lent = lent }) p ∙ ap inNumbers q
+left-told {A = A} h a lent p q = λ i. record { numbers = answer-told h a lent p q i; lent = ap (λ (x : Left A). x .lent) q i }
 
 -- and of a call that is lent a part of what the host has
 pub left-in-told : {A B : Type 0} {h : HostAnswer} {lent : A} (left : Left A) (whole : A → B) → toldLeft h lent ≡ inNumbers left → toldLeft h (whole lent) ≡ inNumbers (leftIn whole left)
