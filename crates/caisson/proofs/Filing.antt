@@ -101,10 +101,6 @@ module _
     pub form-runs : SameRuns image form (λ s. s < length (designOf image .states)) (λ s. s)
     form-runs = rw is-form (meaning.form-runs-alike image bytes judged)
 
-    -- an output area as long as the image is never too short
-    pub form-long : h .count ≡ length image
-    form-long = file-count image area h after called judged written ∙ meaning.form-is-as-long image bytes judged
-
     -- "Two accepted images have the same form exactly when they differ at most in node numbers."
     module _
         (other : List ℕ) (bytes′ : AreBytes other) (accepts′ : Accepts other)
@@ -117,6 +113,10 @@ module _
         forms-same =
             rw (is-form, form-written other area′ h′ after′ called′ judged′ written′)
             (meaning.same-form-exactly image other bytes bytes′ judged judged′)
+
+-- An output area as long as the image is never too short.
+pub form-long : (image : List ℕ) → AreBytes image → Accepts image → length (filedImage image) ≡ length image
+form-long image bytes accepts = meaning.form-is-as-long image bytes (told-verdict image (accepts .answer) (accepts .checked) (accepts .accepted))
 
 -- ---- what the comparison told
 module _ (first second : List ℕ) (h : HostWhich) (called : EarlierCalled first second h) where

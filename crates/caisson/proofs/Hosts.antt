@@ -16,7 +16,7 @@ use Rattle.replay_model.specs.ByHand.{traceSeen}
 use Rattle.lists_model.specs.Lists.{Call, resets, replays, withJournal, perform, events, atEnd, listed, Use, begun, history, remains, views, widerViews, seenAtEnd}
 use Rattle.lists_model.specs.Demands.{Replayed}
 use Rattle.lists_model.proofs.Independence.{independent-across, widely-across}
-use Rattle.lists_model.proofs.Demands.{replays-independent}
+use Rattle.lists_model.proofs.Demands.{replays-across}
 use Rattle.lists_model.proofs.Listed.{listed-events, listed-end}
 use Rattle.caisson.specs.declared.HostAnswer.{HostAnswer}
 use Rattle.caisson.specs.Told.{told}
@@ -138,12 +138,13 @@ replayed-so image level host trace n made =
     }
 
 pub hosts-replay :
-    (image : List ℕ) → Accepts image → (level : ℕ) → level < length (designOf image .rows)
-    → (one other : Hosted image level) (trace trace′ : List TraceRecord) (n : ℕ)
+    (image edited : List ℕ) → Accepts image → Accepts edited → (level : ℕ) → level < length (designOf image .rows)
+    → common (designOf image) level ≡ common (designOf edited) level
+    → (one : Hosted image level) (other : Hosted edited level) (trace trace′ : List TraceRecord) (n : ℕ)
     → HostReplayed image level one trace n
-    → HostReplayed image level other trace′ n
-    → traceSeen (designOf image) level trace ≡ traceSeen (designOf image) level trace′
-    → SeeTheSame image image level one other
-hosts-replay image accepts level label one other trace trace′ n made made′ same =
-    let both = replays-independent image (told-verdict image (accepts .answer) (accepts .checked) (accepts .accepted)) level label (used image level one) (used image level other) trace trace′ n (replayed-so image level one trace n made) (replayed-so image level other trace′ n made′) same in
-    (views-so image level one ∙ both .0 ∙ sym (views-so image level other), end-so image level one ∙ both .1 ∙ sym (end-so image level other))
+    → HostReplayed edited level other trace′ n
+    → traceSeen (designOf image) level trace ≡ traceSeen (designOf edited) level trace′
+    → SeeTheSame image edited level one other
+hosts-replay image edited accepts accepts′ level label shared one other trace trace′ n made made′ same =
+    let both = replays-across image edited (told-verdict image (accepts .answer) (accepts .checked) (accepts .accepted)) (told-verdict edited (accepts′ .answer) (accepts′ .checked) (accepts′ .accepted)) level label shared (used image level one) (used edited level other) trace trace′ n (replayed-so image level one trace n made) (replayed-so edited level other trace′ n made′) same in
+    (views-so image level one ∙ both .0 ∙ sym (views-so edited level other), end-so image level one ∙ both .1 ∙ sym (end-so edited level other))

@@ -169,7 +169,18 @@ pub replay-hosts-independent :
     → HostReplayed image level other trace′ n
     → traceSeen (designOf image) level trace ≡ traceSeen (designOf image) level trace′
     → SeeTheSame image image level one other
-replay-hosts-independent = hosts.hosts-replay
+replay-hosts-independent image accepts level label = hosts.hosts-replay image image accepts accepts level label refl
+
+-- and across two designs that have the same in common.
+pub replay-neighbour-hosts-independent :
+    (image edited : List ℕ) → Accepts image → Accepts edited → (level : ℕ) → level < length (designOf image .rows)
+    → common (designOf image) level ≡ common (designOf edited) level
+    → (one : Hosted image level) (other : Hosted edited level) (trace trace′ : List TraceRecord) (n : ℕ)
+    → HostReplayed image level one trace n
+    → HostReplayed edited level other trace′ n
+    → traceSeen (designOf image) level trace ≡ traceSeen (designOf edited) level trace′
+    → SeeTheSame image edited level one other
+replay-neighbour-hosts-independent = hosts.hosts-replay
 
 -- 02, E8, and more than it asks: the wider view, with the registers bound to all parameters in scope of a state that is seen, is the same too.
 pub hosts-widely-independent :
@@ -340,6 +351,9 @@ pub prune-exactly :
     (image area : List ℕ) (h : HostAnswer) (after : List ℕ) → PruneCalled image area h after → Exactly (pruneTable image area) (length (prunedImage image)) area (toldLeft h after)
 prune-exactly image area h after called = rw (prune-called image area h after called) (pruning-meaning.prune-exactly image area)
 
+pub pruned-written : (image area : List ℕ) (h : HostAnswer) (after : List ℕ) → PruneCalled image area h after → h .number ≡ 0 → take (length (prunedImage image)) after ≡ prunedImage image
+pruned-written = pruning.told-written
+
 pub pruned-beyond :
     (image area : List ℕ) (h : HostAnswer) (after : List ℕ) → PruneCalled image area h after → (i : ℕ) → length (prunedImage image) ≤ i → byteAt after i ≡ byteAt area i
 pruned-beyond = pruning.told-beyond
@@ -360,27 +374,35 @@ module _ (image : List ℕ) (bytes : AreBytes image) (accepts : Accepts image) (
       → (toldBy image list one ≡ toldBy (take (h .count) after) list other) × (one .end .areas .registers ≡ other .end .areas .registers)
   pruned-hosts-alike = hosts-alike image (take (h .count) after) pruned-runs-alike
 
-  -- "Doing it twice changes nothing"; a design all of whose states are reached comes back byte for byte; and an area as long as the image is never too short.
+  -- "Doing it twice changes nothing"; and a design all of whose states are reached comes back byte for byte.
   pub pruned-twice : (again : List ℕ) (k : HostAnswer) (last : List ℕ) → PruneCalled (take (h .count) after) again k last → k .number ≡ 0 → take (k .count) last ≡ take (h .count) after
   pruned-twice = pruning.pruned-again image bytes accepts area h after called written
 
   pub whole-comes-back : ((s : ℕ) → s < length (designOf image .states) → Reached (designOf image) s) → take (h .count) after ≡ image
   whole-comes-back = pruning.pruned-whole image bytes accepts area h after called written
 
-  pub never-longer : h .count ≤ length image
-  never-longer = pruning.pruned-shorter image bytes accepts area h after called written
+-- An output area as long as the image is never too short.
+pub never-longer : (image : List ℕ) → AreBytes image → Accepts image → length (prunedImage image) ≤ length image
+never-longer = pruning.pruned-shorter
 
 -- ---- 02, E12: filing, by its own table; "bytes beyond the form keep their values"
 pub file-exactly :
     (image area : List ℕ) (h : HostAnswer) (after : List ℕ) → FileCalled image area h after → Exactly (fileTable image area) (length (filedImage image)) area (toldLeft h after)
 file-exactly image area h after called = rw (file-called image area h after called) (filing-meaning.file-exactly image area)
 
+pub filed-written : (image area : List ℕ) (h : HostAnswer) (after : List ℕ) → FileCalled image area h after → h .number ≡ 0 → take (length (filedImage image)) after ≡ filedImage image
+filed-written = filing.told-form
+
 pub filed-beyond :
     (image area : List ℕ) (h : HostAnswer) (after : List ℕ) → FileCalled image area h after → (i : ℕ) → length (filedImage image) ≤ i → byteAt after i ≡ byteAt area i
 filed-beyond = filing.told-beyond-form
 
+-- The form of an accepted image is as long as the image.
+pub form-long : (image : List ℕ) → AreBytes image → Accepts image → length (filedImage image) ≡ length image
+form-long = filing.form-long
+
 module _ (image : List ℕ) (bytes : AreBytes image) (accepts : Accepts image) (area : List ℕ) (h : HostAnswer) (after : List ℕ) (called : FileCalled image area h after) (written : h .number ≡ 0) where
-  -- The form that was written is accepted, differs at most in node numbers, is its own form, is as long as the image and runs alike.
+  -- The form that was written is accepted, differs at most in node numbers, is its own form and runs alike.
   pub form-accepted : (k : HostAnswer) → Checked (take (h .count) after) k → told k ≡ record { number = 0; place = 0; count = 0 }
   form-accepted = filing.form-accepted image bytes accepts area h after called written
 
@@ -390,13 +412,13 @@ module _ (image : List ℕ) (bytes : AreBytes image) (accepts : Accepts image) (
   pub form-twice : (again : List ℕ) (k : HostAnswer) (last : List ℕ) → FileCalled (take (h .count) after) again k last → k .number ≡ 0 → take (k .count) last ≡ take (h .count) after
   form-twice = filing.form-again image bytes accepts area h after called written
 
-  pub form-long : h .count ≡ length image
-  form-long = filing.form-long image bytes accepts area h after called written
+  pub form-runs-alike : SameRuns image (take (h .count) after) (λ s. s < length (designOf image .states)) (λ s. s)
+  form-runs-alike = filing.form-runs image bytes accepts area h after called written
 
   pub form-hosts-alike :
       (list : List parties.Call) (one : FromReset image list) (other : FromReset (take (h .count) after) list)
       → (toldBy image list one ≡ toldBy (take (h .count) after) list other) × (one .end .areas .registers ≡ other .end .areas .registers)
-  form-hosts-alike = hosts-alike image (take (h .count) after) (filing.form-runs image bytes accepts area h after called written)
+  form-hosts-alike = hosts-alike image (take (h .count) after) form-runs-alike
 
   -- "Two accepted images have the same form exactly when they differ at most in node numbers",
   pub same-form-exactly :

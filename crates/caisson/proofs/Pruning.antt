@@ -84,5 +84,6 @@ module _
     pub pruned-whole : ((s : ℕ) → s < length (designOf image .states) → Reached (designOf image) s) → result ≡ image
     pruned-whole all = is-pruned ∙ meaning.whole-comes-back image bytes judged all
 
-    pub pruned-shorter : h .count ≤ length image
-    pruned-shorter = rw (prune-count image area h after called judged written) (meaning.never-longer image bytes judged)
+-- An output area as long as the image is never too short.
+pub pruned-shorter : (image : List ℕ) → AreBytes image → Accepts image → length (prunedImage image) ≤ length image
+pruned-shorter image bytes accepts = meaning.never-longer image bytes (told-verdict image (accepts .answer) (accepts .checked) (accepts .accepted))

@@ -23,7 +23,7 @@ use Rattle.replay_model.specs.ByHand.{byHand, traceSeen}
 use Rattle.replay_model.proofs.Laws.{kept-swap}
 use Rattle.replay_model.proofs.ByHand.{eventOf, eventsByHand, made-by-hand}
 use Rattle.lists_model.specs.Lists.{Call, replays, perform, eventsOf, events, Use, begun, history, remains}
-use Rattle.lists_model.specs.Demands.{IndependentJournals, Replayed, IndependentReplays}
+use Rattle.lists_model.specs.Demands.{IndependentJournals, Replayed, IndependentReplays, IndependentReplayNeighbours}
 use Rattle.lists_model.proofs.Independence.{independent-across}
 
 -- 02, E9: within one design, which has the same in common with itself
@@ -98,16 +98,22 @@ module _ (image : List ℕ) (level : ℕ) where
           ∙ replay-does u trace n (perform image (begun image level u) (replays trace n) .answer) (made .accepted)
           ∙ replay-events n trace u (unfold perform in made .accepted)
 
--- 02, E10
-pub replays-independent : IndependentReplays
-replays-independent image accepted level isLabel one other trace trace′ n made made′ same =
-    journals-independent
+-- 02, E10, across two designs and so within one
+pub replays-across : IndependentReplayNeighbours
+replays-across image edited accepted accepted′ level isLabel shared one other trace trace′ n made made′ same =
+    independent-across
     image
+    edited
     accepted
+    accepted′
     level
     isLabel
+    shared
     one
     other
     (replayed-remains image level one trace n made
     ∙ ap (λ (seen : List TraceRecord). remainsByHand seen 0 n) same
-    ∙ sym (replayed-remains image level other trace′ n made′))
+    ∙ sym (replayed-remains edited level other trace′ n made′))
+
+pub replays-independent : IndependentReplays
+replays-independent image accepted level isLabel = replays-across image image accepted accepted level isLabel refl

@@ -69,3 +69,18 @@ IndependentReplays =
     → Replayed image level other trace′ n
     → traceSeen (designOf image) level trace ≡ traceSeen (designOf image) level trace′
     → (views image level one ≡ views image level other) × (seenAtEnd image level one ≡ seenAtEnd image level other)
+
+-- and across two designs
+abbrev pub IndependentReplayNeighbours : Type 0
+IndependentReplayNeighbours =
+    (image edited : List ℕ)
+    → verdict image ≡ Accepted 0
+    → verdict edited ≡ Accepted 0
+    → (level : ℕ)
+    → level < length (designOf image .rows)
+    → common (designOf image) level ≡ common (designOf edited) level
+    → (one : Use (designOf image)) (other : Use (designOf edited)) (trace trace′ : List TraceRecord) (n : ℕ)
+    → Replayed image level one trace n
+    → Replayed edited level other trace′ n
+    → traceSeen (designOf image) level trace ≡ traceSeen (designOf edited) level trace′
+    → (views image level one ≡ views edited level other) × (seenAtEnd image level one ≡ seenAtEnd edited level other)

@@ -14,7 +14,7 @@ use Rattle.replay_model.specs.declared.TraceRecord.{TraceRecord}
 use Rattle.replay_model.specs.Calls.{replay}
 use Rattle.replay_model.specs.ByHand.{byHand, traceSeen}
 use Rattle.lists_model.specs.Lists.{Call, resets, writes, runs, runsJournalled, goesBack, replays, events, Use, begun, remains, views, seenAtEnd}
-use Rattle.lists_model.specs.Demands.{IndependentJournals, IndependentReplays}
+use Rattle.lists_model.specs.Demands.{IndependentJournals, IndependentReplays, IndependentReplayNeighbours}
 use Rattle.lists_model.specs.Rules.{callCount}
 use Rattle.lists_model.proofs.Opened.{listing, seen}
 use Rattle.journal_model.proofs.Opened.{journalOf, spare}
@@ -134,6 +134,29 @@ shows-claim-0 claim =
     (unfold everything in refl)
     0
     (unfold everything in omega arith)
+    (meterUse (replays quiet 3 ∷ []))
+    (meterUse (replays busy 3 ∷ []))
+    quiet
+    busy
+    3
+    (record { alone = refl; accepted = unfold listing in refl })
+    (record { alone = refl; accepted = unfold listing in refl })
+    (unfold listing in refl)
+
+-- and about two designs that have the same in common, of which one may be the other
+shows-claim-across
+    : IndependentReplayNeighbours
+    → (views meters 0 (meterUse (replays quiet 3 ∷ [])) ≡ views meters 0 (meterUse (replays busy 3 ∷ [])))
+    × (seenAtEnd meters 0 (meterUse (replays quiet 3 ∷ [])) ≡ seenAtEnd meters 0 (meterUse (replays busy 3 ∷ [])))
+shows-claim-across claim =
+    claim
+    meters
+    meters
+    (unfold everything in refl)
+    (unfold everything in refl)
+    0
+    (unfold everything in omega arith)
+    refl
     (meterUse (replays quiet 3 ∷ []))
     (meterUse (replays busy 3 ∷ []))
     quiet
