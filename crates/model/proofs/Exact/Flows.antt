@@ -2,14 +2,14 @@
 use Prim.Native.Nat.{ℕ, ◌<◌}
 use mathlib.Core.Path.{◌≡◌}
 use mathlib.Core.Logic.{◌↔◌}
-use mathlib.Core.List.{List, [], ◌∷◌}
+use mathlib.Core.List.{List, [], ◌∷◌, ◌++◌}
 use lib.ListN.{length}
 use Rattle.model.specs.declared.Answer.TheVariants.{Accepted}
 use Rattle.model.specs.Indices.{join_below}
 use Rattle.model.specs.Image.{Design}
 use Rattle.model.specs.Lattice.{state_label}
 use Rattle.model.specs.Trees.{Cmd, skip, assign, sequence, fall, goto, branch, body_of}
-use Rattle.model.specs.Flow.{flow_faults, state_flow_faults, flow_answer}
+use Rattle.model.specs.Flow.{labels_read, flow_faults, state_flow_faults, flow_answer}
 use Rattle.model.specs.Rules.{Flows}
 use Rattle.model.proofs.Laws.Firsts.{FaultsOf, no_faults, faults_unless, faults_append, faults_join, first_iff}
 
@@ -22,7 +22,7 @@ module _ (d : Design) where
     flow_faults_lem context (sequence n p q) = faults_append (flow_faults_lem context p) (flow_faults_lem context q)
     flow_faults_lem context (fall n) = faults_unless _ _ n
     flow_faults_lem context (goto n t x y) = faults_unless _ _ n
-    flow_faults_lem context (branch n e p q) = faults_append (flow_faults_lem _ p) (flow_faults_lem _ q)
+    flow_faults_lem context (branch n e p q) = faults_append (flow_faults_lem (context ++ labels_read d e) p) (flow_faults_lem (context ++ labels_read d e) q)
 
     pub state_flow_faults_lem : FaultsOf (state_flow_faults d s) (Flows d s (state_label d s ∷ []) (body_of d s))
     unfolding state_flow_faults

@@ -30,6 +30,7 @@ module _ {A : Type 0} (f : ℕ → List A) where
 
   pub among_each : {x : A} {k : ℕ} {xs : List ℕ} → Memᴰ k xs → Memᴰ x (f k) → Memᴰ x (join_each f xs)
   unfolding join_each
+  among_each {xs = []} m h = elim m [ ]
   among_each {xs = y ∷ ys} (mathlib.Core.List.Memᴰ.head e) h = mathlib.Core.List.Memᴰ.append_left (join_each f ys) (rw e at h)
   among_each {xs = y ∷ ys} (mathlib.Core.List.Memᴰ.tail m) h = mathlib.Core.List.Memᴰ.append_right (f y) (among_each m h)
 

@@ -97,11 +97,15 @@ module _ (d : Design) where
   -- what a choice has for parameter i
   pub chosen_label : (scope choice : List ℕ) → IsChoice d scope choice → (i : ℕ) → i < length scope → get_or choice i 0 < length d.rows
   chosen_label [] [] none_chosen i l = absurd (omega arith)
+  chosen_label [] (label ∷ choice) c i l = elim c [ ]
+  chosen_label (v ∷ scope) [] c i l = elim c [ ]
   chosen_label (v ∷ scope) (label ∷ choice) (one_more below within more) zero l = below
   chosen_label (v ∷ scope) (label ∷ choice) (one_more below within more) (suc i) l = chosen_label scope choice more i (omega arith)
 
   pub chosen_within : (scope choice : List ℕ) → IsChoice d scope choice → (i : ℕ) → i < length scope → Within d (get_or scope i 0) (get_or choice i 0)
   chosen_within [] [] none_chosen i l = absurd (omega arith)
+  chosen_within [] (label ∷ choice) c i l = elim c [ ]
+  chosen_within (v ∷ scope) [] c i l = elim c [ ]
   chosen_within (v ∷ scope) (label ∷ choice) (one_more below within more) zero l = within
   chosen_within (v ∷ scope) (label ∷ choice) (one_more below within more) (suc i) l = chosen_within scope choice more i (omega arith)
 

@@ -53,6 +53,8 @@ module _ (d : Design) where
   all_chosen : (scope : List ℕ) (test : List ℕ → Bool) → all_of test (choices d scope) ≡ true → (choice : List ℕ) → IsChoice d scope choice → test choice ≡ true
   unfolding choices all_of
   all_chosen [] test h [] none_chosen = and_first (test []) true h
+  all_chosen [] test h (label ∷ choice) c = elim c [ ]
+  all_chosen (v ∷ scope) test h [] c = elim c [ ]
   all_chosen (v ∷ scope) test h (label ∷ choice) (one_more l within more) =
       let here = (all_of_join test (λ label. cond (within_bounds d v label) (map (λ choice. label ∷ choice) (choices d scope)) []) (length d.rows)).0 h label l in
       let taken : all_of test (map (λ choice. label ∷ choice) (choices d scope)) ≡ true = rw (within_iff.1 within) at here in

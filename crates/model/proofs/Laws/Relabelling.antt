@@ -95,6 +95,8 @@ module _ (d : Design) (labels : List ℕ) where
   -- a label within bounds, and a choice
   relabelled_choice : (scope choice : List ℕ) → IsChoice (relabelled d labels) scope choice → IsChoice d scope choice
   relabelled_choice [] [] none_chosen = none_chosen
+  relabelled_choice [] (label ∷ choice) c = elim c [ ]
+  relabelled_choice (v ∷ scope) [] c = elim c [ ]
   relabelled_choice (v ∷ scope) (label ∷ choice) (one_more l within more) =
       one_more l (record { above = within.above; below = within.below }) (relabelled_choice scope choice more)
 

@@ -59,7 +59,7 @@ module _ (d : Design) (able : Raisable d) (upper : List ℕ) (theirs : Labelled 
     raised_least context around (branch n e p q) labels valid own under below flows =
         let inner = inner_valid d able context labels e valid own in
         let inside = inner_under context around labels e own under below in
-        raised_least _ _ q _ inner (raised_valid d able _ p labels inner own) inside (raised_least _ _ p labels inner own inside below flows.0) flows.1
+        raised_least (context ++ labels_read_by labels e) _ q _ inner (raised_valid d able (context ++ labels_read_by labels e) p labels inner own) inside (raised_least (context ++ labels_read_by labels e) _ p labels inner own inside below flows.0) flows.1
 
     -- of two parts that move nothing together, the first moves nothing
     first_stays : (context : List ℕ) (p q : Cmd) (labels : List ℕ) → AreLabels d.rows context → Labelled d labels

@@ -71,7 +71,7 @@ module _ (d : Design) (able : Raisable d) where
   raised_valid context (goto n t x y) labels around own = own
   raised_valid context (branch n e p q) labels around own =
       let inner = inner_valid context labels e around own in
-      raised_valid _ q _ inner (raised_valid _ p labels inner own)
+      raised_valid (context ++ labels_read_by labels e) q _ inner (raised_valid (context ++ labels_read_by labels e) p labels inner own)
 
   pub raised_above : (context : List ℕ) (c : Cmd) (labels : List ℕ) → AreLabels d.rows context → Labelled d labels → AtOrBelow d.rows labels (raised_by d context c labels)
   unfolding raised_by
@@ -88,8 +88,8 @@ module _ (d : Design) (able : Raisable d) where
   raised_above context (goto n t x y) labels around own = below_itself d able.keeps.lattice labels own
   raised_above context (branch n e p q) labels around own =
       let inner = inner_valid context labels e around own in
-      let first = raised_valid _ p labels inner own in
-      below_both d able.keeps.lattice labels _ _ own first (raised_valid _ q _ inner first) (raised_above _ p labels inner own) (raised_above _ q _ inner first)
+      let first = raised_valid (context ++ labels_read_by labels e) p labels inner own in
+      below_both d able.keeps.lattice labels _ _ own first (raised_valid (context ++ labels_read_by labels e) q _ inner first) (raised_above (context ++ labels_read_by labels e) p labels inner own) (raised_above (context ++ labels_read_by labels e) q _ inner first)
 
   raised_spares : (k : ℕ) → (register_at d k).kind ≡ 1 → (context : List ℕ) (c : Cmd) (labels : List ℕ) → SparesPorts d c → get_or (raised_by d context c labels) k 0 ≡ get_or labels k 0
   unfolding raised_by
@@ -98,7 +98,7 @@ module _ (d : Design) (able : Raisable d) where
   raised_spares k port context (sequence n p q) labels spares = raised_spares k port context q _ spares.1 ∙ raised_spares k port context p labels spares.0
   raised_spares k port context (fall n) labels spares = refl
   raised_spares k port context (goto n t x y) labels spares = refl
-  raised_spares k port context (branch n e p q) labels spares = raised_spares k port _ q _ spares.1 ∙ raised_spares k port _ p labels spares.0
+  raised_spares k port context (branch n e p q) labels spares = raised_spares k port (context ++ labels_read_by labels e) q _ spares.1 ∙ raised_spares k port (context ++ labels_read_by labels e) p labels spares.0
 
   -- ---- passes
   raised_itself : (labels : List ℕ) → Labelled d labels → Raised d labels labels

@@ -82,7 +82,7 @@ module _ (d : Design) where
   kept_stands keeps {s} {context} (fall n) stands = (λ place. (λ same. (keeps n).2 s context stands, tt), tt)
   kept_stands keeps {s} {context} (goto n t x y) stands = (λ place. (λ same. (keeps n).1 s t x y context stands, tt), tt)
   kept_stands keeps {s} {context} (branch n e p q) stands =
-      (all_kept_append (flow_rules d s (context ++ labels_read d e) p) (flow_rules d s (context ++ labels_read d e) q)).1 (kept_stands keeps p (in_then stands), kept_stands keeps q (in_else stands))
+      (all_kept_append (flow_rules d s (context ++ labels_read d e) p) (flow_rules d s (context ++ labels_read d e) q)).1 (kept_stands keeps {context = context ++ labels_read d e} p (in_then stands), kept_stands keeps {context = context ++ labels_read d e} q (in_else stands))
 
   kept_table : FlowKeeps → (n : ℕ) → n ≤ length d.states → AllKept (flow_table d n)
   kept_table keeps zero l = tt

@@ -17,6 +17,7 @@ use Rattle.model.specs.Image.{Design, state_at}
 use Rattle.model.specs.Parameters.{label_byte, label_under}
 use Rattle.model.specs.Trees.{Expr, constant, register, binary, Cmd, skip, assign, sequence, fall, goto, branch, body_of}
 use Rattle.model.specs.Shape.{charged_unless}
+use Rattle.model.specs.Flow.{labels_read}
 use Rattle.model.specs.Scopes.{name_kept, is_argument, argument_kept, field_kept, arguments_kept, read_faults, scope_faults, state_scope_faults, scope_fault}
 use Rattle.model.specs.Rules.{Within}
 use Rattle.model.specs.Standing.{Stands, whole, in_first, in_second, in_then, in_else, Reads, itself, in_left, in_right, NameKeeps, ArgumentKeeps, FieldKeeps, ScopeKeeps}
@@ -116,13 +117,13 @@ module _ (d : Design) where
         let charged = charged_cases k (arguments_kept d s t a b) n h in
         let here = rw charged.0 at kept in
         true_or_false (arguments_kept d s t a b) ((arguments_iff s t a b).1 (here.first_argument stands, here.second_argument stands)) charged.1
-    fault_breaks k (branch n e p q) kept stands h =
+    fault_breaks {context = context} k (branch n e p q) kept stands h =
         ⊎_elim
         (λ (condition : Memᴰ k (read_faults d s e)). read_breaks s k e (λ m r reads place. kept.read_condition stands reads place) condition)
         (λ (parts : Memᴰ k (scope_faults d s p ++ scope_faults d s q)).
         ⊎_elim
-        (λ (first : Memᴰ k (scope_faults d s p)). fault_breaks k p kept (in_then stands) first)
-        (λ (second : Memᴰ k (scope_faults d s q)). fault_breaks k q kept (in_else stands) second)
+        (λ (first : Memᴰ k (scope_faults d s p)). fault_breaks {context = context ++ labels_read d e} k p kept (in_then stands) first)
+        (λ (second : Memᴰ k (scope_faults d s q)). fault_breaks {context = context ++ labels_read d e} k q kept (in_else stands) second)
         (Memᴰ.append_cases (scope_faults d s p) parts))
         (Memᴰ.append_cases (read_faults d s e) h)
 

@@ -9,6 +9,7 @@ use Rattle.model.specs.Indices.{join_below}
 use Rattle.model.specs.Image.{Design, state_at}
 use Rattle.model.specs.States.{has_child, sibling_or_self}
 use Rattle.model.specs.Trees.{Cmd, skip, assign, sequence, fall, goto, branch, body_of}
+use Rattle.model.specs.Flow.{labels_read}
 use Rattle.model.specs.Shape.{transfers, charged_unless, shape_faults, state_shape_faults, shape_fault}
 use Rattle.model.specs.Standing.{Stands, whole, in_first, in_second, in_then, in_else, ShapeKeeps}
 use Rattle.model.proofs.Laws.Booleans.{not_false, true_not, true_or_false, true_unless_false, beq_same, beq_make}
@@ -66,14 +67,14 @@ module _ (d : Design) where
     fault_breaks k (goto n t x y) kept stands h =
         let charged = charged_cases k (sibling_or_self d s t) n h in
         true_or_false (sibling_or_self d s t) ((sibling_iff d s t).1 ((rw charged.0 at kept).goto_sibling stands)) charged.1
-    fault_breaks k (branch n e p q) kept stands h =
+    fault_breaks {context = context} k (branch n e p q) kept stands h =
         parts_break
         (beq (transfers p) (transfers q))
         n
         k
         (λ e f. true_or_false (beq (transfers p) (transfers q)) (beq_make (transfers p) (transfers q) (same_transfer p q ((rw e at kept).branches stands))) f)
-        (fault_breaks k p kept (in_then stands))
-        (fault_breaks k q kept (in_else stands))
+        (fault_breaks {context = context ++ labels_read d e} k p kept (in_then stands))
+        (fault_breaks {context = context ++ labels_read d e} k q kept (in_else stands))
         h
 
   pub shape_keeps_iff : (n : ℕ) → (Memᴰ n faults → ⊥) ↔ ShapeKeeps d n
