@@ -1,5 +1,7 @@
 // The C boundary: the calls, exported on numbers and byte slices. `include/caisson.h` documents
 // them for a host.
+#![tactic(auto)]
+
 ghost use Rattle.std.specs.Prelude.{◌≡◌};
 ghost use Rattle.model.specs.Answers.{numbers_of};
 ghost use Rattle.model.specs.Calls.{check, registers_length as registers_length_of, targets_length as targets_length_of, reset, write_port as write_port_of, run};
@@ -23,7 +25,7 @@ use replay_model::TraceRecord;
 
 // An answer as the host is given it: caisson_answer in the header.
 #[repr(C)]
-#[derive(Drop)]
+#[derive(Clone, Copy)]
 pub struct HostAnswer {
     pub number: u32,
     pub place: usize,
@@ -207,7 +209,7 @@ pub extern "C" fn caisson_file(image: &[u8], out: &mut [u8]) -> HostAnswer
 // A part of one of two images as the host is given it, caisson_which in the header: of the second where `second` is
 // 1, else of the first, and so many of its bytes.
 #[repr(C)]
-#[derive(Drop)]
+#[derive(Clone, Copy)]
 pub struct HostWhich {
     pub second: u32,
     pub len: usize,

@@ -1,4 +1,6 @@
 // The calls on slices, with answers as enums. Each makes the image checks first, and makes them once.
+#![tactic(auto)]
+
 pub mod areas;
 pub mod numbers;
 mod ports;

@@ -39,6 +39,8 @@
 // long or of another kind is printed as `bad record` and is the last. So is record 65,536. Behind a
 // write that failed the program writes one line to standard error, and ends. A function that writes
 // answers whether all of it was written.
+#![tactic(auto)]
+
 mod file_records;
 mod gate_records;
 mod journal_records;
@@ -70,7 +72,7 @@ const REGISTERS: usize = 264;
 const TARGETS: usize = 200;
 
 // The head of a record.
-#[derive(Drop)]
+#[derive(Clone, Copy)]
 struct Head {
     kind: u8,
     a: u32,
@@ -78,7 +80,7 @@ struct Head {
 }
 
 // How many bytes at the start of each buffer the calls are lent.
-#[derive(Drop)]
+#[derive(Clone, Copy)]
 struct Lent {
     image: usize,
     registers: usize,
@@ -89,7 +91,7 @@ struct Lent {
 }
 
 // What a record comes to: the next one, the end, or a write that failed.
-#[derive(Drop)]
+#[derive(Clone, Copy)]
 enum Step {
     Next(Lent),
     Ended,

@@ -1,5 +1,7 @@
 // The checker: the passes in the order of the table, to a verdict. Each function judges from its
 // pass on, and knows what the passes before it have established.
+#![tactic(auto)]
+
 mod flow;
 
 ghost use Rattle.std.specs.Prelude.{ℕ, ◌<◌, ◌≤◌, ◌≡◌};

@@ -1,5 +1,7 @@
 // The design table in bytes: its limits, its directory, and one accessor for each field. All other code reads
 // records by these; only what writes images anew (crates `encoding` and `filing_steps`) has places of its own.
+#![tactic(auto)]
+
 pub mod labels;
 pub mod reset;
 pub mod rows;
@@ -21,7 +23,7 @@ ghost use Rattle.design.specs.Resets.{lends};
 
 // What an image's directory says: how many records each section has, and where it begins. The
 // labels begin behind the directory.
-#[derive(Drop)]
+#[derive(Clone, Copy)]
 pub struct Design {
     pub labels: usize,
     pub registers: usize,
@@ -158,28 +160,28 @@ impl Design {
 
     // Each limit is the one that the meaning names.
     pub fn limits()
-        ensures* do_value { do ⌜ (← (⟦Design::LEAST_LABELS⟧).entry) ≡ labels_min ⌝ }
-        ensures* do_value_2 { do ⌜ (← (⟦Design::LABELS⟧).entry) ≡ labels_max ⌝ }
-        ensures* do_value_3 { do ⌜ (← (⟦Design::REGISTERS⟧).entry) ≡ registers_max ⌝ }
-        ensures* do_value_4 { do ⌜ (← (⟦Design::LEAST_STATES⟧).entry) ≡ states_min ⌝ }
-        ensures* do_value_5 { do ⌜ (← (⟦Design::STATES⟧).entry) ≡ states_max ⌝ }
-        ensures* do_value_6 { do ⌜ (← (⟦Design::COMMANDS⟧).entry) ≡ commands_max ⌝ }
-        ensures* do_value_7 { do ⌜ (← (⟦Design::EXPRESSIONS⟧).entry) ≡ expressions_max ⌝ }
-        ensures* do_value_8 { do ⌜ (← (⟦Design::DIRECTORY_LENGTH⟧).entry) ≡ directory_length ⌝ }
-        ensures* do_value_9 { do ⌜ (← (⟦Design::LABEL_LENGTH⟧).entry) ≡ label_length ⌝ }
-        ensures* do_value_10 { do ⌜ (← (⟦Design::REGISTER_LENGTH⟧).entry) ≡ register_length ⌝ }
-        ensures* do_value_11 { do ⌜ (← (⟦Design::STATE_LENGTH⟧).entry) ≡ state_length ⌝ }
-        ensures* do_value_12 { do ⌜ (← (⟦Design::NODE_LENGTH⟧).entry) ≡ node_length ⌝ }
-        ensures* do_value_13 { do ⌜ (← (⟦Design::LARGEST⟧).entry) ≡ largest_image ⌝ }
-        ensures* do_value_14 { do ⌜ (← (⟦Design::WIDTH⟧).entry) ≡ width_max ⌝ }
-        ensures* do_value_15 { do ⌜ (← (⟦Design::WORD_LENGTH⟧).entry) ≡ word_length ⌝ }
-        ensures* do_value_16 { do ⌜ (← (⟦Design::DEPTH⟧).entry) ≡ depth_max ⌝ }
-        ensures* do_value_17 { do ⌜ (← (⟦Design::EXPRESSION_PLACE⟧).entry) ≡ expression_place ⌝ }
-        ensures* do_value_18 { do ⌜ (← (⟦Design::PARAMETERS⟧).entry) ≡ parameters_max ⌝ }
-        ensures* do_value_19 { do ⌜ (← (⟦Design::PARAMETER_REGISTER⟧).entry) ≡ parameter_register ⌝ }
-        ensures* do_value_20 { do ⌜ (← (⟦Design::PARAMETER_LABEL⟧).entry) ≡ parameter_label ⌝ }
-        ensures* do_value_21 { do ⌜ (← (⟦Design::BINDING_LENGTH⟧).entry) ≡ binding_length ⌝ }
-        ensures* do_value_22 { do ⌜ (← (⟦Design::TARGET_LENGTH⟧).entry) ≡ target_length ⌝ }
+        ensures least_labels { Design.LEAST_LABELS ≡ labels_min }
+        ensures labels { Design.LABELS ≡ labels_max }
+        ensures registers { Design.REGISTERS ≡ registers_max }
+        ensures least_states { Design.LEAST_STATES ≡ states_min }
+        ensures states { Design.STATES ≡ states_max }
+        ensures commands { Design.COMMANDS ≡ commands_max }
+        ensures expressions { Design.EXPRESSIONS ≡ expressions_max }
+        ensures directory_length { Design.DIRECTORY_LENGTH ≡ directory_length }
+        ensures label_length { Design.LABEL_LENGTH ≡ label_length }
+        ensures register_length { Design.REGISTER_LENGTH ≡ register_length }
+        ensures state_length { Design.STATE_LENGTH ≡ state_length }
+        ensures node_length { Design.NODE_LENGTH ≡ node_length }
+        ensures largest { Design.LARGEST ≡ largest_image }
+        ensures width { Design.WIDTH ≡ width_max }
+        ensures word_length { Design.WORD_LENGTH ≡ word_length }
+        ensures depth { Design.DEPTH ≡ depth_max }
+        ensures expression_place { Design.EXPRESSION_PLACE ≡ expression_place }
+        ensures parameters { Design.PARAMETERS ≡ parameters_max }
+        ensures parameter_register { Design.PARAMETER_REGISTER ≡ parameter_register }
+        ensures parameter_label { Design.PARAMETER_LABEL ≡ parameter_label }
+        ensures binding_length { Design.BINDING_LENGTH ≡ binding_length }
+        ensures target_length { Design.TARGET_LENGTH ≡ target_length }
     {}
 
     // The row of label i.
@@ -258,28 +260,28 @@ impl Design {
 
     pub fn first_lower(image: &[u8], at: usize, s: usize) -> usize
         requires { state_end at s ≤ length image.now }
-        ensures { (result ≡ (state_in image.now at s).first_lower_of) × (result < 256) }
+        ensures { (result ≡ (state_in image.now at s).first_lower) × (result < 256) }
     {
         wide(image[at + Self::STATE_LENGTH * s + 5])
     }
 
     pub fn first_upper(image: &[u8], at: usize, s: usize) -> usize
         requires { state_end at s ≤ length image.now }
-        ensures { (result ≡ (state_in image.now at s).first_upper_of) × (result < 256) }
+        ensures { (result ≡ (state_in image.now at s).first_upper) × (result < 256) }
     {
         wide(image[at + Self::STATE_LENGTH * s + 6])
     }
 
     pub fn second_lower(image: &[u8], at: usize, s: usize) -> usize
         requires { state_end at s ≤ length image.now }
-        ensures { (result ≡ (state_in image.now at s).second_lower_of) × (result < 256) }
+        ensures { (result ≡ (state_in image.now at s).second_lower) × (result < 256) }
     {
         wide(image[at + Self::STATE_LENGTH * s + 7])
     }
 
     pub fn second_upper(image: &[u8], at: usize, s: usize) -> usize
         requires { state_end at s ≤ length image.now }
-        ensures { (result ≡ (state_in image.now at s).second_upper_of) × (result < 256) }
+        ensures { (result ≡ (state_in image.now at s).second_upper) × (result < 256) }
     {
         wide(image[at + Self::STATE_LENGTH * s + 8])
     }

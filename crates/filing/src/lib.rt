@@ -1,6 +1,8 @@
 // Filing: an image under the numbers of its filing form, and which of two images has the earlier form. Orders and
 // new numbers stand in tables on the stack; each byte of a form is had from them, so that two forms are compared
 // without being written.
+#![tactic(auto)]
+
 mod comparing;
 mod tables;
 mod writing;

@@ -1,5 +1,7 @@
 // Gate tables in bytes: their limits, their directory, and one accessor for each field. No other
 // file of this crate knows where a byte of a table stands.
+#![tactic(auto)]
+
 mod areas;
 mod changes;
 mod stages;
@@ -20,7 +22,7 @@ use model::Answer;
 
 // What a table's directory says: how many records each section has, and where it begins. The
 // inputs begin behind the directory.
-#[derive(Drop)]
+#[derive(Clone, Copy)]
 pub struct Gates {
     pub inputs: usize,
     pub flipflops: usize,
@@ -115,16 +117,16 @@ impl Gates {
 
     // Each limit is the one that the meaning names.
     pub fn limits()
-        ensures* do_value { do ⌜ (← (⟦Gates::INPUTS⟧).entry) ≡ inputs_max ⌝ }
-        ensures* do_value_2 { do ⌜ (← (⟦Gates::FLIPFLOPS⟧).entry) ≡ flip_flops_max ⌝ }
-        ensures* do_value_3 { do ⌜ (← (⟦Gates::GATES⟧).entry) ≡ gates_max ⌝ }
-        ensures* do_value_4 { do ⌜ (← (⟦Gates::WIRES⟧).entry) ≡ wires_max ⌝ }
-        ensures* do_value_5 { do ⌜ (← (⟦Gates::DIRECTORY_LENGTH⟧).entry) ≡ directory_length ⌝ }
-        ensures* do_value_6 { do ⌜ (← (⟦Gates::INPUT_LENGTH⟧).entry) ≡ input_length ⌝ }
-        ensures* do_value_7 { do ⌜ (← (⟦Gates::FLIPFLOP_LENGTH⟧).entry) ≡ flip_flop_length ⌝ }
-        ensures* do_value_8 { do ⌜ (← (⟦Gates::GATE_LENGTH⟧).entry) ≡ gate_length ⌝ }
-        ensures* do_value_9 { do ⌜ (← (⟦Gates::LARGEST⟧).entry) ≡ largest_table ⌝ }
-        ensures* do_value_10 { do ⌜ (← (⟦Gates::SIGNAL_LENGTH⟧).entry) ≡ signal_length ⌝ }
+        ensures inputs { Gates.INPUTS ≡ inputs_max }
+        ensures flipflops { Gates.FLIPFLOPS ≡ flip_flops_max }
+        ensures gates { Gates.GATES ≡ gates_max }
+        ensures wires { Gates.WIRES ≡ wires_max }
+        ensures directory_length { Gates.DIRECTORY_LENGTH ≡ directory_length }
+        ensures input_length { Gates.INPUT_LENGTH ≡ input_length }
+        ensures flipflop_length { Gates.FLIPFLOP_LENGTH ≡ flip_flop_length }
+        ensures gate_length { Gates.GATE_LENGTH ≡ gate_length }
+        ensures largest { Gates.LARGEST ≡ largest_table }
+        ensures signal_length { Gates.SIGNAL_LENGTH ≡ signal_length }
     {}
 
     // The mark of input i.

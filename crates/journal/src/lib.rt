@@ -1,5 +1,7 @@
 // The calls with a journal on slices, with answers as enums. Each makes the image checks first, and makes
 // them once.
+#![tactic(auto)]
+
 mod runs;
 mod steps;
 

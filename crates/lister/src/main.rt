@@ -7,6 +7,8 @@
 // `handed` counts them, and no other line changes it. So what stands on standard output is the
 // listing, or a beginning of it where a write failed (`output-listed`). Whether a write failed is
 // the system's answer, and free.
+#![tactic(auto)]
+
 ghost use Rattle.std.specs.Prelude.{◌+◌, ◌*◌, ◌<◌, ◌≡◌, length, drop};
 ghost use Rattle.model.specs.declared.Answer.TheVariants.{Refused};
 ghost use Rattle.model.specs.Limits.{word_length, target_length};

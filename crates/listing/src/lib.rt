@@ -1,4 +1,6 @@
 // The lines that the cycle lister prints, each put to a lent buffer.
+#![tactic(auto)]
+
 pub mod decimal;
 pub mod fields;
 pub mod lines;

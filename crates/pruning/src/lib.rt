@@ -1,6 +1,8 @@
 // Pruning: the image with only the states that are reached from the root, and with the nodes of their bodies. All
 // that stays is marked and numbered in tables on the stack, so that the length of the result is known before a
 // byte of it is written.
+#![tactic(auto)]
+
 mod writing;
 
 ghost use Rattle.std.specs.Prelude.{◌+◌, ◌*◌, ◌≤◌, ◌<◌, ◌≡◌};

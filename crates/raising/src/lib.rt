@@ -1,6 +1,8 @@
 // Raising: the image with the labels of its inner registers raised as far as the flow rules ask, and no
 // further. The labels are raised in a table on the stack, so that the second area stays as it was until
 // it is known that there is an accepted raising.
+#![tactic(auto)]
+
 mod bytes;
 mod passes;
 

@@ -8,7 +8,7 @@ use model::{Answer, Found, Refusal};
 
 // What is known of the records before one: the cycle of the last, the lowest that 23 refuses, 13 or 17
 // at the lowest that they refuse, for each port the last cycle and one, and how many are superseded.
-#[derive(Drop)]
+#[derive(Clone, Copy)]
 pub struct Judging {
     pub count: u32,
     pub largest: [u32; Design::REGISTERS],

@@ -18,7 +18,7 @@ use running::soundness::judge;
 
 // The answer so far, the count of cycles, and where all is accepted the tables: default targets, what is
 // in scope of each state, and of each port the largest value, 0 where no port is.
-#[derive(Drop)]
+#[derive(Clone, Copy)]
 pub struct Prepared {
     pub answer: Answer,
     pub count: u32,
