@@ -47,11 +47,11 @@ pub record Fresh (n : ℕ) (table : List ℕ) : Type 0 where
   pub entry : (k : ℕ) → k < n → get_or table k 0 ≡ 0
 
 -- four tables for the nodes of a design, of which those of counts are fresh
-pub record NodesFresh (x : Described) (command_uses expression_uses command_depths expression_depths : List ℕ) : Type 0 where
-  pub command_uses : Fresh x.commands command_uses
-  pub expression_uses : Fresh x.expressions expression_uses
-  pub command_depths : x.commands ≤ length command_depths
-  pub expression_depths : x.expressions ≤ length expression_depths
+pub record NodesFresh (x : Described) (uses_of_commands uses_of_expressions depths_of_commands depths_of_expressions : List ℕ) : Type 0 where
+  pub command_uses : Fresh x.commands uses_of_commands
+  pub expression_uses : Fresh x.expressions uses_of_expressions
+  pub command_depths : x.commands ≤ length depths_of_commands
+  pub expression_depths : x.expressions ≤ length depths_of_expressions
 
 -- a table of counts that has 1 exactly where one of n nodes keeps the rule, and a table of depths that has at most the limit exactly there
 pub record OnceWhere (rule : ℕ → Bool) (table : List ℕ) (n : ℕ) : Type 0 where
@@ -63,11 +63,11 @@ pub record ShallowWhere (rule : ℕ → Bool) (table : List ℕ) (n : ℕ) : Typ
   pub entry : (k : ℕ) → k < n → leb (get_or table k 0) depth_max ≡ rule k
 
 -- what the four tables tell of the nodes
-pub record NodesTold (image : List ℕ) (x : Described) (command_uses expression_uses command_depths expression_depths : List ℕ) : Type 0 where
-  pub command_uses : OnceWhere (command_used_once (design_of image)) command_uses x.commands
-  pub expression_uses : OnceWhere (expression_used_once (design_of image)) expression_uses x.expressions
-  pub command_depths : ShallowWhere (command_depth_kept (design_of image)) command_depths x.commands
-  pub expression_depths : ShallowWhere (expression_depth_kept (design_of image)) expression_depths x.expressions
+pub record NodesTold (image : List ℕ) (x : Described) (uses_of_commands uses_of_expressions depths_of_commands depths_of_expressions : List ℕ) : Type 0 where
+  pub command_uses : OnceWhere (command_used_once (design_of image)) uses_of_commands x.commands
+  pub expression_uses : OnceWhere (expression_used_once (design_of image)) uses_of_expressions x.expressions
+  pub command_depths : ShallowWhere (command_depth_kept (design_of image)) depths_of_commands x.commands
+  pub expression_depths : ShallowWhere (expression_depth_kept (design_of image)) depths_of_expressions x.expressions
 
 -- what both loops found and, where that is nothing, what the four tables then tell, which were fresh; the uses by states are counted before the loops
 pub record NodesPassed (image : List ℕ) (x : Described) (f : Found) (command_uses expression_uses command_depths expression_depths : List ℕ) : Type 0 where

@@ -111,7 +111,7 @@ pub fn put_state(
     second_upper: usize,
 )
     requires { (at + state_length ≤ length out.old) × (parent < 256) × (label < 256) × (parameters < 256) × (first_lower < 256) × (first_upper < 256) × (second_lower < 256) × (second_upper < 256) }
-    ensures { out.new ≡ overwritten_at at (state_bytes (record { parent = parent; label = label; command = command; parameters = parameters; first_lower_of = first_lower; first_upper_of = first_upper; second_lower_of = second_lower; second_upper_of = second_upper })) out.old }
+    ensures { out.new ≡ overwritten_at at (state_bytes (record { parent = parent; label = label; command = command; parameters = parameters; first_lower = first_lower; first_upper = first_upper; second_lower = second_lower; second_upper = second_upper })) out.old }
 {
     put_head(out, at, parent, label, command);
     put_parameters(

@@ -167,11 +167,11 @@ module _ {table : List ℕ} {x : Gates} (known : Accepts table x) where
           let m = gates_most d in
           let ic = inputs_count d in
           let fc = flipflops_count d in
-          let low = first_lower_lem in
+          let low = first_lower in
           omega arith
 
       pub first_small : {all : List Signal} {bytes : List ℕ} → Carries all (first_gate (table_of table) + g) bytes → get_or bytes n 0 < 4
-      first_small so = carried_small so first_lower_lem
+      first_small so = carried_small so first_lower
 
     module _ (e : n ≡ (gate_in table x.gates_at g).second) where
       second_lower : n < first_gate (table_of table) + g
@@ -185,11 +185,11 @@ module _ {table : List ℕ} {x : Gates} (known : Accepts table x) where
           let m = gates_most d in
           let ic = inputs_count d in
           let fc = flipflops_count d in
-          let low = second_lower_lem in
+          let low = second_lower in
           omega arith
 
       pub second_small : {all : List Signal} {bytes : List ℕ} → Carries all (first_gate (table_of table) + g) bytes → get_or bytes n 0 < 4
-      second_small so = carried_small so second_lower_lem
+      second_small so = carried_small so second_lower
 
   pub gate_inside_wires : {g : ℕ} (bytes : List ℕ) → g < x.gates → length bytes ≡ 4608 → x.inputs + x.flipflops + g < length bytes
   gate_inside_wires bytes l long =
@@ -220,8 +220,8 @@ module _ {table : List ℕ} {x : Gates} (known : Accepts table x) where
       let more : first_gate t + (g + 1) ≡ first_gate t + g + 1 = omega arith in
       let lower : Carries (settled t start (g + 1)) (first_gate t + g) bytes = carries_same so (λ w b. rw (add-one g) (settled_lower t start g w (omega arith))) in
       let out : signal_at (settled t start (g + 1)) (first_gate t + g) ≡ nand (signal_at (settled t start g) (gate_at t g).first) (signal_at (settled t start g) (gate_at t g).second) = rw (add-one g, ← place) (settled_gate t start g) in
-      let first : signal_of (get_or bytes n 0) ≡ signal_at (settled t start g) (gate_at t g).first = carried so (first_lower_lem l p) ∙ ap (signal_at (settled t start g)) (first_in d l p) in
-      let second : signal_of (get_or bytes m 0) ≡ signal_at (settled t start g) (gate_at t g).second = carried so (second_lower_lem l q) ∙ ap (signal_at (settled t start g)) (second_in d l q) in
+      let first : signal_of (get_or bytes n 0) ≡ signal_at (settled t start g) (gate_at t g).first = carried so (first_lower l p) ∙ ap (signal_at (settled t start g)) (first_in d l p) in
+      let second : signal_of (get_or bytes m 0) ≡ signal_at (settled t start g) (gate_at t g).second = carried so (second_lower l q) ∙ ap (signal_at (settled t start g)) (second_in d l q) in
       let made : nand (signal_of (get_or bytes n 0)) (signal_of (get_or bytes m 0)) ≡ signal_at (settled t start (g + 1)) (first_gate t + g) = ap₂ nand first second ∙ sym out in
       rw (here, more) (carries_more lower inside (e ∙ ap code_of made) (rw out (nand_sound _ _)))
 

@@ -123,6 +123,8 @@ module _ {d d' : Design} {state command expression : ℕ → ℕ} {S C E : ℕ �
 
   choice_was : (scope choice : List ℕ) → TheirStatesStay S scope → IsChoice d' (map (moved state) scope) choice → IsChoice d scope choice
   choice_was [] [] stay none_chosen = none_chosen
+  choice_was [] (label ∷ choice) stay c = elim c [ ]
+  choice_was (v ∷ scope) [] stay c = elim c [ ]
   choice_was (v ∷ scope) (label ∷ choice) stay (one_more l within more) =
       one_more (rw new.rows at l) ((within_iff d).0 (sym (same_within v label stay.0) ∙ (within_iff d').1 within)) (choice_was scope choice stay.1 more)
 

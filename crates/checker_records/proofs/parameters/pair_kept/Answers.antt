@@ -1,0 +1,18 @@
+use Rattle.checker_records.proofs.ParameterRules.{pair_laws}
+use borrow.Author.Rules.{rules}
+use Rattle.checker_records.proofs.parameters.pair_kept.Goals as goal
+
+pub returns-then-not-used : goal.returns-then-not-used
+returns-then-not-used c = search (pair_laws, rules)
+
+pub returns-then-design-lower : goal.returns-then-design-lower
+returns-then-design-lower c = search (pair_laws, rules)
+
+pub returns-then-design-upper : goal.returns-then-design-upper
+returns-then-design-upper c = search (pair_laws, rules)
+
+pub flows-requires : goal.flows-requires
+flows-requires c = search (pair_laws, rules)
+
+pub returns : goal.returns
+returns c = search (pair_laws, rules)

@@ -1,0 +1,16 @@
+use Rattle.model.proofs.Laws.Passes.{pass_laws}
+use Rattle.design.proofs.Laws.{states_count}
+use borrow.Author.Rules.{rules}
+use Rattle.checker_records.proofs.states.states.Goals as goal
+
+pub loop-s-init : goal.loop-s-init
+loop-s-init c = search (pass_laws, rules)
+
+pub returns-then-not-state_kept : goal.returns-then-not-state_kept
+returns-then-not-state_kept c = search (pass_laws, states_count, rules)
+
+pub loop-s-preserved : goal.loop-s-preserved
+loop-s-preserved c = search (pass_laws, rules)
+
+pub returns : goal.returns
+returns c = search (pass_laws, states_count, rules)
