@@ -1,0 +1,18 @@
+use Rattle.checker_flow.proofs.ScopeRules.{bounds_laws}
+use borrow.Author.Rules.{rules}
+use Rattle.checker_flow.proofs.masks.lower_in_scope.Goals as goal
+
+pub bounds-scopes-s : goal.bounds-scopes-s
+bounds-scopes-s c = search (bounds_laws, rules)
+
+pub returns-then-wide-i : goal.returns-then-wide-i
+returns-then-wide-i c = search (bounds_laws, rules)
+
+pub bounds-scopes-s-2 : goal.bounds-scopes-s-2
+bounds-scopes-s-2 c = search (bounds_laws, rules)
+
+pub lower_bound-requires : goal.lower_bound-requires
+lower_bound-requires c = search (bounds_laws, rules)
+
+pub returns : goal.returns
+returns c = search (bounds_laws, rules)

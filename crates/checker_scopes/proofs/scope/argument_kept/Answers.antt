@@ -1,0 +1,21 @@
+use Rattle.checker_scopes.proofs.ArgumentRules.{argument_rules}
+use borrow.Author.Rules.{rules}
+use Rattle.checker_scopes.proofs.scope.argument_kept.Goals as goal
+
+pub returns-then-not-argument : goal.returns-then-not-argument
+returns-then-not-argument c = search (argument_rules, rules)
+
+pub least-least-requires : goal.least-least-requires
+least-least-requires c = search (argument_rules, rules)
+
+pub most-most-requires : goal.most-most-requires
+most-most-requires c = search (argument_rules, rules)
+
+pub flows-requires : goal.flows-requires
+flows-requires c = search (argument_rules, rules)
+
+pub flows-requires-2 : goal.flows-requires-2
+flows-requires-2 c = search (argument_rules, rules)
+
+pub returns : goal.returns
+returns c = search (argument_rules, rules)

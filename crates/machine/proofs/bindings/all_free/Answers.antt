@@ -1,0 +1,25 @@
+use Rattle.model.proofs.Laws.Passes.{pass_laws}
+use Rattle.design.proofs.Laws.{states_count}
+use borrow.Author.Rules.{rules}
+use Rattle.machine.proofs.bindings.all_free.Goals as goal
+
+pub loop-s-init : goal.loop-s-init
+loop-s-init c = search (pass_laws, rules)
+
+pub free-requires : goal.free-requires
+free-requires c = search (pass_laws, rules)
+
+pub returns-then-not-free : goal.returns-then-not-free
+returns-then-not-free c = search (pass_laws, states_count, rules)
+
+pub overflow_add-s : goal.overflow_add-s
+overflow_add-s c = search (pass_laws, states_count, rules)
+
+pub loop-s-smaller : goal.loop-s-smaller
+loop-s-smaller c = search (pass_laws, states_count, rules)
+
+pub loop-s-preserved : goal.loop-s-preserved
+loop-s-preserved c = search (pass_laws, rules)
+
+pub returns : goal.returns
+returns c = search (pass_laws, states_count, rules)
