@@ -154,7 +154,7 @@ module _ (d : Table) (plain : plain_design d ≡ true) where
       let first_upper : (state_at d s).first_upper ≡ 0 = omega arith in
       let second_lower : (state_at d s).second_lower ≡ 0 = omega arith in
       let second_upper : (state_at d s).second_upper ≡ 0 = omega arith in
-      rw (plain_state_lem s l, first_lower_lem, first_upper, second_lower_lem, second_upper, plain_scope d plain_state_lem s, or-true (takes_parameters d s), plain_label s l) refl
+      rw (plain_state_lem s l, first_lower, first_upper, second_lower, second_upper, plain_scope d plain_state_lem s, or-true (takes_parameters d s), plain_label s l) refl
 
   -- ---- ports
   module _ (commands : CommandsKept d) where

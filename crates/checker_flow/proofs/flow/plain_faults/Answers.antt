@@ -13,22 +13,20 @@ pub state_flow-first-requires : goal.state_flow-first-requires
 state_flow-first-requires c = search (plain_masks, own_plain, rules)
 
 pub returns-then-first-lt-NOWHERE : goal.returns-then-first-lt-NOWHERE
-returns-then-first-lt-NOWHERE c = let judged = c.before.before in
-    let start = judged.before.before.before.before.before.before.before.before.before.before in
-    let inv = judged.before.before.before.before.loop.invariant in
-    let state = judged.before.before.if1.true in
-    let table = plain_masks start.requires.0 inv.2 start.requires.1 start.requires.2 state in
-    let first = state_first _ _ judged.state-flow.ensures table start.requires.0 start.requires.1 start.requires.3 start.requires.4 state in
-    some_here start.requires.0 inv.0 first state c.if-first-lt-NOWHERE.true c.answer.ensures
+returns-then-first-lt-NOWHERE c =
+    let inv = c.loop-s.invariant in
+    let state = c.loop-s-test.true in
+    let table = plain_masks c.requires.0 inv.2 c.requires.1 c.requires.2 state in
+    let first = state_first _ _ c.state_flow-first.ensures table c.requires.0 c.requires.1 c.requires.3 c.requires.4 state in
+    some_here c.requires.0 inv.0 first state c.if-first-lt-NOWHERE.true c.answer.ensures
 
 pub loop-s-preserved : goal.loop-s-preserved
-loop-s-preserved c = let judged = c.before in
-    let start = judged.before.before.before.before.before.before.before.before.before.before in
-    let inv = judged.before.before.before.before.loop.invariant in
-    let state = judged.before.before.if1.true in
-    let table = plain_masks start.requires.0 inv.2 start.requires.1 start.requires.2 state in
-    let first = state_first _ _ judged.state-flow.ensures table start.requires.0 start.requires.1 start.requires.3 start.requires.4 state in
-    (none_more start.requires.0 inv.0 _ first c.if-first-lt-NOWHERE.false, search rules, search rules)
+loop-s-preserved c =
+    let inv = c.loop-s.invariant in
+    let state = c.loop-s-test.true in
+    let table = plain_masks c.requires.0 inv.2 c.requires.1 c.requires.2 state in
+    let first = state_first _ _ c.state_flow-first.ensures table c.requires.0 c.requires.1 c.requires.3 c.requires.4 state in
+    (none_more c.requires.0 inv.0 _ first c.if-first-lt-NOWHERE.false, search rules, search rules)
 
 pub returns : goal.returns
 returns c = search (faults_laws, rules)

@@ -18,20 +18,17 @@ pub put_own-requires : goal.put_own-requires
 put_own-requires c = (search rules, search (lower_small, upper_small, rules), search (lower_small, upper_small, rules))
 
 pub returns : goal.returns
-returns c = let own = c.before.before in
-    let rows = own.before.before.before.before in
-    let tested = rows.before.before.before.before.before.before in
-    let start = tested.before.before.before.before.before in
+returns c =
     masks_made
     _
-    own.put-own.ensures
-    rows.put-rows.ensures
+    c.put_own.ensures
+    c.put_rows.ensures
     (search rules)
     (search rules)
     (search rules)
     (search rules)
-    tested.if1.false
+    c.if-scopes-s-eq0.false
     refl
-    start.requires.2
-    start.requires.0
-    start.requires.4
+    c.requires.2
+    c.requires.0
+    c.requires.4

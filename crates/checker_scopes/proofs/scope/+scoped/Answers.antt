@@ -85,7 +85,7 @@ pub returns-in-4 : goal.returns-in-4
 returns-in-4 t c = search (scoped_laws, rules)
 
 pub returns-in-5 : goal.returns-in-5
-returns-in-5 t c = search (scoped_branch c.requires.1.0, c.requires.1.1)
+returns-in-5 t c = search (scoped_branch c.requires.0, c.requires.1)
 
 pub returns-in_default : goal.returns-in_default
 returns-in_default t c = search (scoped_laws, rules)
