@@ -130,8 +130,8 @@ module _ (d : Design) (keeps : StructureKeeps d) (some : 0 < length d.states) wh
           rw
           (cmd_sequence d m e holds.1 holds.2)
           (⊎_elim
-          (λ (f : p ≡ (command_at d m).a). HoldsGoto.in-first (rw f at g))
-          (λ (f : Memᴰ p ((command_at d m).b ∷ [])). HoldsGoto.in-second (rw (Memᴰ.eq_of_singleton f) at g))
+          (λ (f : p ≡ (command_at d m).a). HoldsGoto.in_first (rw f at g))
+          (λ (f : Memᴰ p ((command_at d m).b ∷ [])). HoldsGoto.in_second (rw (Memᴰ.eq_of_singleton f) at g))
           (Memᴰ.cases_cons k))
       go falls e holds k = absurd (Memᴰ.not-nil k)
       go goes e holds k = absurd (Memᴰ.not-nil k)
@@ -140,7 +140,7 @@ module _ (d : Design) (keeps : StructureKeeps d) (some : 0 < length d.states) wh
           (cmd_branch d m e holds.2 holds.3)
           (⊎_elim
           (λ (f : p ≡ (command_at d m).b). HoldsGoto.in_then (rw f at g))
-          (λ (f : Memᴰ p ((command_at d m).c ∷ [])). HoldsGoto.in-else (rw (Memᴰ.eq_of_singleton f) at g))
+          (λ (f : Memᴰ p ((command_at d m).c ∷ [])). HoldsGoto.in_else (rw (Memᴰ.eq_of_singleton f) at g))
           (Memᴰ.cases_cons k))
       go unknown_command e holds k = absurd holds
 

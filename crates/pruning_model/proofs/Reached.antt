@@ -55,33 +55,33 @@ module _ (d : Design) (s : ℕ) where
   -- shape: a fall needs a child, a goto names a sibling
   pub fall_shaped : {c : Cmd} → HoldsFall c → Shaped d s c → has_child d s ≡ true
   fall_shaped HoldsFall.itself shape = shape
-  fall_shaped (HoldsFall.in-first h) shape = fall_shaped h shape.1
-  fall_shaped (HoldsFall.in-second h) shape = fall_shaped h shape.2
+  fall_shaped (HoldsFall.in_first h) shape = fall_shaped h shape.1
+  fall_shaped (HoldsFall.in_second h) shape = fall_shaped h shape.2
   fall_shaped (HoldsFall.in_then h) shape = fall_shaped h shape.1
-  fall_shaped (HoldsFall.in-else h) shape = fall_shaped h shape.2
+  fall_shaped (HoldsFall.in_else h) shape = fall_shaped h shape.2
 
   pub goto_shaped : {t : ℕ} {c : Cmd} → HoldsGoto t c → Shaped d s c → sibling_or_self d s t ≡ true
   goto_shaped HoldsGoto.itself shape = shape
-  goto_shaped (HoldsGoto.in-first h) shape = goto_shaped h shape.1
-  goto_shaped (HoldsGoto.in-second h) shape = goto_shaped h shape.2
+  goto_shaped (HoldsGoto.in_first h) shape = goto_shaped h shape.1
+  goto_shaped (HoldsGoto.in_second h) shape = goto_shaped h shape.2
   goto_shaped (HoldsGoto.in_then h) shape = goto_shaped h shape.1
-  goto_shaped (HoldsGoto.in-else h) shape = goto_shaped h shape.2
+  goto_shaped (HoldsGoto.in_else h) shape = goto_shaped h shape.2
 
   pub fall_leads : {q : ℕ} {c : Cmd} → HoldsFall c → DefaultChild d s q → Memᴰ q (leads_to (default_target d s) c)
   unfolding leads_to
   fall_leads {q} HoldsFall.itself child = Memᴰ.head (sym (default_is d s q child.child child.lowest))
-  fall_leads (HoldsFall.in-first {q = q} h) child = Memᴰ.append_left (leads_to (default_target d s) q) (fall_leads h child)
-  fall_leads (HoldsFall.in-second {p = p} h) child = Memᴰ.append_right (leads_to (default_target d s) p) (fall_leads h child)
+  fall_leads (HoldsFall.in_first {q = q} h) child = Memᴰ.append_left (leads_to (default_target d s) q) (fall_leads h child)
+  fall_leads (HoldsFall.in_second {p = p} h) child = Memᴰ.append_right (leads_to (default_target d s) p) (fall_leads h child)
   fall_leads (HoldsFall.in_then {q = q} h) child = Memᴰ.append_left (leads_to (default_target d s) q) (fall_leads h child)
-  fall_leads (HoldsFall.in-else {p = p} h) child = Memᴰ.append_right (leads_to (default_target d s) p) (fall_leads h child)
+  fall_leads (HoldsFall.in_else {p = p} h) child = Memᴰ.append_right (leads_to (default_target d s) p) (fall_leads h child)
 
   pub goto_leads : {t : ℕ} {c : Cmd} → HoldsGoto t c → Memᴰ t (leads_to (default_target d s) c)
   unfolding leads_to
   goto_leads HoldsGoto.itself = Memᴰ.head refl
-  goto_leads (HoldsGoto.in-first {q = q} h) = Memᴰ.append_left (leads_to (default_target d s) q) (goto_leads h)
-  goto_leads (HoldsGoto.in-second {p = p} h) = Memᴰ.append_right (leads_to (default_target d s) p) (goto_leads h)
+  goto_leads (HoldsGoto.in_first {q = q} h) = Memᴰ.append_left (leads_to (default_target d s) q) (goto_leads h)
+  goto_leads (HoldsGoto.in_second {p = p} h) = Memᴰ.append_right (leads_to (default_target d s) p) (goto_leads h)
   goto_leads (HoldsGoto.in_then {q = q} h) = Memᴰ.append_left (leads_to (default_target d s) q) (goto_leads h)
-  goto_leads (HoldsGoto.in-else {p = p} h) = Memᴰ.append_right (leads_to (default_target d s) p) (goto_leads h)
+  goto_leads (HoldsGoto.in_else {p = p} h) = Memᴰ.append_right (leads_to (default_target d s) p) (goto_leads h)
 
   -- and it leads to nothing else
   abbrev pub LeadsTo : ℕ → Cmd → Type 0
@@ -107,11 +107,11 @@ module _ (d : Design) (s : ℕ) where
   leads_cases (skip n) shape h = absurd (Memᴰ.not-nil h)
   leads_cases (assign n r e) shape h = absurd (Memᴰ.not-nil h)
   leads_cases (sequence n p q) shape h =
-      leads_parts HoldsFall.in-first HoldsFall.in-second HoldsGoto.in-first HoldsGoto.in-second (leads_either (leads_cases p shape.1) (leads_cases q shape.2) h)
+      leads_parts HoldsFall.in_first HoldsFall.in_second HoldsGoto.in_first HoldsGoto.in_second (leads_either (leads_cases p shape.1) (leads_cases q shape.2) h)
   leads_cases (fall n) shape h = inl (HoldsFall.itself, rw (Memᴰ.eq_of_singleton h) (default_is_child shape))
   leads_cases (goto n t a b) shape h = inr (rw (Memᴰ.eq_of_singleton h) HoldsGoto.itself)
   leads_cases (branch n e p q) shape h =
-      leads_parts HoldsFall.in_then HoldsFall.in-else HoldsGoto.in_then HoldsGoto.in-else (leads_either (leads_cases p shape.1) (leads_cases q shape.2) h)
+      leads_parts HoldsFall.in_then HoldsFall.in_else HoldsGoto.in_then HoldsGoto.in_else (leads_either (leads_cases p shape.1) (leads_cases q shape.2) h)
 
 -- ---- rounds
 module _ (d : Design) where

@@ -24,10 +24,10 @@ module _ (state command expression : ℕ → ℕ) where
   pub goto_renumbered : {t : ℕ} {c : Cmd} → HoldsGoto t c → HoldsGoto (state t) (renumbered_cmd state command expression c)
   unfolding renumbered_cmd
   goto_renumbered HoldsGoto.itself = HoldsGoto.itself
-  goto_renumbered (HoldsGoto.in-first h) = HoldsGoto.in-first (goto_renumbered h)
-  goto_renumbered (HoldsGoto.in-second h) = HoldsGoto.in-second (goto_renumbered h)
+  goto_renumbered (HoldsGoto.in_first h) = HoldsGoto.in_first (goto_renumbered h)
+  goto_renumbered (HoldsGoto.in_second h) = HoldsGoto.in_second (goto_renumbered h)
   goto_renumbered (HoldsGoto.in_then h) = HoldsGoto.in_then (goto_renumbered h)
-  goto_renumbered (HoldsGoto.in-else h) = HoldsGoto.in-else (goto_renumbered h)
+  goto_renumbered (HoldsGoto.in_else h) = HoldsGoto.in_else (goto_renumbered h)
 
 module _ (d : Design) (keeps : DesignKeeps d) (some : 0 < length d.states) where
   new : Renumbers d (pruned d) (new_state d) (new_command d) (new_expression d) (Reached d) (CommandStays d) (ExpressionStays d)

@@ -46,7 +46,7 @@ module _ (d : Table) (masks : List ℕ) (some : 0 < length d.rows) where
   under_labelling mask (sequence n p q) labels own = under_labelling mask q _ (under_labelling mask p labels own)
   under_labelling mask (fall n) labels own = own
   under_labelling mask (goto n t a b) labels own = own
-  under_labelling mask (branch n e p q) labels own = under_labelling _ q _ (under_labelling _ p labels own)
+  under_labelling mask (branch n e p q) labels own = under_labelling (bit_and mask (mask_read labels masks e)) q _ (under_labelling (bit_and mask (mask_read labels masks e)) p labels own)
 
 -- those of the meaning, as the code has them
 pub labelling_of : {d : Table} {labels : List ℕ} → Labelled d labels → Labelling d labels

@@ -1,0 +1,32 @@
+use mathlib.Core.Logic.{⊎_elim}
+use Rattle.design.proofs.FieldRules.{expression_place_inside}
+use Rattle.pruning_steps.proofs.WritingRules.{operand_a_has, operand_b_has, operation_new, low_new, high_new}
+use borrow.Author.Rules.{rules}
+use Rattle.pruning_steps.proofs.writing.write_expression.Goals as goal
+
+pub kind-kind-requires : goal.kind-kind-requires
+kind-kind-requires c = search (expression_place_inside, rules)
+
+pub item-item-requires : goal.item-item-requires
+item-item-requires c = search (expression_place_inside, rules)
+
+pub part_a-a-requires : goal.part_a-a-requires
+part_a-a-requires c = search (expression_place_inside, rules)
+
+pub part_b-b-requires : goal.part_b-b-requires
+part_b-b-requires c = search (expression_place_inside, rules)
+
+pub part_c-c-requires : goal.part_c-c-requires
+part_c-c-requires c = search (expression_place_inside, rules)
+
+pub new_number-first-requires : goal.new_number-first-requires
+new_number-first-requires c = search (operand_a_has, rules)
+
+pub new_number-second-requires : goal.new_number-second-requires
+new_number-second-requires c = search (operand_b_has, rules)
+
+pub returns-in-2-to-11 : goal.returns-in-2-to-11
+returns-in-2-to-11 c = search (operation_new, rules)
+
+pub returns-in_default : goal.returns-in_default
+returns-in_default c = ⊎_elim (λ low. search (low_new, low)) (λ high. search (high_new, high)) c.if-kind-lt2.branch
