@@ -44,6 +44,7 @@ place_at_most (x ∷ xs) n =
     (decide (eqb x n))
 
 pub place_below : (xs : List ℕ) (n : ℕ) → Memᴰ n xs → place_in xs n < length xs
+place_below [] n m = elim m [ ]
 place_below (x ∷ xs) n (Memᴰ.head e) = omega (arith, place_here x n xs (eq-eqb x n (sym e)))
 place_below (x ∷ xs) n (Memᴰ.tail h) =
     let later = place_below xs n h in
@@ -53,6 +54,7 @@ place_below (x ∷ xs) n (Memᴰ.tail h) =
     (decide (eqb x n))
 
 pub place_entry : (xs : List ℕ) (n : ℕ) → Memᴰ n xs → get_or xs (place_in xs n) 0 ≡ n
+place_entry [] n m = elim m [ ]
 place_entry (x ∷ xs) n (Memᴰ.head e) = rw (place_here x n xs (eq-eqb x n (sym e))) (sym e)
 place_entry (x ∷ xs) n (Memᴰ.tail h) =
     let later = place_entry xs n h in

@@ -61,10 +61,14 @@ unfolding mark_all
 marks_kept [] t k l h = h
 marks_kept (u ∷ us) t k l h = marks_kept us (set t u 1) k (omega (arith, length-set t u 1)) (mark_kept t u k l h)
 
-marks_among : {us : List ℕ} (t : List ℕ) (k : ℕ) → k < length t → Memᴰ k us → get_or (mark_all t us) k 0 ≡ 1
+marks_among_at : (k : ℕ) {us : List ℕ} (t : List ℕ) → k < length t → Memᴰ k us → get_or (mark_all t us) k 0 ≡ 1
 unfolding mark_all
-marks_among {us = u ∷ us} t k l (Memᴰ.head e) = marks_kept us (set t u 1) k (omega (arith, length-set t u 1)) (rw (← e) (get_or-set_same t k 1 0 l))
-marks_among {us = u ∷ us} t k l (Memᴰ.tail m) = marks_among (set t u 1) k (omega (arith, length-set t u 1)) m
+marks_among_at k {us = []} t l m = elim m [ ]
+marks_among_at k {us = u ∷ us} t l (Memᴰ.head e) = marks_kept us (set t u 1) k (omega (arith, length-set t u 1)) (rw (← e) (get_or-set_same t k 1 0 l))
+marks_among_at k {us = u ∷ us} t l (Memᴰ.tail m) = marks_among_at k (set t u 1) (omega (arith, length-set t u 1)) m
+
+marks_among : {us : List ℕ} (t : List ℕ) (k : ℕ) → k < length t → Memᴰ k us → get_or (mark_all t us) k 0 ≡ 1
+marks_among t k = marks_among_at k t
 
 marks_cases : (us t : List ℕ) (k : ℕ) → Memᴰ k us ⊎ (get_or (mark_all t us) k 0 ≡ get_or t k 0)
 unfolding mark_all

@@ -1,8 +1,8 @@
-use mathlib.Core.Logic.{⊎_elim}
 use Rattle.design.proofs.FieldRules.{expression_place_inside}
 use Rattle.pruning_steps.proofs.WritingRules.{operand_a_has, operand_b_has, operation_new, low_new, high_new}
 use borrow.Author.Rules.{rules}
 use Rattle.pruning_steps.proofs.writing.write_expression.Goals as goal
+use Rattle.pruning_steps.proofs.writing.write_expression.Goals.{in_default-via-then-kind-lt2, in_default-via-else-kind-lt2+else-kind-lt12}
 
 pub kind-kind-requires : goal.kind-kind-requires
 kind-kind-requires c = search (expression_place_inside, rules)
@@ -29,4 +29,8 @@ pub returns-in-2-to-11 : goal.returns-in-2-to-11
 returns-in-2-to-11 c = search (operation_new, rules)
 
 pub returns-in_default : goal.returns-in_default
-returns-in_default c = ⊎_elim (λ low. search (low_new, low)) (λ high. search (high_new, high)) c.if-kind-lt2.branch
+returns-in_default c =
+    elim c.in_default.branch [
+      in_default-via-then-kind-lt2 w ↦ search (low_new, rules)
+    | in_default-via-else-kind-lt2+else-kind-lt12 w ↦ search (high_new, rules)
+    ]
