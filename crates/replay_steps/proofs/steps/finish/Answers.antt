@@ -1,0 +1,20 @@
+use Rattle.model.specs.Image.{AreBytes}
+use Rattle.running.proofs.RunningRules.{are_bytes}
+use Rattle.replay_steps.proofs.StepRules.{finish_laws}
+use borrow.Author.Rules.{rules}
+use Rattle.replay_steps.proofs.steps.finish.Goals as goal
+
+pub overflow_sub-prepared : goal.overflow_sub-prepared
+overflow_sub-prepared c = search (finish_laws, rules)
+
+pub run-requires : goal.run-requires
+run-requires c = search (finish_laws, rules)
+
+pub returns-in-Refused : goal.returns-in-Refused
+returns-in-Refused c = search (finish_laws, rules)
+
+pub returns-in-Accepted : goal.returns-in-Accepted
+returns-in-Accepted c =
+    let registers = c.run.new.registers in
+    let bytes : AreBytes registers = are_bytes registers c.type_inv.registers in
+    search (finish_laws, rules)
