@@ -51,10 +51,10 @@ module _ {first second : List ℕ} {i : ℕ} (alike : FormsAlike first second i)
     inside' = omega (arith, second_goes_on, alike.second_long)
 
     pub second_lower : other < one → true ≡ comes_before (filed_image second) (filed_image first)
-    second_lower_lem h = sym (alike_lower alike.alike inside' inside (omega arith))
+    second_lower h = sym (alike_lower alike.alike inside' inside (omega arith))
 
     pub first_lower : one < other → false ≡ comes_before (filed_image second) (filed_image first)
-    first_lower_lem h = sym (alike_higher alike.alike inside' inside (omega arith))
+    first_lower h = sym (alike_higher alike.alike inside' inside (omega arith))
 
     pub forms_next : one ≤ other → other ≤ one → FormsAlike first second (i + 1)
     forms_next h k =

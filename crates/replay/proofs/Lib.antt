@@ -1,3 +1,1 @@
--- Slices that are lent again for a call in a walk, and come back.
-pub mod Again
-pub mod LentShared
+-- No lemma of its own: crate `replay_steps` has those of the steps.

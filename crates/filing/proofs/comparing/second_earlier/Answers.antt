@@ -1,0 +1,10 @@
+use Rattle.design.proofs.Laws.{commands_most, expressions_most}
+use Rattle.filing.proofs.TableRules.{accepted_filing}
+use borrow.Author.Rules.{rules}
+use Rattle.filing.proofs.comparing.second_earlier.Goals as goal
+
+pub fill-requires : goal.fill-requires
+fill-requires c = search (accepted_filing, commands_most, expressions_most, rules)
+
+pub second_before_first-requires : goal.second_before_first-requires
+second_before_first-requires c = search (accepted_filing, rules)

@@ -1,0 +1,12 @@
+use Rattle.filing.proofs.TableRules.{commands_small, expressions_small, commands_reached, expressions_reached, commands_below, expressions_below, form_tables, form_filled}
+use borrow.Author.Rules.{rules}
+use Rattle.filing.proofs.tables.fill.Goals as goal
+
+pub number-requires : goal.number-requires
+number-requires c = (search (commands_reached, rules), search (commands_small, rules), search (commands_below, rules))
+
+pub number-requires-2 : goal.number-requires-2
+number-requires-2 c = (search (expressions_reached, rules), search (expressions_small, rules), search (expressions_below, rules))
+
+pub returns : goal.returns
+returns c = (search (form_filled, rules), search (form_tables, rules))
