@@ -10,7 +10,7 @@ use Rattle.model.specs.Limits.{cycles_max}
 use Rattle.model.specs.Image.{AreBytes, design_of}
 use Rattle.model.specs.Answers.{Numbers, numbers_of}
 use Rattle.model.specs.Ports.{PortsKept}
-use Rattle.model.specs.Calls.{Lent, Left}
+use Rattle.model.specs.Calls.{Lent, Left, run}
 use Rattle.model.specs.Refusals.{AllKept, image_table, in_numbers, WithinWidths}
 use Rattle.model.specs.Verdict.{verdict}
 use Rattle.model.specs.Parties as parties
@@ -86,6 +86,10 @@ module _ (image : List ℕ) (before after : LentJournal) (h : HostAnswer) where
   unfolding parties.perform
   run_ports bytes n called = rw (run_leaves n called) (meaning.ports_kept image before.areas bytes n)
 
+-- numbers that are equal group alike
+grouped_alike : (n m : ℕ) {x x' y y' z z' : Numbers} → x ≡ x' → y ≡ y' → z ≡ z' → Grouped n m x' y' z' → Grouped n m x y z
+grouped_alike n m first second both h = rw (first, second, both) h
+
 pub grouped_told :
     (image : List ℕ) (before between after whole : LentJournal) (n m : ℕ)
     → n + m ≤ cycles_max
@@ -96,12 +100,15 @@ pub grouped_told :
     → (after.areas ≡ whole.areas) × Grouped n m (told first) (told second) (told both)
 unfolding parties.perform
 grouped_told image before between after whole n m few first second both one other all =
-    rw (
-      run_leaves image between after second m other,
-      run_told image between after second m other,
-      run_leaves image before between first n one,
-      run_told image before between first n one,
-      run_leaves image before whole both (n + m) all,
-      run_told image before whole both (n + m) all,
+    let grouped = meaning.runs_grouped image before.areas n m few in
+    let one_leaves = run_leaves image before between first n one in
+    let other_leaves = run_leaves image between after second m other in
+    let all_leaves = run_leaves image before whole both (n + m) all in
+    (
+      other_leaves ∙ ap (λ (lent : Lent). (run image lent m).lent) one_leaves ∙ grouped.0 ∙ sym all_leaves,
+      grouped_alike n m
+      (run_told image before between first n one)
+      (run_told image between after second m other ∙ ap (λ (lent : Lent). numbers_of (run image lent m).answer) one_leaves)
+      (run_told image before whole both (n + m) all)
+      grouped.1,
     )
-    (meaning.runs_grouped image before.areas n m few)

@@ -11,7 +11,8 @@ use prog.Routine.{Routine}
 use types.Logic.{Logic}
 use contract.Lifetimes.{Lfts}
 use contract.Monad.{Fun, fact}
-use denote.Ref.{Bor, Gone}
+use denote.Bor.{Bor}
+use denote.MutBor.{MutBor, Gone}
 use denote.Triple.Entry.{Args}
 use denote.Triple.Clauses.{AtExit}
 use borrow.Fn.Kinds.{Dens, ended_of}
@@ -144,27 +145,30 @@ pub record Slices : Type 0 where
   pub targets : Gone
   pub journal : Gone
 
--- a slice with these bytes
-abbrev pub holds : Gone → List ℕ → Bor (List ℕ)
-holds slice bytes = record { ref_ptr = slice.ptr; ghost_name = slice.name; now = bytes }
+-- a slice with these bytes, as it is lent to be read, and as it is lent to be changed
+abbrev pub shows : Gone → List ℕ → Bor (List ℕ)
+shows slice bytes = record { ref_ptr = slice.ref_ptr; now = bytes }
+
+abbrev pub holds : Gone → List ℕ → MutBor (List ℕ)
+holds slice bytes = record { ref_ptr = slice.ref_ptr; ghost_name = slice.ghost_name; now = bytes }
 
 -- the arguments of each function, at its entry and at its exit
 module _ (s : Slices) (image : List ℕ) where
   abbrev image_with : Bor (List ℕ) × Unit {0}
-  image_with = (holds s.image image, tt)
+  image_with = (shows s.image image, tt)
 
-  abbrev write_port_with : (registers : List ℕ) (r v : ℕ) → Bor (List ℕ) × (Bor (List ℕ) × (ℕ × (ℕ × Unit {0})))
-  write_port_with registers r v = (holds s.image image, (holds s.registers registers, (r, (v, tt))))
+  abbrev write_port_with : (registers : List ℕ) (r v : ℕ) → Bor (List ℕ) × (MutBor (List ℕ) × (ℕ × (ℕ × Unit {0})))
+  write_port_with registers r v = (shows s.image image, (holds s.registers registers, (r, (v, tt))))
 
-  abbrev reset_with : Lent → Bor (List ℕ) × (Bor (List ℕ) × (Bor (List ℕ) × Unit {0}))
-  reset_with lent = (holds s.image image, (holds s.registers lent.registers, (holds s.targets lent.targets, tt)))
+  abbrev reset_with : Lent → Bor (List ℕ) × (MutBor (List ℕ) × (MutBor (List ℕ) × Unit {0}))
+  reset_with lent = (shows s.image image, (holds s.registers lent.registers, (holds s.targets lent.targets, tt)))
 
-  abbrev run_with : Lent → ℕ → Bor (List ℕ) × (Bor (List ℕ) × (Bor (List ℕ) × (ℕ × Unit {0})))
-  run_with lent n = (holds s.image image, (holds s.registers lent.registers, (holds s.targets lent.targets, (n, tt))))
+  abbrev run_with : Lent → ℕ → Bor (List ℕ) × (MutBor (List ℕ) × (MutBor (List ℕ) × (ℕ × Unit {0})))
+  run_with lent n = (shows s.image image, (holds s.registers lent.registers, (holds s.targets lent.targets, (n, tt))))
 
-  abbrev journalled_with : LentJournal → ℕ → Bor (List ℕ) × (Bor (List ℕ) × (Bor (List ℕ) × (Bor (List ℕ) × (ℕ × Unit {0}))))
+  abbrev journalled_with : LentJournal → ℕ → Bor (List ℕ) × (MutBor (List ℕ) × (MutBor (List ℕ) × (MutBor (List ℕ) × (ℕ × Unit {0}))))
   journalled_with lent n =
-      (holds s.image image, (holds s.registers lent.areas.registers, (holds s.targets lent.areas.targets, (holds s.journal lent.journal, (n, tt)))))
+      (shows s.image image, (holds s.registers lent.areas.registers, (holds s.targets lent.areas.targets, (holds s.journal lent.journal, (n, tt)))))
 
 -- Check was called with this image and answered h: its postcondition holds.
 abbrev pub Checked : List ℕ → HostAnswer → Type 0

@@ -150,7 +150,7 @@ module _ (κs : Lfts 2) (a : Dens κs part-kinds.ps) (e : AtExit (ended_of 2 par
   -- "handed back as it was lent"
   pub part_handed_back :
       (e.1.1.0.now.now ≡ handed_back a.0.now a.1.0.now (earlier a.0.now a.1.0.now))
-      × (e.1.1.0.now.ptr ≡ handed_from a.0.ref_ptr a.1.0.ref_ptr (earlier a.0.now a.1.0.now))
+      × (e.1.1.0.now.ref_ptr ≡ handed_from a.0.ref_ptr a.1.0.ref_ptr (earlier a.0.now a.1.0.now))
   part_handed_back = part_tie κs a e called
 
   -- "the first of them if equal": not the second, also where both have the same bytes
@@ -158,7 +158,7 @@ module _ (κs : Lfts 2) (a : Dens κs part-kinds.ps) (e : AtExit (ended_of 2 par
       verdict a.0.now ≡ Accepted 0
       → verdict a.1.0.now ≡ Accepted 0
       → filed_image a.0.now ≡ filed_image a.1.0.now
-      → (e.1.1.0.now.now ≡ a.0.now) × (e.1.1.0.now.ptr ≡ a.0.ref_ptr)
+      → (e.1.1.0.now.now ≡ a.0.now) × (e.1.1.0.now.ref_ptr ≡ a.0.ref_ptr)
   part_first_where_equal f s same =
       let first = meaning.first_where_equal a.0.now a.1.0.now f s same in
       (part_handed_back.0 ∙ ap (handed_back a.0.now a.1.0.now) first, part_handed_back.1 ∙ ap (handed_from a.0.ref_ptr a.1.0.ref_ptr) first)
@@ -166,7 +166,7 @@ module _ (κs : Lfts 2) (a : Dens κs part-kinds.ps) (e : AtExit (ended_of 2 par
   -- "an empty part of the first if either is refused"
   pub part_of_first_where_refused :
       (accepts (verdict a.0.now) && accepts (verdict a.1.0.now)) ≡ false
-      → (e.1.1.0.now.now ≡ []) × (e.1.1.0.now.ptr ≡ a.0.ptr)
+      → (e.1.1.0.now.now ≡ []) × (e.1.1.0.now.ref_ptr ≡ a.0.ref_ptr)
   part_of_first_where_refused refused =
       let neither = meaning.neither_where_refused a.0.now a.1.0.now refused in
       (part_handed_back.0 ∙ ap (handed_back a.0.now a.1.0.now) neither, part_handed_back.1 ∙ ap (handed_from a.0.ref_ptr a.1.0.ref_ptr) neither)

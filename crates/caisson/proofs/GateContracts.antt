@@ -4,7 +4,8 @@ use Prim.Native.Nat.{ℕ}
 use mathlib.Core.Path.{◌≡◌}
 use mathlib.Core.List.{List, [], ◌∷◌}
 use contract.Lifetimes.{Lfts}
-use denote.Ref.{Bor, Gone}
+use denote.Bor.{Bor}
+use denote.MutBor.{MutBor, Gone}
 use denote.Triple.Clauses.{AtExit}
 use borrow.Fn.Kinds.{Dens, ended_of}
 use Rattle.model.specs.Answers.{numbers_of}
@@ -59,20 +60,23 @@ pub record Slices : Type 0 where
   pub inputs : Gone
   pub flipflops : Gone
 
--- a slice with these bytes
-abbrev holds : Gone → List ℕ → Bor (List ℕ)
-holds slice bytes = record { ref_ptr = slice.ptr; ghost_name = slice.name; now = bytes }
+-- a slice with these bytes, as it is lent to be read, and as it is lent to be changed
+abbrev shows : Gone → List ℕ → Bor (List ℕ)
+shows slice bytes = record { ref_ptr = slice.ref_ptr; now = bytes }
+
+abbrev holds : Gone → List ℕ → MutBor (List ℕ)
+holds slice bytes = record { ref_ptr = slice.ref_ptr; ghost_name = slice.ghost_name; now = bytes }
 
 -- the arguments of each function, at its entry and at its exit
 module _ (s : Slices) (table : List ℕ) where
   abbrev table_with : Bor (List ℕ) × Unit {0}
-  table_with = (holds s.table table, tt)
+  table_with = (shows s.table table, tt)
 
-  abbrev reset_with : List ℕ → Bor (List ℕ) × (Bor (List ℕ) × Unit {0})
-  reset_with flipflops = (holds s.table table, (holds s.flipflops flipflops, tt))
+  abbrev reset_with : List ℕ → Bor (List ℕ) × (MutBor (List ℕ) × Unit {0})
+  reset_with flipflops = (shows s.table table, (holds s.flipflops flipflops, tt))
 
-  abbrev cycle_with : List ℕ → List ℕ → Bor (List ℕ) × (Bor (List ℕ) × (Bor (List ℕ) × Unit {0}))
-  cycle_with inputs flipflops = (holds s.table table, (holds s.inputs inputs, (holds s.flipflops flipflops, tt)))
+  abbrev cycle_with : List ℕ → List ℕ → Bor (List ℕ) × (Bor (List ℕ) × (MutBor (List ℕ) × Unit {0}))
+  cycle_with inputs flipflops = (shows s.table table, (shows s.inputs inputs, (holds s.flipflops flipflops, tt)))
 
 -- Check was called with this table and answered h: its postcondition holds.
 abbrev pub GatesChecked : List ℕ → HostAnswer → Type 0

@@ -4,7 +4,8 @@ use Prim.Native.Nat.{ℕ}
 use mathlib.Core.Path.{◌≡◌}
 use mathlib.Core.List.{List}
 use contract.Lifetimes.{Lfts}
-use denote.Ref.{Bor, Gone}
+use denote.Bor.{Bor}
+use denote.MutBor.{MutBor, Gone}
 use denote.Triple.Clauses.{AtExit}
 use borrow.Fn.Kinds.{Dens, ended_of}
 use Rattle.model.specs.Refusals.{in_numbers}
@@ -13,7 +14,7 @@ use Rattle.pruning_model.specs.Calls.{prune}
 use Rattle.filing_model.specs.Calls.{file}
 use Rattle.caisson.specs.declared.HostAnswer.{HostAnswer}
 use Rattle.caisson.specs.Told.{told_left}
-use Rattle.caisson.proofs.Contracts.{holds}
+use Rattle.caisson.proofs.Contracts.{shows, holds}
 use Rattle.caisson.proofs.caisson_raise.Kinds as raise-kinds
 use Rattle.caisson.proofs.caisson_raise.Reads as raise-reads
 use Rattle.caisson.proofs.caisson_prune.Kinds as prune-kinds
@@ -54,8 +55,8 @@ pub record OutSlices : Type 0 where
   pub out : Gone
 
 -- the arguments, at entry and at exit
-abbrev pub with_out : OutSlices → List ℕ → List ℕ → Bor (List ℕ) × (Bor (List ℕ) × Unit {0})
-with_out s image out = (holds s.image image, (holds s.out out, tt))
+abbrev pub with_out : OutSlices → List ℕ → List ℕ → Bor (List ℕ) × (MutBor (List ℕ) × Unit {0})
+with_out s image out = (shows s.image image, (holds s.out out, tt))
 
 -- An exported function was called with this image and this second area, answered h and left the area so: its postcondition holds.
 module _ (image area : List ℕ) (h : HostAnswer) (after : List ℕ) where

@@ -435,16 +435,16 @@ differ_exactly = filing-meaning.differ_exactly
 module _ (κs : Lfts 2) (a : Dens κs part-kinds.ps) (e : AtExit (ended_of 2 part-kinds.ps part-kinds.r) κs) (called : part-reads.Post κs a tt e) where
   pub part_handed_back :
       (e.1.1.0.now.now ≡ handed_back a.0.now a.1.0.now (earlier a.0.now a.1.0.now))
-      × (e.1.1.0.now.ptr ≡ handed_from a.0.ref_ptr a.1.0.ref_ptr (earlier a.0.now a.1.0.now))
+      × (e.1.1.0.now.ref_ptr ≡ handed_from a.0.ref_ptr a.1.0.ref_ptr (earlier a.0.now a.1.0.now))
   part_handed_back = filing.part_handed_back κs a e called
 
   pub part_first_where_equal :
       verdict a.0.now ≡ Accepted 0 → verdict a.1.0.now ≡ Accepted 0 → filed_image a.0.now ≡ filed_image a.1.0.now
-      → (e.1.1.0.now.now ≡ a.0.now) × (e.1.1.0.now.ptr ≡ a.0.ref_ptr)
+      → (e.1.1.0.now.now ≡ a.0.now) × (e.1.1.0.now.ref_ptr ≡ a.0.ref_ptr)
   part_first_where_equal = filing.part_first_where_equal κs a e called
 
   pub part_of_first_where_refused :
-      (accepts (verdict a.0.now) && accepts (verdict a.1.0.now)) ≡ false → (e.1.1.0.now.now ≡ []) × (e.1.1.0.now.ptr ≡ a.0.ref_ptr)
+      (accepts (verdict a.0.now) && accepts (verdict a.1.0.now)) ≡ false → (e.1.1.0.now.now ≡ []) × (e.1.1.0.now.ref_ptr ≡ a.0.ref_ptr)
   part_of_first_where_refused = filing.part_of_first_where_refused κs a e called
 
 -- The same without pointers: which image, and how long a part; and no lent image comes before what is handed back.

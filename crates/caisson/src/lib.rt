@@ -219,7 +219,7 @@ pub struct HostWhich {
 // length. An exported function returns no reference.
 #[unsafe(no_mangle)]
 pub extern "C" fn caisson_earlier_part<'a>(first: &'a [u8], second: &'a [u8], part: &mut &'a [u8])
-    ensures { (part.new.now ≡ handed_back first.now second.now (earlier first.now second.now)) × (part.new.ptr ≡ handed_from first.entry.ref_ptr second.entry.ref_ptr (earlier first.now second.now)) }
+    ensures { (part.new.now ≡ handed_back first.now second.now (earlier first.now second.now)) × (part.new.ref_ptr ≡ handed_from first.entry.ref_ptr second.entry.ref_ptr (earlier first.now second.now)) }
 {
     *part = filing::earlier(first, second);
 }
