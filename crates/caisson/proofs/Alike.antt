@@ -2,7 +2,6 @@
 use Prim.Native.Nat.{ℕ}
 use mathlib.Core.Path.{◌≡◌, refl, sym, ◌∙◌, ap, ap₂}
 use mathlib.Core.List.{List, [], ◌∷◌, map}
-use Rattle.model.specs.declared.Answer.{Answer}
 use Rattle.model.specs.Image.{design_of}
 use Rattle.model.specs.Answers.{Numbers, numbers_of}
 use Rattle.model.specs.Calls.{Lent, Left, reset}
@@ -10,7 +9,7 @@ use Rattle.model.specs.Parties.{RightLengths}
 use Rattle.model.specs.Parties as parties
 use Rattle.journal_model.specs.Calls.{LentJournal}
 use Rattle.renumbering.specs.Runs.{answers, SameRuns}
-use Rattle.lists_model.specs.Lists.{Call, resets, with_journal, perform, listed}
+use Rattle.lists_model.specs.Lists.{Call, resets, perform, listed}
 use Rattle.lists_model.proofs.Listed.{listed_performs, listed_end}
 use Rattle.caisson.specs.declared.HostAnswer.{HostAnswer}
 use Rattle.caisson.specs.Told.{told}

@@ -1,17 +1,16 @@
 -- What the exported calls told and left, from the postconditions (`Contracts`) and no more; and what the laws of the definitions say of it.
-use Prim.Native.Nat.{ℕ, ◌+◌, ◌*◌, ◌≤◌, ◌<◌}
+use Prim.Native.Nat.{ℕ, ◌+◌, ◌≤◌}
 use mathlib.Core.Path.{◌≡◌, refl, sym, ◌∙◌, ap}
 use mathlib.Core.Logic.Iff
 use mathlib.Core.Logic.{◌↔◌}
 use mathlib.Core.List.{List, [], ◌∷◌}
-use lib.ListN.{length}
 use Rattle.model.specs.declared.Answer.TheVariants.{Accepted}
 use Rattle.model.specs.Limits.{cycles_max}
 use Rattle.model.specs.Image.{AreBytes, design_of}
 use Rattle.model.specs.Answers.{Numbers, numbers_of}
 use Rattle.model.specs.Ports.{PortsKept}
 use Rattle.model.specs.Calls.{Lent, Left, run}
-use Rattle.model.specs.Refusals.{AllKept, image_table, in_numbers, WithinWidths}
+use Rattle.model.specs.Refusals.{AllKept, image_table}
 use Rattle.model.specs.Verdict.{verdict}
 use Rattle.model.specs.Parties as parties
 use Rattle.model.proofs.Exact.{verdict_exact}
@@ -19,9 +18,9 @@ use Rattle.model.proofs.Grouping.{Grouped}
 use Rattle.model.proofs.Writing.{ChangesOnly}
 use Rattle.model.proofs.Promises as meaning
 use Rattle.journal_model.specs.Calls.{LentJournal}
-use Rattle.lists_model.specs.Lists.{Call, resets, writes, runs, runs_journalled, goes_back, replays, performed, perform, at_end}
+use Rattle.lists_model.specs.Lists.{Call, writes, runs, perform, at_end}
 use Rattle.caisson.specs.declared.HostAnswer.{HostAnswer}
-use Rattle.caisson.specs.Told.{told, told_left}
+use Rattle.caisson.specs.Told.{told}
 use Rattle.caisson.proofs.Answered.{numbers_told, lent_told, number_told, accepted_told}
 use Rattle.caisson.proofs.Contracts.{Checked, Called, AllCalled, checked_told, called_made}
 
@@ -103,12 +102,11 @@ grouped_told image before between after whole n m few first second both one othe
     let grouped = meaning.runs_grouped image before.areas n m few in
     let one_leaves = run_leaves image before between first n one in
     let other_leaves = run_leaves image between after second m other in
-    let all_leaves = run_leaves image before whole both (n + m) all in
-    (
+    let all_leaves = run_leaves image before whole both (n + m) all in (
       other_leaves ∙ ap (λ (lent : Lent). (run image lent m).lent) one_leaves ∙ grouped.0 ∙ sym all_leaves,
       grouped_alike n m
-      (run_told image before between first n one)
-      (run_told image between after second m other ∙ ap (λ (lent : Lent). numbers_of (run image lent m).answer) one_leaves)
-      (run_told image before whole both (n + m) all)
-      grouped.1,
+          (run_told image before between first n one)
+          (run_told image between after second m other ∙ ap (λ (lent : Lent). numbers_of (run image lent m).answer) one_leaves)
+          (run_told image before whole both (n + m) all)
+          grouped.1,
     )

@@ -2,7 +2,7 @@
 -- says that it is the equation with the definition. A contract that says less than the definition is refused here, at its tie. What it is to have called a function is said with its
 -- postcondition, so these words stand here and not in specs/.
 use Prim.Native.Nat.{ℕ}
-use mathlib.Core.Path.{◌≡◌, refl, ap}
+use mathlib.Core.Path.{◌≡◌, refl}
 use mathlib.Core.List.{List, [], ◌∷◌}
 use seplogic.Ra.Ura.{Ura}
 use base.Logic.{SProp, emp}

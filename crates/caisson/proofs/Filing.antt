@@ -26,7 +26,7 @@ use Rattle.filing_model.proofs.Promises as meaning
 use Rattle.caisson.specs.declared.HostAnswer.{HostAnswer}
 use Rattle.caisson.specs.declared.HostWhich.{HostWhich}
 use Rattle.caisson.specs.Told.{told}
-use Rattle.caisson.specs.ToldFiling.{Part, told_which, part_of, bytes_of}
+use Rattle.caisson.specs.ToldFiling.{told_which, part_of, bytes_of}
 use Rattle.caisson.proofs.Contracts.{Checked}
 use Rattle.caisson.proofs.Calls.{told_verdict, verdict_told}
 use Rattle.caisson.proofs.OutContracts.{FileCalled, file_called}

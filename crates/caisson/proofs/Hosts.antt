@@ -6,21 +6,20 @@ use mathlib.Core.List.{List, [], ◌∷◌, map}
 use lib.ListN.{length}
 use Rattle.model.specs.Image.{design_of}
 use Rattle.model.specs.Values.{words_of}
-use Rattle.model.specs.Answers.{numbers_of}
 use Rattle.model.specs.Parties.{Event, Seen, values_seen, view, wider_view, remaining, with_unseen, start}
 use Rattle.model.specs.Parties as parties
 use Rattle.model.specs.Neighbours.{common}
 use Rattle.journal_model.specs.Calls.{LentJournal}
 use Rattle.replay_model.specs.declared.TraceRecord.{TraceRecord}
 use Rattle.replay_model.specs.ByHand.{trace_seen}
-use Rattle.lists_model.specs.Lists.{Call, resets, replays, with_journal, perform, events, at_end, listed, Use, begun, history, remains, views, wider_views, seen_at_end}
+use Rattle.lists_model.specs.Lists.{resets, replays, with_journal, perform, events, at_end, listed, Use, begun, history, remains, views, wider_views, seen_at_end}
 use Rattle.lists_model.specs.Demands.{Replayed}
 use Rattle.lists_model.proofs.Independence.{independent_across, widely_across}
 use Rattle.lists_model.proofs.Demands.{replays_across}
-use Rattle.lists_model.proofs.Listed.{listed_events, listed_end}
+use Rattle.lists_model.proofs.Listed.{listed_events}
 use Rattle.caisson.specs.declared.HostAnswer.{HostAnswer}
 use Rattle.caisson.specs.Told.{told}
-use Rattle.caisson.proofs.Contracts.{Checked, Called, AllCalled, Hosted}
+use Rattle.caisson.proofs.Contracts.{Checked, Called, Hosted}
 use Rattle.caisson.proofs.Calls.{told_verdict, called_leaves, called_accepted, all_called_ends}
 
 -- an image that the library accepts

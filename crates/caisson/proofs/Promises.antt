@@ -45,7 +45,7 @@ use Rattle.replay_model.specs.Traces.{trace_part, trace_rest}
 use Rattle.replay_model.specs.ByHand.{by_hand, trace_seen}
 use Rattle.replay_model.proofs.Latest.{latest_of}
 use Rattle.replay_model.proofs.Areas.{OtherPortsKept}
-use Rattle.lists_model.specs.Lists.{Call, resets, writes, runs, runs_journalled, goes_back, replays, listed}
+use Rattle.lists_model.specs.Lists.{Call, writes, runs, runs_journalled, goes_back, replays, listed}
 use Rattle.lists_model.specs.Rules.{call_table, call_count}
 use Rattle.lists_model.proofs.Exact as lists
 use Rattle.renumbering.specs.Runs.{SameRuns}

@@ -1,6 +1,6 @@
 -- What the exported pruning, 02, E11, told and left, from its postcondition (`OutContracts`) and no more. That an image holds bytes is a premise of some: a slice of the language does.
 use Prim.Native.Nat.{ℕ, ◌≤◌, ◌<◌}
-use mathlib.Core.Path.{◌≡◌, refl, sym, ◌∙◌, ap}
+use mathlib.Core.Path.{◌≡◌, sym, ◌∙◌, ap}
 use mathlib.Core.List.{List}
 use lib.ListN.{length, take}
 use Rattle.model.specs.declared.Answer.TheVariants.{Accepted}

@@ -13,7 +13,7 @@ use Rattle.replay_model.specs.Traces.{trace_part, trace_rest}
 use Rattle.replay_model.specs.Calls.{replay}
 use Rattle.replay_model.specs.ByHand.{by_hand}
 use Rattle.replay_model.proofs.Latest.{latest_of}
-use Rattle.replay_model.proofs.ByHand.{AllAccepted, none_made, one_made}
+use Rattle.replay_model.proofs.ByHand.{AllAccepted, one_made}
 use Rattle.replay_model.proofs.Areas.{OtherPortsKept}
 use Rattle.replay_model.proofs.Promises as meaning
 use Rattle.lists_model.specs.Lists.{Call, runs, replays, perform, listed}

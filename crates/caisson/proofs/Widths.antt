@@ -1,15 +1,14 @@
 -- 02, E2, of all six calls: an accepted one leaves every register within its width. Going back by 0 restores nothing and judges no contents.
 use Prim.Native.Nat.{ℕ, zero, suc}
-use mathlib.Core.Path.{◌≡◌, refl, sym, ◌∙◌, ap}
+use mathlib.Core.Path.{◌≡◌, refl}
 use mathlib.Core.List.{List}
 use native.Mathlib.Omega.{arith}
 use Rattle.model.specs.Image.{design_of}
-use Rattle.model.specs.Answers.{numbers_of}
 use Rattle.model.specs.Refusals.{WithinWidths}
 use Rattle.model.specs.Parties as parties
 use Rattle.model.proofs.Promises as meaning
 use Rattle.journal_model.specs.Calls.{LentJournal}
-use Rattle.lists_model.specs.Lists.{Call, resets, writes, runs, runs_journalled, goes_back, replays, performed, perform, listed}
+use Rattle.lists_model.specs.Lists.{Call, resets, writes, runs, runs_journalled, goes_back, replays, listed}
 use Rattle.lists_model.proofs.Listed.{listed_performs}
 use Rattle.caisson.specs.declared.HostAnswer.{HostAnswer}
 use Rattle.caisson.proofs.Contracts.{Called}

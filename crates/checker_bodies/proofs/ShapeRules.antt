@@ -13,7 +13,7 @@ use Rattle.model.specs.declared.Found.{Found}
 use Rattle.model.specs.Indices.{lowest_of, join_below}
 use Rattle.model.specs.Limits.{commands_max}
 use Rattle.model.specs.Image.{Design as Table, Node, design_of, state_at, command_at}
-use Rattle.model.specs.States.{is_child, has_child, sibling_or_self, parent, default_target}
+use Rattle.model.specs.States.{is_child, has_child, sibling_or_self, default_target}
 use Rattle.model.specs.Values.{one_or_zero}
 use Rattle.model.specs.Kinds.{skips, assigns, sequences, falls, goes, branches, command_kind}
 use Rattle.model.specs.Trees.{Expr, Cmd, skip, assign, sequence, fall, goto, branch, expr_of, cmd_of, body_of}

@@ -1,7 +1,7 @@
 -- The tables that the loops over the nodes fill, and what the tables then tell.
 use Rattle.std.specs.Prelude.{ℕ, min, ◌+◌, ◌≤◌, ◌<◌, ◌≡◌, Bool, List, [], ◌∷◌, leb, eqb, length, get_or, set}
 use Rattle.model.specs.declared.Found.{Found}
-use Rattle.model.specs.declared.Found.TheVariants.{At, Nowhere}
+use Rattle.model.specs.declared.Found.TheVariants.{Nowhere}
 use Rattle.model.specs.Indices.{lowest_failing, passed, join_below}
 use Rattle.model.specs.Limits.{depth_max}
 use Rattle.model.specs.Image.{Design, design_of}

@@ -1,17 +1,15 @@
 -- A rule of a label, tested on the rows that the accessor reads, is the meaning's rule.
-use Prim.Native.Nat.{ℕ, zero, suc, ◌*◌, ◌-◌, ◌/◌, ◌^◌, ◌<◌}
+use Prim.Native.Nat.{ℕ, zero, suc, ◌-◌, ◌/◌, ◌^◌, ◌<◌}
 use mathlib.Core.Path.{◌≡◌, refl, sym, ◌∙◌, ap, ap₂}
-use mathlib.Core.Logic.{◌↔◌}
 use mathlib.Core.Bool.{Bool, true, false, ◌&&◌, ◌||◌, not}
 use mathlib.Core.List.{List}
 use native.Mathlib.Omega.{arith}
-use native.Mathlib.Decide.{dec_lt}
-use native.Mathlib.Nat.{div-lt_iff_lt-mul, one-mul, mod-lt, lt_of_le_of_lt}
-use lib.Dec.{ltb, eqb}
+use native.Mathlib.Nat.{mod-lt, lt_of_le_of_lt}
+use lib.Dec.{eqb}
 use lib.ListN.{length, get_or}
 use lib.Pow.{pow_pos, ones_lt}
 use lib.Bits.{bit_and, and_mask, and_le_l}
-use borrow.Author.Tests.{lt-ltb, le-ltb, eq-eqb, ne_eqb}
+use borrow.Author.Tests.{eq-eqb, ne_eqb}
 use Rattle.model.specs.Indices.{all_below, some_below}
 use Rattle.model.specs.Image.{Labels, design_of}
 use Rattle.model.specs.Lattice.{flows_to, implies, row_inside, reflexive, antisymmetric, transitive, least_full, least_above, joined, label_kept}

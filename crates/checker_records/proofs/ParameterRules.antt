@@ -1,5 +1,5 @@
 -- The rules of a state's parameters, tested on the fields that the accessors read and on the scopes of the states below it, are the meaning's.
-use Prim.Native.Nat.{ℕ, ◌+◌, ◌*◌, ◌-◌, ◌≤◌, ◌<◌}
+use Prim.Native.Nat.{ℕ, ◌+◌, ◌-◌, ◌≤◌, ◌<◌}
 use mathlib.Core.Path.{◌≡◌, refl, sym, ◌∙◌, ap}
 use mathlib.Core.Bool.{Bool, true, false, ◌&&◌, ◌||◌, not}
 use mathlib.Core.List.{List}
@@ -9,7 +9,6 @@ use lib.ListN.{length, get_or}
 use borrow.Author.Tests.{lt-ltb, le-ltb, eq-eqb, ne_eqb}
 use Rattle.model.specs.declared.Found.TheVariants.{At, Nowhere}
 use Rattle.model.specs.Limits.{parameter_label}
-use Rattle.model.specs.Image as Image
 use Rattle.model.specs.Image.{State, design_of, state_at}
 use Rattle.model.specs.Lattice.{flows_to}
 use Rattle.model.specs.States.{parent, default_target}

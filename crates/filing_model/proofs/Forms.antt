@@ -17,7 +17,7 @@ use Rattle.encoding.proofs.RoundTrip.{design_encodable}
 use Rattle.filing_model.specs.Filed.{expression_order, filed, filed_image}
 use Rattle.filing_model.specs.Same.{unnumbered_design, DifferAtMostInNumbers}
 use Rattle.filing_model.specs.Order.{comes_before}
-use Rattle.filing_model.proofs.Trees.{Nodes, bodies_written}
+use Rattle.filing_model.proofs.Trees.{bodies_written}
 use Rattle.filing_model.proofs.Listed.{nodes_listed}
 use Rattle.filing_model.proofs.Order.{before_total}
 use Rattle.filing_model.proofs.Images.{filed_bytes, filed_accepted, filed_same}

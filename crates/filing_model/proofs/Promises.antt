@@ -20,7 +20,7 @@ use Rattle.filing_model.specs.Same.{DifferAtMostInNumbers, NodesRenumbered}
 use Rattle.filing_model.specs.Order.{comes_before}
 use Rattle.filing_model.specs.Calls.{file, earlier, handed_back}
 use Rattle.filing_model.specs.Rules.{file_table}
-use Rattle.filing_model.proofs.Trees.{Nodes, bodies_written}
+use Rattle.filing_model.proofs.Trees.{bodies_written}
 use Rattle.filing_model.proofs.Images.{filed_accepted, filed_long, filed_runs, filed_same}
 use Rattle.filing_model.proofs.Forms as forms
 use Rattle.filing_model.proofs.Renumbered as renumbered

@@ -3,7 +3,7 @@ use Prim.Native.Nat.{ℕ, zero, suc, ◌≤◌, ◌<◌}
 use mathlib.Core.Path.{◌≡◌, refl, sym, ◌∙◌, ap}
 use mathlib.Core.List.{List}
 use native.Mathlib.Omega.{arith}
-use native.Mathlib.Decide.{ℕ_discrete, dec_lt}
+use native.Mathlib.Decide.{ℕ_discrete}
 use lib.ListN.{length, get_or}
 use Rattle.model.specs.Image.{Design as Table, Node, design_of, command_at, expression_at}
 use Rattle.model.specs.Kinds.{CommandKind, assigns, sequences, branches, ExpressionKind, Operation, operates, command_kind, expression_kind}

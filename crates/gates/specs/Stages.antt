@@ -1,6 +1,5 @@
 -- The calls of `Rattle.gates_model.specs.Calls` from the point where the table is accepted on.
 use Rattle.std.specs.Prelude.{ℕ, ◌*◌, ◌≡◌, List, length}
-use Rattle.model.specs.declared.Answer.{Answer}
 use Rattle.model.specs.Verdict.{◌before◌}
 use Rattle.gates_model.specs.Limits.{signal_length}
 use Rattle.gates_model.specs.Tables.{Table}

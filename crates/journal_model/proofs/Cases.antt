@@ -6,8 +6,8 @@ use lib.ListN.{replicate}
 use Rattle.model.specs.Calls.{Lent, run}
 use Rattle.model.proofs.Opened.{any_lent}
 use Rattle.model.proofs.Designs.{lease, one_group, smallest}
-use Rattle.journal_model.specs.Calls.{LentJournal, run_journalled, step_back}
-use Rattle.journal_model.proofs.Opened.{journalling, lends, told, areas_left, accepted_with, journal_of, spare, lease_areas, lease_saved, after0, after1, after2, after3, after4, saved0, saved1, saved2, saved3}
+use Rattle.journal_model.specs.Calls.{run_journalled, step_back}
+use Rattle.journal_model.proofs.Opened.{journalling, lends, told, areas_left, accepted_with, journal_of, spare, lease_areas, lease_saved, after0, after1, after2, after3, after4, saved0, saved1, saved2}
 
 -- an empty journal of the lease design that has room for four cycles and three bytes more
 abbrev empty : List ℕ

@@ -4,15 +4,14 @@ use mathlib.Core.Path.{◌≡◌, refl, sym, ◌∙◌, ap}
 use mathlib.Core.Logic.{◌⊎◌, inl, inr}
 use mathlib.Core.List.{List, [], ◌∷◌, ◌++◌}
 use native.Mathlib.Omega.{arith}
-use lib.ListN.{length, get_or, drop, length-append, get_or-append}
+use lib.ListN.{length, drop, length-append, get_or-append}
 use lib.Seq.{get_or-append-add, get_or-take, get_or-drop}
 use Rattle.model.specs.declared.Answer.{Answer}
 use Rattle.model.specs.declared.Answer.TheVariants.{Accepted, Refused}
 use Rattle.model.specs.Image.{Design, byte_at, design_of}
 use Rattle.model.specs.Values.{bytes_of}
-use Rattle.model.specs.Machine.{cycles}
-use Rattle.model.specs.Calls.{Lent, areas_of}
-use Rattle.journal_model.specs.Journals.{count_length, count_in, all_saved_bytes, journal_front, journal_with, saved_length, saved_in, saved_before}
+use Rattle.model.specs.Calls.{Lent}
+use Rattle.journal_model.specs.Journals.{count_length, count_in, all_saved_bytes, journal_front, journal_with, saved_length, saved_in}
 use Rattle.journal_model.specs.Calls.{LentJournal, run_journalled_answer, run_journalled}
 use Rattle.journal_model.proofs.Laws.{AllSized, saved_append, length-saved, length_front, length-saved_in, sized_in, saved_bytes_lem}
 use Rattle.journal_model.proofs.Accepted.{RunsJournalled, after_run, saved_after, accepted_runs, runs_leaves, room_own, after_sized, after_many}

@@ -22,7 +22,7 @@ use Rattle.replay_model.specs.Calls.{replay}
 use Rattle.replay_model.specs.ByHand.{by_hand, trace_seen}
 use Rattle.replay_model.proofs.Laws.{kept_swap}
 use Rattle.replay_model.proofs.ByHand.{event_of, events_by_hand, made_by_hand}
-use Rattle.lists_model.specs.Lists.{Call, replays, perform, events_of, events, Use, begun, history, remains}
+use Rattle.lists_model.specs.Lists.{replays, perform, events_of, events, Use, begun, history, remains}
 use Rattle.lists_model.specs.Demands.{IndependentJournals, Replayed, IndependentReplays, IndependentReplayNeighbours}
 use Rattle.lists_model.proofs.Independence.{independent_across}
 

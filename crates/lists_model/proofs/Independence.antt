@@ -3,7 +3,7 @@
 -- the canonical run returns to. A replay is its port writes and single cycles made by hand. What is refused leaves all as it is.
 use Prim.Native.Nat.{ℕ, zero, suc, ◌-◌, ◌≤◌, ◌<◌}
 use mathlib.Core.Path.{◌≡◌, refl, sym, ◌∙◌, ap}
-use mathlib.Core.List.{List, [], ◌∷◌, ◌++◌, map}
+use mathlib.Core.List.{List, [], ◌∷◌, ◌++◌}
 use native.Mathlib.Omega.{arith}
 use lib.ListN.{length, drop, get_or, take, replicate}
 use lib.Seq.{take-take, get_or-take, length-take-le}
@@ -18,7 +18,7 @@ use Rattle.model.specs.Machine.{Areas, after_last, after_cycles}
 use Rattle.model.specs.Calls.{Left, areas_of, lent_of}
 use Rattle.model.specs.Parties.{Event, stepped_back, values_seen, start}
 use Rattle.model.specs.Parties as parties
-use Rattle.model.proofs.Independence.Relation.{start_areas, Bisimulation}
+use Rattle.model.proofs.Independence.Relation.{Bisimulation}
 use Rattle.model.proofs.Independence.Runs.{Related}
 use Rattle.model.proofs.Independence.Lists.{Course, course_of, back_once, followed, widely_followed, followed_end, Agrees, agrees_append, agrees_none, agrees_back, agrees_journalled_cycles, areas_before, start_course, Follows, follows_lent, values_follow, call_leads, list_leads, start_follows, related_cycles}
 use Rattle.model.proofs.Independence.Theorem.{common_level, related_neighbours}

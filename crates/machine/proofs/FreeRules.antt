@@ -1,11 +1,11 @@
 -- Where no state has a parameter and every byte of the bindings is 0, each state's bindings are sound: 0 is sound, and there are no parameters to bind.
-use Prim.Native.Nat.{ℕ, ◌+◌, ◌*◌, ◌≤◌, ◌<◌}
+use Prim.Native.Nat.{ℕ, ◌+◌, ◌*◌, ◌<◌}
 use mathlib.Core.Path.{◌≡◌, refl, sym, ◌∙◌, ap}
 use mathlib.Core.Bool.{Bool, true, false, ◌&&◌}
 use mathlib.Core.List.{List}
 use native.Mathlib.Omega.{arith}
 use lib.Dec.{eqb}
-use lib.ListN.{length, get_or, drop}
+use lib.ListN.{length, get_or}
 use lib.Seq.{get_or-drop}
 use borrow.Author.Tests.{eqb-true}
 use Rattle.model.specs.declared.Found.TheVariants.{Nowhere}
@@ -13,7 +13,7 @@ use Rattle.model.specs.Indices.{tabulate_from, all_below, lowest_failing}
 use Rattle.model.specs.Image.{Design as Table, State, design_of, state_at}
 use Rattle.model.specs.Lattice.{implies}
 use Rattle.model.specs.Parameters.{all_of, own_parameters}
-use Rattle.model.specs.Bindings.{on_path, byte_sound, bound_sound, binding_sound}
+use Rattle.model.specs.Bindings.{on_path, byte_sound, binding_sound}
 use Rattle.model.specs.Calls.{targets_in, bindings_in}
 use Rattle.model.proofs.Laws.Booleans.{and_first, and_second}
 use Rattle.model.proofs.Laws.Indices.{all_at, failing_nowhere}

@@ -24,7 +24,7 @@ use Rattle.model.specs.Answers.{Numbers, numbers_of}
 use Rattle.model.specs.Bindings.{binding_sound}
 use Rattle.model.specs.Machine.{Areas, target_sound, cycle, cycles, after_last, after_cycles}
 use Rattle.model.specs.Calls.{Lent, register_area_kept, target_area_kept, length_answer, content_kept, contents_answer, targets_in, bindings_in, targets_answer, bindings_answer, areas_of, lent_of, run_answer, run}
-use Rattle.model.specs.Parties.{perform, runs, RightLengths}
+use Rattle.model.specs.Parties.{perform, RightLengths}
 use Rattle.model.proofs.Laws.Booleans.{and_first, and_second}
 use Rattle.model.proofs.Laws.Equivalences.{less_iff, at_most_iff}
 use Rattle.model.proofs.Laws.Indices.{failing_none}

@@ -1,22 +1,22 @@
 -- What an accepted call leaves is within the widths: a reset writes reset values, which are (refusal 3); a port write and a run judge the contents that they
 -- find, a port write its value too, and an assignment cuts. So in a list that starts with a reset the contents are never at fault.
-use Prim.Native.Nat.{ℕ, ◌*◌, ◌<◌, ◌^◌}
+use Prim.Native.Nat.{ℕ}
 use mathlib.Core.Path.{◌≡◌, refl, sym, ◌∙◌, ap}
 use mathlib.Core.Logic.{◌⊎◌, inl, inr}
 use mathlib.Core.Bool.{Bool, true, false, cond}
 use mathlib.Core.List.{List, [], ◌∷◌}
 use lib.Dec.{eqb}
-use lib.ListN.{length, get_or, set, length-set}
+use lib.ListN.{length, set, length-set}
 use Rattle.model.specs.declared.Found.TheVariants.{At, Nowhere}
 use Rattle.model.specs.declared.Refusal.TheVariants.{Area, PortValue}
 use Rattle.model.specs.declared.Answer.{Answer}
-use Rattle.model.specs.declared.Answer.TheVariants.{Accepted, Refused}
+use Rattle.model.specs.declared.Answer.TheVariants.{Accepted}
 use Rattle.model.specs.Image.{Design, design_of}
 use Rattle.model.specs.Rules.{Keeps, StructureKeeps}
-use Rattle.model.specs.Values.{modulus, fits, words_of, bytes_of}
+use Rattle.model.specs.Values.{fits, words_of, bytes_of}
 use Rattle.model.specs.Verdict.{verdict, ◌before◌}
 use Rattle.model.specs.Answers.{numbers_of}
-use Rattle.model.specs.Machine.{Areas, reset_areas, after_cycles}
+use Rattle.model.specs.Machine.{reset_areas, after_cycles}
 use Rattle.model.specs.Calls.{Lent, Left, content_kept, contents_answer, value_answer, areas_of, lent_of, reset_answer, reset, run_answer, run, write_port_answer, write_port}
 use Rattle.model.specs.Parties.{Call, resets, writes, runs, perform, at_end, given_unseen, with_unseen, start, Beginning}
 use Rattle.model.specs.Refusals.{WithinWidths}
@@ -25,7 +25,6 @@ use Rattle.model.proofs.Laws.Equivalences.{less_iff, equal_iff}
 use Rattle.model.proofs.Laws.Indices.{failing_none}
 use Rattle.model.proofs.Laws.Found.{at_is_not_nowhere}
 use Rattle.model.proofs.Laws.Verdict.{refused_is_not_accepted, first_accepts, later_accepts, found_nothing}
-use Rattle.model.proofs.Laws.Numbers.{no_number_zero}
 use Rattle.model.proofs.Laws.Cycles.{reset_length}
 use Rattle.model.proofs.Laws.Words.{length-words_of, words_of_bytes_bounded}
 use Rattle.model.proofs.Exact.{verdict_exact}

@@ -1,6 +1,5 @@
 -- The call refuses exactly: the image as check does, and then the length of the output area; and a refusal leaves every byte of it.
 use Prim.Native.Nat.{ℕ}
-use mathlib.Core.Path.{◌≡◌}
 use mathlib.Core.List.{List}
 use lib.ListN.{length}
 use Rattle.model.specs.Refusals.{in_numbers, Exactly}

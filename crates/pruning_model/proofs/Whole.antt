@@ -4,7 +4,6 @@ use Prim.Native.Nat.{ℕ, ◌<◌}
 use mathlib.Core.Path.{◌≡◌}
 use mathlib.Core.List.Memᴰ
 use native.Mathlib.Omega.{arith}
-use native.Mathlib.Decide.{ℕ_discrete}
 use lib.ListN.{length}
 use Rattle.model.specs.Image.{Design, no_state, no_node, state_at, command_at, expression_at}
 use Rattle.model.specs.Kinds.{command_kind, expression_kind}

@@ -1,6 +1,6 @@
 -- 02, E11: "Reached states are the root, the default child of a reached state that holds a fall, and the siblings named by a reached state's gotos." By the bodies as written,
 -- also in branches that no value takes.
-use Rattle.std.specs.Prelude.{ℕ, zero, suc, ◌<◌, ◌≡◌, Bool, false, ◌&&◌, ◌||◌, List, [], ◌∷◌, ◌++◌, eqb, length, get_or}
+use Rattle.std.specs.Prelude.{ℕ, zero, suc, ◌<◌, Bool, false, ◌&&◌, ◌||◌, List, [], ◌∷◌, ◌++◌, eqb, length, get_or}
 use Rattle.model.specs.Indices.{some_below, tabulate}
 use Rattle.model.specs.Image.{Design}
 use Rattle.model.specs.States.{default_target}

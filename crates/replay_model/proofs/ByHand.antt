@@ -10,7 +10,7 @@ use Rattle.model.specs.Verdict.{verdict}
 use Rattle.model.specs.Answers.{numbers_of}
 use Rattle.model.specs.Machine.{Areas, Cycle, cycle, cycles, after_last, after_cycles}
 use Rattle.model.specs.Calls.{Lent, Left, areas_of, lent_of}
-use Rattle.model.specs.Parties.{Call, writes, runs, perform, Event, was_reset, was_written, cycled, events_of, events, at_end, view, cycles_of}
+use Rattle.model.specs.Parties.{Call, writes, runs, perform, Event, was_written, cycled, events_of, events, at_end, cycles_of}
 use Rattle.model.proofs.Exact.{verdict_exact}
 use Rattle.model.proofs.Independence.Relation.{Good, with_register}
 use Rattle.model.proofs.Independence.Calls.{areas_of_lent, written, write_accepted, run_accepted}

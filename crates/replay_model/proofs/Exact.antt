@@ -10,11 +10,9 @@ use Rattle.model.specs.declared.Found.{Found}
 use Rattle.model.specs.declared.Found.TheVariants.{At, Nowhere}
 use Rattle.model.specs.declared.Refusal.{Refusal}
 use Rattle.model.specs.declared.Refusal.TheVariants.{NoPort, PortValue}
-use Rattle.model.specs.declared.Answer.{Answer}
 use Rattle.model.specs.declared.Answer.TheVariants.{Accepted, Refused}
 use Rattle.model.specs.Indices.{lowest_failing}
 use Rattle.model.specs.Image.{Design, design_of, register_at}
-use Rattle.model.specs.Answers.{numbers_of}
 use Rattle.model.specs.Calls.{Lent, is_writable}
 use Rattle.model.specs.Refusals.{Pass, ◌asks◌, each, KeptAt, BrokenAt, AllKept, FirstBroken, in_numbers, Exactly}
 use Rattle.model.proofs.Laws.Booleans.{true_or_false}

@@ -19,7 +19,7 @@ use Rattle.model.specs.Indices.{lowest_failing}
 use Rattle.model.specs.Image.{Design as Table, AreBytes, word32_at, design_of}
 use Rattle.model.specs.Rules.{Keeps}
 use Rattle.model.specs.Verdict.{refused_at, ◌before◌}
-use Rattle.model.specs.Values.{modulus, fits, words_of, bytes_of}
+use Rattle.model.specs.Values.{modulus, words_of, bytes_of}
 use Rattle.model.specs.Bindings.{binding_sound}
 use Rattle.model.specs.Machine.{Areas, target_sound, after_cycles}
 use Rattle.model.specs.Calls.{Lent, targets_in, bindings_in, targets_answer, bindings_answer, content_kept, contents_answer, cycles_answer, areas_of, lent_of, left_as}

@@ -2,9 +2,6 @@ use Rattle.cases.proofs.LeavesRules.{lent_left}
 use borrow.Author.Rules.{rules}
 use Rattle.cases.proofs.write_port.Goals as goal
 
--- ? slice-aggregate-print : tie.Need-slice-aggregate-print
--- ? slice-aggregate-print c = search rules
-
 pub returns-then-answered : goal.returns-then-answered
 returns-then-answered c = search (lent_left, rules)
 

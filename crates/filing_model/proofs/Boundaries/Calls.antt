@@ -1,12 +1,11 @@
 -- Cases at the boundaries of the two calls.
 use Prim.Native.Nat.{ℕ}
 use mathlib.Core.Path.{◌≡◌, refl}
-use mathlib.Core.Bool.{true, false}
+use mathlib.Core.Bool.{true}
 use mathlib.Core.List.{List, [], ◌∷◌, ◌++◌, map}
 use lib.ListN.{length, replicate}
 use Rattle.model.proofs.Opened.{accepted, refused}
 use Rattle.model.proofs.Designs.{kind_two, lease}
-use Rattle.filing_model.specs.declared.Earlier.{Earlier}
 use Rattle.filing_model.specs.declared.Earlier.TheVariants.{First, Second, Neither}
 use Rattle.filing_model.specs.Order.{comes_before}
 use Rattle.filing_model.specs.Calls.{file, earlier, handed_back, handed_from}

@@ -1,5 +1,4 @@
 -- Cases at the boundaries of "Images are ordered by these bytes, a proper beginning first."
-use Prim.Native.Nat.{ℕ}
 use mathlib.Core.Path.{◌≡◌, refl}
 use mathlib.Core.Bool.{true, false}
 use mathlib.Core.List.{[], ◌∷◌}

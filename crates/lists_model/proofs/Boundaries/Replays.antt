@@ -7,13 +7,13 @@ use lib.Pow.{pow_pos}
 use lib.ListN.{replicate}
 use Rattle.model.specs.Image.{design_of, register_at}
 use Rattle.model.specs.Answers.{Numbers, numbers_of}
-use Rattle.model.specs.Parties.{Remaining, a_reset, a_write, a_cycle, a_journalled_cycle, a_step_back, cycles_of}
+use Rattle.model.specs.Parties.{Remaining, a_write, a_cycle, a_journalled_cycle, a_step_back}
 use Rattle.model.proofs.Opened.{everything, accepted, refused, lent, any_lent}
 use Rattle.model.proofs.Designs.{lease}
 use Rattle.replay_model.specs.declared.TraceRecord.{TraceRecord}
 use Rattle.replay_model.specs.Calls.{replay}
-use Rattle.replay_model.specs.ByHand.{by_hand, trace_seen}
-use Rattle.lists_model.specs.Lists.{Call, resets, writes, runs, runs_journalled, goes_back, replays, events, Use, begun, remains, views, seen_at_end}
+use Rattle.replay_model.specs.ByHand.{trace_seen}
+use Rattle.lists_model.specs.Lists.{Call, resets, writes, runs, runs_journalled, goes_back, replays, Use, begun, remains, views, seen_at_end}
 use Rattle.lists_model.specs.Demands.{IndependentJournals, IndependentReplays, IndependentReplayNeighbours}
 use Rattle.lists_model.specs.Rules.{call_count}
 use Rattle.lists_model.proofs.Opened.{listing, seen}

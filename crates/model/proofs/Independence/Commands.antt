@@ -11,7 +11,7 @@ use Rattle.model.specs.declared.Ending.TheVariants.{Goto, Fall}
 use Rattle.model.specs.declared.Outcome.{Outcome}
 use Rattle.model.specs.declared.Outcome.TheVariants.{Continued, Transferred}
 use Rattle.model.specs.Image.{Design}
-use Rattle.model.specs.Lattice.{flows_to, all_flow_to, register_label}
+use Rattle.model.specs.Lattice.{all_flow_to, register_label}
 use Rattle.model.specs.Trees.{Expr, constant, register, binary, Cmd, skip, assign, sequence, fall, goto, branch, registers_read}
 use Rattle.model.specs.Shape.{transfers}
 use Rattle.model.specs.Rules.{Shaped}

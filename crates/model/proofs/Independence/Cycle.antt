@@ -4,20 +4,19 @@ use Prim.Native.Nat.{ℕ, zero, suc, ◌+◌, ◌*◌, ◌/◌, ◌%◌, ◌<◌
 use mathlib.Core.Path.{◌≡◌, refl, sym, ◌∙◌, ap, ap₂, fun_ext}
 use mathlib.Core.Logic.{◌⊎◌, inl, inr, ◌≢◌}
 use mathlib.Core.Bool.{Bool, true, false, ◌&&◌, ◌||◌, not, cond}
-use mathlib.Core.List.{List, [], ◌∷◌, ◌++◌, map}
+use mathlib.Core.List.{List, [], ◌∷◌, ◌++◌}
 use native.Mathlib.Omega.{arith}
-use native.Mathlib.Decide.{ℕ_discrete}
 use lib.Dec.{eqb}
 use lib.ListN.{length, get_or, take, length-map}
 use lib.Seq.{take-append_seam}
 use Rattle.model.specs.declared.Ending.TheVariants.{Goto, Fall}
 use Rattle.model.specs.declared.Outcome.{Outcome}
 use Rattle.model.specs.declared.Outcome.TheVariants.{Continued, Transferred}
-use Rattle.model.specs.Indices.{recursively, tabulate_from}
+use Rattle.model.specs.Indices.{recursively}
 use Rattle.model.specs.Image.{Design, Register, State, state_at}
 use Rattle.model.specs.Limits.{binding_length}
 use Rattle.model.specs.Lattice.{flows_to, all_flow_to, state_label}
-use Rattle.model.specs.Parameters.{all_of, own_parameters, scope_of, lower_bound, upper_bound, within_bounds, label_under}
+use Rattle.model.specs.Parameters.{all_of, own_parameters, scope_of, lower_bound, upper_bound, within_bounds}
 use Rattle.model.specs.Bindings.{cmd_with, bound_in, own_bound, body_with, label_with, bound_by, bound_sound}
 use Rattle.model.specs.States.{parent, is_child, default_target, within}
 use Rattle.model.specs.Trees.{body_of}
@@ -37,7 +36,7 @@ use Rattle.model.proofs.Laws.Bindings.{bound_other, first_bound_lem, second_boun
 use Rattle.model.proofs.Laws.Spares.{body_spares}
 use Rattle.model.proofs.Laws.Scopes.{own_length, own_at}
 use Rattle.model.proofs.Independence.Instances.{AcceptedDesign, rooted, map_same, RunFlows, flows_with, label_with_lem, bound_same, bound_split, label_same}
-use Rattle.model.proofs.Independence.Path.{entry_of, ran, left_by, target, entry, after, Live, gone, left_good, left_live, live_sound, live_label, body_holds, body_shaped, body_flows, ended, target_live, parent_lower, fall_points, fall_keeps}
+use Rattle.model.proofs.Independence.Path.{entry_of, ran, left_by, target, entry, after, Live, left_good, left_live, live_sound, live_label, body_holds, body_shaped, body_flows, ended, target_live, parent_lower, fall_points, fall_keeps}
 use Rattle.model.proofs.Independence.Rising.{Rising, Defaults, default_of_fall, default_bound, gone_defaults, entry_hidden, run_hidden}
 
 -- Two designs with equal labels and registers, and equal state records apart from command numbers, whose bodies are the same commands, apart from node

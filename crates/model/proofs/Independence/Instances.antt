@@ -4,14 +4,14 @@
 use Prim.Native.Nat.{ℕ, zero, suc, ◌+◌, ◌-◌, ◌*◌, ◌≤◌, ◌<◌}
 use mathlib.Core.Path.{◌≡◌, refl, sym, ◌∙◌, ap, ap₂}
 use mathlib.Core.Logic.{◌⊎◌, inl, inr, ⊎_elim, ◌≢◌}
-use mathlib.Core.Bool.{Bool, true, false, ◌&&◌, ◌||◌, not, cond}
+use mathlib.Core.Bool.{Bool, true, ◌&&◌, ◌||◌, not, cond}
 use mathlib.Core.List.{List, [], ◌∷◌, ◌++◌, map, map-append, append-nil}
 use native.Mathlib.Omega.{arith}
 use native.Mathlib.Decide.{dec_lt, ℕ_discrete}
 use lib.Dec.{leb, ltb, eqb}
 use lib.ListN.{length, get_or, length-map, get_or-eq_default}
-use borrow.Author.Tests.{ltb-true, ltb-false, lt-ltb, le-ltb, leb-true, eq-eqb, ne_eqb}
-use Rattle.model.specs.Limits.{parameters_max, parameter_register, parameter_label, binding_length}
+use borrow.Author.Tests.{ltb-true, lt-ltb, le-ltb, leb-true, eq-eqb, ne_eqb}
+use Rattle.model.specs.Limits.{parameter_register, parameter_label, binding_length}
 use Rattle.model.specs.Indices.{tabulate_from}
 use Rattle.model.specs.Image.{Design, Register, register_at, state_at}
 use Rattle.model.specs.Lattice.{all_flow_to, register_label, state_label}
@@ -19,7 +19,7 @@ use Rattle.model.specs.States.{parent, is_port, sibling_or_self}
 use Rattle.model.specs.Trees.{Expr, constant, register, binary, Cmd, skip, assign, sequence, fall, goto, branch, body_of, registers_read}
 use Rattle.model.specs.Parameters.{all_of, own_parameters, scope_of, within_bounds, every_choice, label_byte, label_under}
 use Rattle.model.specs.Scopes.{name_kept, is_argument, argument_kept, field_kept}
-use Rattle.model.specs.Bindings.{named, expr_with, cmd_with, bound_in, own_bound, body_with, label_with, bound_by, on_path, bound_sound, binding_sound}
+use Rattle.model.specs.Bindings.{named, expr_with, cmd_with, bound_in, own_bound, label_with, bound_by, bound_sound}
 use Rattle.model.specs.Flow.{labels_read, named_label, flows_each}
 use Rattle.model.specs.Rules.{IsChoice, none_chosen, one_more, ParameterLabel, StructureKeeps, Shaped, Scoped, ReadsScoped, Flows}
 use Rattle.model.proofs.Laws.Booleans.{and_first, and_second, or_cases, or_first, or_second, not_true, true_or_false, cond_true, cond_false}

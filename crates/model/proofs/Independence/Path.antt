@@ -19,7 +19,7 @@ use Rattle.model.specs.States.{parent, is_child, has_child}
 use Rattle.model.specs.Trees.{Cmd, skip, assign, sequence, fall, goto, branch, body_of}
 use Rattle.model.specs.Falls.{holds_fall}
 use Rattle.model.specs.Bindings.{cmd_with, bound_in, body_with, label_with, bound_by, on_path, bound_sound}
-use Rattle.model.specs.Parameters.{all_of, scope_of, label_under}
+use Rattle.model.specs.Parameters.{all_of, scope_of}
 use Rattle.model.specs.Shape.{transfers}
 use Rattle.model.specs.Limits.{binding_length}
 use Rattle.model.specs.Rules.{Shaped}

@@ -10,11 +10,11 @@ use Rattle.model.specs.declared.Ending.TheVariants.{Goto, Fall}
 use Rattle.model.specs.declared.Outcome.{Outcome}
 use Rattle.model.specs.declared.Outcome.TheVariants.{Continued, Transferred}
 use Rattle.model.specs.Image.{Design}
-use Rattle.model.specs.Lattice.{flows_to, all_flow_to, register_label, state_label}
+use Rattle.model.specs.Lattice.{flows_to, all_flow_to, register_label}
 use Rattle.model.specs.States.{default_target, within}
 use Rattle.model.specs.Trees.{body_of}
 use Rattle.model.specs.Falls.{holds_fall}
-use Rattle.model.specs.Parameters.{all_of, scope_of, label_under}
+use Rattle.model.specs.Parameters.{all_of, scope_of}
 use Rattle.model.specs.Bindings.{bound_in, body_with, label_with, bound_by, bound_sound}
 use Rattle.model.specs.Rules.{FlowsTo, DefaultChild}
 use Rattle.model.specs.Machine.{Areas, Cycle, gone_to, after_body, run_from}

@@ -19,7 +19,7 @@ use Rattle.model.specs.Image.{Design, state_at, no_register}
 use Rattle.model.specs.States.{parent, default_target}
 use Rattle.model.specs.Trees.{Cmd}
 use Rattle.model.specs.Limits.{binding_length}
-use Rattle.model.specs.Parameters.{own_parameters, all_of}
+use Rattle.model.specs.Parameters.{own_parameters}
 use Rattle.model.specs.Bindings.{label_with, body_with, bound_in, on_path, byte_sound, bound_sound, binding_sound}
 use Rattle.model.specs.Rules.{DefaultChild}
 use Rattle.model.specs.Values.{modulus}

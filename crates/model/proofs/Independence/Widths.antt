@@ -8,7 +8,7 @@ use native.Mathlib.Nat.{mod-lt, lt_of_lt_of_le}
 use native.Mathlib.Decide.{dec_lt}
 use lib.Pow.{pow_pos, pow_mono}
 use lib.ListN.{length, get_or, set, get_or-map, get_or-eq_default}
-use Rattle.model.specs.Limits.{value_count, width_max}
+use Rattle.model.specs.Limits.{value_count}
 use Rattle.model.specs.Image.{Design, Register, no_register, register_at}
 use Rattle.model.specs.Trees.{Cmd, skip, assign, sequence, fall, goto, branch}
 use Rattle.model.specs.Rules.{StructureKeeps}

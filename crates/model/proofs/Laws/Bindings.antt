@@ -4,14 +4,14 @@
 use Prim.Native.Nat.{ℕ, zero, suc, ◌+◌, ◌*◌, ◌≤◌, ◌<◌}
 use mathlib.Core.Path.{◌≡◌, refl, sym, ◌∙◌}
 use mathlib.Core.Logic.{◌⊎◌, inl, inr, ◌≢◌}
-use mathlib.Core.Bool.{Bool, true, false, ◌&&◌, ◌||◌, not, cond}
+use mathlib.Core.Bool.{Bool, true, false, ◌&&◌, not, cond}
 use mathlib.Core.List.{List}
 use native.Mathlib.Omega.{arith}
 use native.Mathlib.Decide.{dec_lt, ℕ_discrete}
 use lib.Dec.{ltb, eqb}
 use lib.ListN.{length, get_or, set, length-set}
 use lib.Seq.{get_or-set_same, get_or-set_other}
-use borrow.Author.Tests.{eqb-true, eq-eqb, lt-ltb, le-ltb}
+use borrow.Author.Tests.{lt-ltb, le-ltb}
 use Rattle.model.specs.Limits.{binding_length}
 use Rattle.model.specs.Image.{Design, state_at}
 use Rattle.model.specs.Lattice.{register_label}
@@ -20,7 +20,7 @@ use Rattle.model.specs.Parameters.{all_of, own_parameters, scope_of, within_boun
 use Rattle.model.specs.Bindings.{bound_by, on_path, byte_sound, bound_sound, binding_sound}
 use Rattle.model.specs.Rules.{DefaultChild, ParametersKeep}
 use Rattle.model.specs.Machine.{gone_to}
-use Rattle.model.proofs.Laws.Booleans.{decide, and_first, and_second, and_both, or_cases, or_first, or_second, true_or_false, false_unless_true, false_not, implies_apply, implies_make, cond_false}
+use Rattle.model.proofs.Laws.Booleans.{decide, and_first, and_second, and_both, or_second, true_or_false, false_unless_true, false_not, implies_apply, implies_make, cond_false}
 use Rattle.model.proofs.Laws.Choices.{all_of_append}
 use Rattle.model.proofs.Laws.Scopes.{all_own_iff, scope_root, scope_step}
 use Rattle.model.proofs.Laws.Indices.{nothing_below_zero}

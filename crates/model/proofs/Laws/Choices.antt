@@ -3,7 +3,7 @@ use Prim.Native.Nat.{ℕ, zero, suc, ◌<◌}
 use mathlib.Core.Path.{◌≡◌, refl}
 use mathlib.Core.Logic.Iff
 use mathlib.Core.Logic.{◌↔◌, ◌⊎◌, inl, inr, ⊎_elim}
-use mathlib.Core.Bool.{Bool, true, false, ◌&&◌, cond}
+use mathlib.Core.Bool.{Bool, true, false, cond}
 use mathlib.Core.List.{List, [], ◌∷◌, ◌++◌, map}
 use native.Mathlib.Omega.{arith}
 use lib.ListN.{length}
@@ -11,7 +11,7 @@ use Rattle.model.specs.Indices.{join_below}
 use Rattle.model.specs.Image.{Design}
 use Rattle.model.specs.Parameters.{all_of, scope_of, within_bounds, choices, every_choice}
 use Rattle.model.specs.Rules.{Within, IsChoice, none_chosen, one_more, EveryChoice}
-use Rattle.model.proofs.Laws.Booleans.{decide, and_first, and_second, and_both, true_or_false}
+use Rattle.model.proofs.Laws.Booleans.{decide, and_first, and_second, and_both}
 use Rattle.model.proofs.Laws.Equivalences.{and_iff}
 use Rattle.model.proofs.Laws.Indices.{below_suc, nothing_below_zero}
 

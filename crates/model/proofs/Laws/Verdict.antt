@@ -1,6 +1,6 @@
 -- When answers accept: a stage refuses at what it found, and else lets the next one speak.
 use Prim.Native.Nat.{ℕ}
-use mathlib.Core.Path.{◌≡◌, refl, sym, ◌∙◌, ap}
+use mathlib.Core.Path.{◌≡◌, refl, ap}
 use mathlib.Core.Logic.{◌↔◌}
 use native.Mathlib.Omega.{arith}
 use Rattle.model.specs.declared.Found.{Found}

@@ -5,7 +5,7 @@ use mathlib.Core.List.{List, [], ◌∷◌, ◌++◌, map}
 use Rattle.model.specs.Image.{design_of}
 use Rattle.model.specs.Parties.{Seen, runs, events, values_seen, walk_seen, view}
 use Rattle.model.proofs.Opened.{checks, everything, accepted, refused, judged, lent}
-use Rattle.model.proofs.Designs.{chain, low_and_high, assemble, state_record, skips, assigns, sequences, falls, goes_to, branches, constant, reads, spare}
+use Rattle.model.proofs.Designs.{chain, low_and_high, assemble, state_record, skips, sequences, falls, goes_to, branches, reads, spare}
 
 -- The group, state 1, has label 1 and a body whose last command is 3; states 2, 3 and 4 below it have these labels.
 abbrev grouped : List (List ℕ) → ℕ → ℕ → ℕ → List ℕ

@@ -3,10 +3,10 @@ use Prim.Native.Nat.{ℕ}
 use mathlib.Core.Path.{◌≡◌, refl}
 use mathlib.Core.Bool.{true, false}
 use mathlib.Core.List.{List, [], ◌∷◌, map}
-use lib.ListN.{length, replicate}
+use lib.ListN.{replicate}
 use Rattle.model.specs.Image.{design_of}
 use Rattle.model.specs.Kinds.{add}
-use Rattle.model.specs.Trees.{Cmd, skip, assign, sequence, fall, goto, branch, constant, register, binary}
+use Rattle.model.specs.Trees.{skip, assign, sequence, fall, goto, branch, constant, register, binary}
 use Rattle.model.specs.Parties.{Seen, resets, runs, events, view}
 use Rattle.model.specs.Neighbours.{unnumbered_expr, unnumbered, is_excepted, common_body, common}
 use Rattle.model.proofs.Opened.{checks, sights, accepted, judged, lent_bound}

@@ -13,7 +13,7 @@ use Rattle.model.specs.Machine.{cycle}
 use Rattle.model.specs.Calls.{Lent, run_answer}
 use Rattle.model.specs.Parties.{Call, Beginning, resets, writes, runs, perform}
 use Rattle.model.proofs.Opened.{checks, everything, refused, accepted, judged, told, lent, lent_bound, areas}
-use Rattle.model.proofs.Designs.{assemble, one_state, width_record, register_record, state_record, skips, assigns, sequences, falls, goes_to, branches, constant, reads, adds, subtracts, equals}
+use Rattle.model.proofs.Designs.{assemble, one_state, width_record, register_record, state_record, assigns, sequences, falls, goes_to, branches, constant, reads, adds, subtracts, equals}
 
 -- "The largest image grows by 64 bytes": it had 25,268; 02, E8: "the largest image grows by 320 bytes"
 shows_largest_image : largest_image ≡ 25652

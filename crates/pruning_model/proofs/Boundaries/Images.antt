@@ -1,15 +1,15 @@
 -- Cases at the boundaries of "Write the image with only these, numbers closed up and their nodes kept in order."
 use Prim.Native.Nat.{ℕ}
 use mathlib.Core.Path.{◌≡◌, refl}
-use mathlib.Core.Bool.{Bool, true, false}
+use mathlib.Core.Bool.{true, false}
 use mathlib.Core.List.{List, [], ◌∷◌, map}
-use lib.ListN.{length, replicate}
+use lib.ListN.{replicate}
 use Rattle.model.specs.Image.{design_of}
 use Rattle.model.specs.Machine.{Cycle, reset_areas}
-use Rattle.model.specs.Parties.{Call, resets, writes, runs, events, cycles_of}
-use Rattle.model.specs.Calls.{Lent, reset}
+use Rattle.model.specs.Parties.{Call, writes, runs, events, cycles_of}
+use Rattle.model.specs.Calls.{reset}
 use Rattle.model.proofs.Opened.{checks, accepted, judged, lent_bound}
-use Rattle.model.proofs.Designs.{assemble, register_record, state_record, state_with, assigns, sequences, skips, falls, goes_to, goes_with, goes_with_both, branches, constant, reads, adds, subtracts, lease, chain, low_and_high}
+use Rattle.model.proofs.Designs.{assemble, register_record, state_record, state_with, assigns, sequences, falls, goes_to, goes_with_both, branches, constant, reads, subtracts, lease, chain, low_and_high}
 use Rattle.renumbering.specs.Runs.{Ran, ran_under}
 use Rattle.pruning_model.specs.Reached.{reached}
 use Rattle.pruning_model.specs.Pruned.{new_state, pruned_image}

@@ -6,8 +6,8 @@ use mathlib.Core.List.{List, [], ◌∷◌, map}
 use lib.ListN.{length, replicate}
 use Rattle.model.specs.Indices.{tabulate}
 use Rattle.model.specs.Image.{design_of}
-use Rattle.model.proofs.Opened.{checks, accepted, judged}
-use Rattle.model.proofs.Designs.{assemble, register_record, state_record, state_with, assigns, sequences, skips, falls, goes_to, goes_with, branches, constant, reads, lease, two_groups, one_group, tower, chain, low_and_high}
+use Rattle.model.proofs.Opened.{accepted, judged}
+use Rattle.model.proofs.Designs.{assemble, state_record, sequences, skips, falls, goes_to, branches, constant, lease, two_groups}
 use Rattle.pruning_model.specs.Reached.{reached}
 use Rattle.pruning_model.proofs.Opened.{pruning}
 

@@ -2,12 +2,6 @@ use Rattle.cases.proofs.LeavesRules.{prune_left}
 use borrow.Author.Rules.{rules}
 use Rattle.cases.proofs.prune_records.prune.Goals as goal
 
--- ? slice-aggregate-print : tie.Need-slice-aggregate-print
--- ? slice-aggregate-print c = search rules
-
--- ? slice-aggregate-print-bytes : tie.Need-slice-aggregate-print-bytes
--- ? slice-aggregate-print-bytes c = search rules
-
 pub returns-then-answered : goal.returns-then-answered
 returns-then-answered c = search (prune_left, rules)
 

@@ -1,5 +1,4 @@
 -- What says that a place is the first fault is gathered by hand: it has more premises than a search follows.
-use Prim.Native.Nat.{◌-◌, ◌≤◌}
 use borrow.Author.Rules.{rules}
 use Rattle.checker_flow.proofs.FaultRules.{state_first, none_more, some_here, faults_laws}
 use Rattle.checker_flow.proofs.TableRules.{rows_kept, plain_masks}

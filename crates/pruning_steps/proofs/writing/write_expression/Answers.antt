@@ -31,6 +31,6 @@ returns-in-2-to-11 c = search (operation_new, rules)
 pub returns-in_default : goal.returns-in_default
 returns-in_default c =
     elim c.in_default.branch [
-      in_default-via-then-kind-lt2 w ↦ search (low_new, rules)
-    | in_default-via-else-kind-lt2+else-kind-lt12 w ↦ search (high_new, rules)
+      | in_default-via-then-kind-lt2 w ↦ search (low_new, rules)
+      | in_default-via-else-kind-lt2+else-kind-lt12 w ↦ search (high_new, rules)
     ]
