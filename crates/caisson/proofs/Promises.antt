@@ -115,7 +115,7 @@ pub called_exactly :
 called_exactly image before after call h called = rw (called_made image before after call h called) (lists.call_exactly image before call)
 
 -- "Proved cases, one table", P1 to P10 in their order.
-pub proved-cases
+pub proved_cases
     : (listing (4 ∷ 0 ∷ lease) ≡ bytes_of_text "cycle;walk;registers\n1;0 1;3 0\n2;0 2 3;2 0\n3;0 2 3;1 0\n4;0 2;0 0\n")
     × (walks (parties.events lease any_lent (parties.resets ∷ parties.writes 1 7 ∷ parties.runs 3 ∷ [])) ≡ (0 ∷ 1 ∷ []) ∷ (0 ∷ 2 ∷ 3 ∷ []) ∷ (0 ∷ 2 ∷ 4 ∷ []) ∷ [])
     × ((cycle (design_of lease) (areas (3 ∷ 0 ∷ []) (1 ∷ 1 ∷ 4 ∷ 3 ∷ 4 ∷ []))).after.targets ≡ 2 ∷ 1 ∷ 3 ∷ 3 ∷ 4 ∷ [])
@@ -126,7 +126,7 @@ pub proved-cases
     × (fault_of_rows (15 ∷ 10 ∷ 12 ∷ 8 ∷ []) ≡ Nowhere)
     × (fault_of_rows (7 ∷ 2 ∷ 4 ∷ []) ≡ At 1)
     × (verdict goto_root ≡ Refused Shape 1)
-proved-cases = cases.proved-cases
+proved_cases = cases.proved_cases
 
 -- ---- 01, demand 3, and 02's sentences on lists
 -- 01: two hosts use one image that the library accepts, with lists of reset, port write and run. Where the same remains of both lists at a level, "Matching lists have equal views, and

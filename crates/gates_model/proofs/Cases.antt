@@ -72,10 +72,10 @@ shows_multiplexer_marks : sum (map marks_of_first all) ≡ 46
 shows_multiplexer_marks = unfold everything in refl
 
 -- 001: "if the select line is trusted, and the input it is selecting is trusted, the resulting output should be trusted regardless of .. the other input"
-shows-multiplexer-trusted
+shows_multiplexer_trusted
     : chosen trusted0 untrusted1 trusted1 ∷ chosen trusted1 untrusted0 trusted1 ∷ chosen untrusted1 trusted0 trusted0 ∷ chosen untrusted0 trusted1 trusted0 ∷ []
     ≡ trusted0 ∷ trusted1 ∷ trusted0 ∷ trusted1 ∷ []
-shows-multiplexer-trusted = unfold everything in refl
+shows_multiplexer_trusted = unfold everything in refl
 
 -- ---- the counter of 001's figure 3
 -- "Reset writes the start bytes."
@@ -83,10 +83,10 @@ shows_counter_start : told (gates_reset counter (7 ∷ 9 ∷ [])) ≡ (accepted,
 shows_counter_start = unfold everything in refl
 
 -- "once a trusted reset has been set we know that the counter is in a trusted state 0"
-shows-counter
+shows_counter
     : areas_after counter (1 ∷ 1 ∷ []) (cycles (0 ∷ []) ∷ cycles (0 ∷ []) ∷ cycles (1 ∷ []) ∷ cycles (0 ∷ []) ∷ cycles (0 ∷ []) ∷ [])
     ≡ (0 ∷ 1 ∷ []) ∷ (1 ∷ 1 ∷ []) ∷ (0 ∷ 0 ∷ []) ∷ (1 ∷ 0 ∷ []) ∷ (0 ∷ 0 ∷ []) ∷ []
-shows-counter = unfold everything in refl
+shows_counter = unfold everything in refl
 
 -- ---- flip-flops
 -- "All flip-flops change together after the gates."

@@ -16,28 +16,28 @@ empty = journal_of 0 (spare 95 ∷ [])
 -- ---- a journalled run
 -- "saves both areas, registers first, before every cycle into a third lent area, whose first 4 bytes count the saved cycles, oldest first behind them; its other
 -- bytes keep their values"
-shows-journalled-run
+shows_journalled_run
     : told (run_journalled lease (lends after0 empty) 3) ≡ accepted_with 3 after3 (journal_of 3 (saved0 ∷ saved1 ∷ saved2 ∷ spare 26 ∷ []))
-shows-journalled-run = unfold journalling in refl
+shows_journalled_run = unfold journalling in refl
 
 -- "A journalled run is a run": the same answer, and the same areas
-shows-is-a-run
+shows_is_a_run
     : map (λ (n : ℕ). (run_journalled lease (lends after0 empty) n).answer) (0 ∷ 1 ∷ 4 ∷ []) ≡ map (λ (n : ℕ). (run lease after0 n).answer) (0 ∷ 1 ∷ 4 ∷ [])
-shows-is-a-run = unfold journalling in refl
+shows_is_a_run = unfold journalling in refl
 
-shows-areas-of-a-run
+shows_areas_of_a_run
     : map (λ (n : ℕ). areas_left (run_journalled lease (lends after0 empty) n)) (0 ∷ 1 ∷ 4 ∷ []) ≡ after0 ∷ after1 ∷ after4 ∷ []
-shows-areas-of-a-run = unfold journalling in refl
+shows_areas_of_a_run = unfold journalling in refl
 
 -- a run of 0 saves nothing
 shows_journalled_none : told (run_journalled lease (lends after1 empty) 0) ≡ accepted_with 0 after1 empty
 shows_journalled_none = unfold journalling in refl
 
 -- "its bytes are taken as lent": what is counted is kept byte by byte, sound or not
-shows-counted-kept
+shows_counted_kept
     : told (run_journalled lease (lends after1 (journal_of 2 (spare 46 ∷ replicate 33 7 ∷ []))) 1)
     ≡ accepted_with 1 after2 (journal_of 3 (spare 46 ∷ saved1 ∷ replicate 10 7 ∷ []))
-shows-counted-kept = unfold journalling in refl
+shows_counted_kept = unfold journalling in refl
 
 -- ---- going back
 -- "restores the areas as the journal saved them before the k-th last cycle it counts .. and in the journal only lowers the count, by k"
@@ -58,9 +58,9 @@ shows_back_by_none : told (step_back lease (lends after3 three_saved) 0) ≡ acc
 shows_back_by_none = unfold journalling in refl
 
 -- "its bytes are taken as lent": a journal that no run has written
-shows-by-hand
+shows_by_hand
     : told (step_back lease (lends any_lent (journal_of 1 (lease_saved 200 7 2 4 ∷ []))) 1) ≡ accepted_with 1 (lease_areas 200 7 2 4) (journal_of 0 (lease_saved 200 7 2 4 ∷ []))
-shows-by-hand = unfold journalling in refl
+shows_by_hand = unfold journalling in refl
 
 -- 4 bytes count: 256 of the smallest design, whose saved states have 6 bytes; one more cycle makes 257, and one back 255
 abbrev saved256 : List ℕ
@@ -72,9 +72,9 @@ smallest_areas = record { registers = []; targets = saved256 }
 abbrev counts256 : List ℕ
 counts256 = 0 ∷ 1 ∷ 0 ∷ 0 ∷ replicate 1542 1
 
-shows-count-of-4-bytes
+shows_count_of_4_bytes
     : told (run_journalled smallest (lends smallest_areas counts256) 1) ≡ accepted_with 1 smallest_areas (1 ∷ 1 ∷ 0 ∷ 0 ∷ replicate 1536 1 ++ saved256)
-shows-count-of-4-bytes = unfold journalling in refl
+shows_count_of_4_bytes = unfold journalling in refl
 
 -- ---- parameters: what is bound stands in the area of the targets, and is saved and restored with it
 -- one group, by cycle: the values of r0 and r1 (all others are 0), the root's target, and the register bound to the group
@@ -94,11 +94,11 @@ group_saved timer mode root below bound = group_registers timer mode ++ group_ta
 abbrev five_cycles : List (List ℕ)
 five_cycles = group_saved 3 0 1 3 0 ∷ group_saved 3 1 2 3 4 ∷ group_saved 2 1 2 4 4 ∷ group_saved 1 1 2 3 4 ∷ group_saved 0 1 1 3 4 ∷ []
 
-shows-bindings-saved
+shows_bindings_saved
     : told (run_journalled one_group (lends (group_areas 3 0 1 3 0) (journal_of 0 (spare 195 ∷ []))) 5) ≡ accepted_with 5 (group_areas 3 0 2 3 5) (journal_of 5 five_cycles)
-shows-bindings-saved = unfold journalling in refl
+shows_bindings_saved = unfold journalling in refl
 
-shows-bindings-restored
+shows_bindings_restored
     : map (λ (k : ℕ). areas_left (step_back one_group (lends (group_areas 3 0 2 3 5) (journal_of 5 five_cycles)) k)) (0 ∷ 1 ∷ 4 ∷ 5 ∷ [])
     ≡ group_areas 3 0 2 3 5 ∷ group_areas 0 1 1 3 4 ∷ group_areas 3 1 2 3 4 ∷ group_areas 3 0 1 3 0 ∷ []
-shows-bindings-restored = unfold journalling in refl
+shows_bindings_restored = unfold journalling in refl

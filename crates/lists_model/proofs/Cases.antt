@@ -20,43 +20,43 @@ shows_second_run : leaves (runs_journalled 1 ∷ runs_journalled 2 ∷ []) ≡ l
 shows_second_run = unfold listing in refl
 
 -- back twice, each time from what is counted then
-shows-back-twice
+shows_back_twice
     : map leaves ((runs_journalled 3 ∷ goes_back 1 ∷ goes_back 1 ∷ []) ∷ (runs_journalled 3 ∷ goes_back 2 ∷ []) ∷ [])
     ≡ lends after1 (journal_of 1 (saved0 ∷ saved1 ∷ saved2 ∷ spare 26 ∷ []))
     ∷ lends after1 (journal_of 1 (saved0 ∷ saved1 ∷ saved2 ∷ spare 26 ∷ []))
     ∷ []
-shows-back-twice = unfold listing in refl
+shows_back_twice = unfold listing in refl
 
 -- and forth again: a run saves over the states that going back has freed
-shows-forth-again
+shows_forth_again
     : leaves (runs_journalled 3 ∷ goes_back 2 ∷ writes 1 7 ∷ runs_journalled 1 ∷ [])
     ≡ lends (lease_areas 2 7 2 4) (journal_of 2 (saved0 ∷ lease_saved 3 7 2 3 ∷ saved2 ∷ spare 26 ∷ []))
-shows-forth-again = unfold listing in refl
+shows_forth_again = unfold listing in refl
 
 -- going back within a run that began with a count: from the count now, and not from that at the start of the last run
-shows-from-count-now
+shows_from_count_now
     : map (λ (k : ℕ). (leaves (runs_journalled 1 ∷ runs_journalled 2 ∷ goes_back k ∷ [])).areas) (1 ∷ 2 ∷ 3 ∷ []) ≡ after2 ∷ after1 ∷ after0 ∷ []
-shows-from-count-now = unfold listing in refl
+shows_from_count_now = unfold listing in refl
 
 -- "cycles run without it are not counted": the first and the fourth are
-shows-not-counted
+shows_not_counted
     : map (λ (list : List Call). leaves (runs_journalled 1 ∷ runs 2 ∷ runs_journalled 1 ∷ list)) ([] ∷ (goes_back 1 ∷ []) ∷ (goes_back 2 ∷ []) ∷ [])
     ≡ lends after4 (journal_of 2 (saved0 ∷ saved3 ∷ spare 49 ∷ []))
     ∷ lends after3 (journal_of 1 (saved0 ∷ saved3 ∷ spare 49 ∷ []))
     ∷ lends after0 (journal_of 0 (saved0 ∷ saved3 ∷ spare 49 ∷ []))
     ∷ []
-shows-not-counted = unfold listing in refl
+shows_not_counted = unfold listing in refl
 
 -- a reset and a port write leave the journal as it is, and one goes back over both
-shows-back-over-reset
+shows_back_over_reset
     : map (λ (list : List Call). leaves (runs_journalled 2 ∷ resets ∷ writes 1 7 ∷ list)) ([] ∷ (goes_back 1 ∷ []) ∷ [])
     ≡ lends (lease_areas 3 7 1 3) (journal_of 2 (saved0 ∷ saved1 ∷ spare 49 ∷ []))
     ∷ lends after1 (journal_of 1 (saved0 ∷ saved1 ∷ spare 49 ∷ []))
     ∷ []
-shows-back-over-reset = unfold listing in refl
+shows_back_over_reset = unfold listing in refl
 
 -- "both areas": a port has again the value that it had before the cycle, and each state its target
-shows-port-restored
+shows_port_restored
     : map (λ (list : List Call). (leaves (runs 1 ∷ writes 1 7 ∷ runs_journalled 1 ∷ writes 1 8 ∷ runs_journalled 1 ∷ list)).areas) ([] ∷ (goes_back 1 ∷ []) ∷ (goes_back 2 ∷ []) ∷ [])
     ≡ lease_areas 1 8 2 3 ∷ lease_areas 2 8 2 4 ∷ lease_areas 3 7 2 3 ∷ []
-shows-port-restored = unfold listing in refl
+shows_port_restored = unfold listing in refl

@@ -27,19 +27,19 @@ p1_listing : listing (4 ∷ 0 ∷ lease) ≡ bytes_of_text "cycle;walk;registers
 p1_listing = unfold everything in refl
 
 -- "(P2) with r1 = 7 after reset, cycle 3 walks 0 2 4"
-p2-walks
+p2_walks
     : walks (events lease any_lent (resets ∷ writes 1 7 ∷ runs 3 ∷ [])) ≡ (0 ∷ 1 ∷ []) ∷ (0 ∷ 2 ∷ 3 ∷ []) ∷ (0 ∷ 2 ∷ 4 ∷ []) ∷ []
-p2-walks = unfold everything in refl
+p2_walks = unfold everything in refl
 
 -- "(P3) targets 1 1 4 3 4 become 2 1 3 3 4 in a cycle"
 p3_targets : (cycle (design_of lease) (areas (3 ∷ 0 ∷ []) (1 ∷ 1 ∷ 4 ∷ 3 ∷ 4 ∷ []))).after.targets ≡ 2 ∷ 1 ∷ 3 ∷ 3 ∷ 4 ∷ []
 p3_targets = unfold everything in refl
 
 -- P3 as a call, and all that it leaves
-p3-run
+p3_run
     : told (run lease (lent (3 ∷ 0 ∷ 0 ∷ 0 ∷ 0 ∷ 0 ∷ 0 ∷ 0 ∷ []) (1 ∷ 1 ∷ 4 ∷ 3 ∷ 4 ∷ [])) 1)
     ≡ (accepted 1, lent (3 ∷ 0 ∷ 0 ∷ 0 ∷ 0 ∷ 0 ∷ 0 ∷ 0 ∷ []) (2 ∷ 1 ∷ 3 ∷ 3 ∷ 4 ∷ []))
-p3-run = unfold everything in refl
+p3_run = unfold everything in refl
 
 -- "(P4) 0 - 1 is 4,294,967,295"
 p4_subtract : apply subtract 0 1 ≡ 4294967295
@@ -73,7 +73,7 @@ p10_refused : verdict goto_root ≡ Refused Shape 1
 p10_refused = unfold checks in refl
 
 -- the ten in one, in 01's order
-pub proved-cases
+pub proved_cases
     : (listing (4 ∷ 0 ∷ lease) ≡ bytes_of_text "cycle;walk;registers\n1;0 1;3 0\n2;0 2 3;2 0\n3;0 2 3;1 0\n4;0 2;0 0\n")
     × (walks (events lease any_lent (resets ∷ writes 1 7 ∷ runs 3 ∷ [])) ≡ (0 ∷ 1 ∷ []) ∷ (0 ∷ 2 ∷ 3 ∷ []) ∷ (0 ∷ 2 ∷ 4 ∷ []) ∷ [])
     × ((cycle (design_of lease) (areas (3 ∷ 0 ∷ []) (1 ∷ 1 ∷ 4 ∷ 3 ∷ 4 ∷ []))).after.targets ≡ 2 ∷ 1 ∷ 3 ∷ 3 ∷ 4 ∷ [])
@@ -84,7 +84,7 @@ pub proved-cases
     × (fault_of_rows (15 ∷ 10 ∷ 12 ∷ 8 ∷ []) ≡ Nowhere)
     × (fault_of_rows (7 ∷ 2 ∷ 4 ∷ []) ≡ At 1)
     × (verdict goto_root ≡ Refused Shape 1)
-proved-cases = (p1_listing, p2-walks, p3_targets, p4_subtract, (p5_depth, p5_accepted), p6_refused, p7_rows, p8_rows, p9_rows, p10_refused)
+proved_cases = (p1_listing, p2_walks, p3_targets, p4_subtract, (p5_depth, p5_accepted), p6_refused, p7_rows, p8_rows, p9_rows, p10_refused)
 
 -- 01, 'The lease design'.
 
@@ -93,10 +93,10 @@ lease_length : length lease ≡ 235
 lease_length = refl
 
 -- "with pairs 20,4 24,12 36,20 56,104 160,48"; with E2 the registers take 14, and with E8 the states 45
-lease-directory
+lease_directory
     : map (pair_of lease) (Labels ∷ Registers ∷ States ∷ Commands ∷ Expressions ∷ [])
     ≡ (20, 4) ∷ (24, 14) ∷ (38, 45) ∷ (83, 104) ∷ (187, 48) ∷ []
-lease-directory = refl
+lease_directory = refl
 
 -- check accepts it
 lease_accepted : verdict lease ≡ Accepted 0
@@ -153,10 +153,10 @@ rows_7_6_6 : fault_of_rows (7 ∷ 6 ∷ 6 ∷ []) ≡ At 1
 rows_7_6_6 = unfold checks in refl
 
 -- lattices: chains of two, three and four labels, and the pentagon
-rows-of-lattices
+rows_of_lattices
     : map fault_of_rows ((3 ∷ 2 ∷ []) ∷ (7 ∷ 6 ∷ 4 ∷ []) ∷ (15 ∷ 14 ∷ 12 ∷ 8 ∷ []) ∷ (31 ∷ 22 ∷ 20 ∷ 24 ∷ 16 ∷ []) ∷ [])
     ≡ Nowhere ∷ Nowhere ∷ Nowhere ∷ Nowhere ∷ []
-rows-of-lattices = unfold checks in refl
+rows_of_lattices = unfold checks in refl
 
 -- 3: "kind 2", of register 1
 refusal_03_register_kind_2 : judged kind_two ≡ refused 3 1
@@ -198,10 +198,10 @@ depth_of_condition = unfold checks in refl
 depth_of_expressions : map expr_depth (constant 7 ∷ register 0 0 ∷ binary add (constant 7) (register 0 0) ∷ []) ≡ 1 ∷ 1 ∷ 2 ∷ []
 depth_of_expressions = unfold checks in refl
 
-depth-of-commands
+depth_of_commands
     : map cmd_depth (skip 0 ∷ assign 0 0 (binary add (constant 7) (register 0 0)) ∷ fall 0 ∷ goto 0 1 0 0 ∷ sequence 2 (skip 0) (fall 1) ∷ [])
     ≡ 1 ∷ 1 ∷ 1 ∷ 1 ∷ 2 ∷ []
-depth-of-commands = unfold checks in refl
+depth_of_commands = unfold checks in refl
 
 -- 8: "if r0 then goto 1 else skip", charged to the if
 refusal_08_half_transferring : judged half_transferring ≡ refused 8 3
@@ -268,10 +268,10 @@ refusal_12_fall_or_goto : judged fall_or_goto ≡ refused 12 1
 refusal_12_fall_or_goto = unfold checks in refl
 
 -- "Every call makes the image checks .. first": with a refused image, though the area is too short
-image-first
+image_first
     : map (λ call. told (perform high_to_low short_lent call)) (resets ∷ writes 0 7 ∷ runs 1 ∷ [])
     ≡ (refused 10 1, short_lent) ∷ (refused 10 1, short_lent) ∷ (refused 10 1, short_lent) ∷ []
-image-first = unfold everything in refl
+image_first = unfold everything in refl
 
 -- 13: "writing r0 of kind 0", and a register that is not there; "No lent byte changes."
 refusal_13_inner : told (perform lease any_lent (writes 0 7)) ≡ (refused 13 0, any_lent)
@@ -357,16 +357,16 @@ accepted_run_of_4 : told (run lease reset_lent 4) ≡ (accepted 4, lent (0 ∷ 0
 accepted_run_of_4 = unfold everything in refl
 
 -- "An assignment shows at the next read": state 2 takes 1 from r0 = 1, reads 0 and goes to 1
-assignment-shows
+assignment_shows
     : cycle (design_of lease) (areas (1 ∷ 0 ∷ []) (2 ∷ 1 ∷ 3 ∷ 3 ∷ 4 ∷ []))
     ≡ record { after = areas (0 ∷ 0 ∷ []) (1 ∷ 1 ∷ 3 ∷ 3 ∷ 4 ∷ []); walk = 0 ∷ 2 ∷ []; ran_with = replicate 10 0 }
-assignment-shows = unfold everything in refl
+assignment_shows = unfold everything in refl
 
 -- "An if takes its first branch when the value is not 0": state 3 with r1 = 7 goes to 4
-if-not-0
+if_not_0
     : cycle (design_of lease) (areas (3 ∷ 7 ∷ []) (2 ∷ 1 ∷ 3 ∷ 3 ∷ 4 ∷ []))
     ≡ record { after = areas (2 ∷ 7 ∷ []) (2 ∷ 1 ∷ 4 ∷ 3 ∷ 4 ∷ []); walk = 0 ∷ 2 ∷ 3 ∷ []; ran_with = replicate 10 0 }
-if-not-0 = unfold everything in refl
+if_not_0 = unfold everything in refl
 
 -- "adding and subtracting wrap"
 add_and_subtract : apply add 4294967295 2 ∷ apply add 1 2 ∷ apply subtract 7 2 ∷ apply subtract 1 3 ∷ [] ≡ 1 ∷ 3 ∷ 5 ∷ 4294967294 ∷ []
@@ -388,10 +388,10 @@ tower_accepted : verdict tower ≡ Accepted 0
 tower_accepted = unfold checks in refl
 
 -- "sets s and all its descendants to default children": 2, its child 3 and its grandchild 4, and not the group 8, which keeps its choice 10
-goto-clears-descendants
+goto_clears_descendants
     : cycle (design_of tower) (areas [] (1 ∷ 1 ∷ 3 ∷ 7 ∷ 6 ∷ 5 ∷ 6 ∷ 7 ∷ 10 ∷ 9 ∷ 10 ∷ []))
     ≡ record { after = areas [] (2 ∷ 1 ∷ 3 ∷ 4 ∷ 5 ∷ 5 ∷ 6 ∷ 7 ∷ 10 ∷ 9 ∷ 10 ∷ []); walk = 0 ∷ 1 ∷ []; ran_with = replicate 22 0 }
-goto-clears-descendants = unfold everything in refl
+goto_clears_descendants = unfold everything in refl
 
 -- "then the parent's target to s": at the root, its own parent, the second step is seen
 goto_clears_first : gone_to (design_of smallest) 0 (1 ∷ 1 ∷ []) ≡ 0 ∷ 1 ∷ []
@@ -404,16 +404,16 @@ two_groups_accepted : verdict two_groups ≡ Accepted 0
 two_groups_accepted = unfold checks in refl
 
 -- r2 = 1 is written before cycle 3
-two-groups-lines
+two_groups_lines
     : lines 1 (cycles_of (events two_groups groups_lent (resets ∷ runs 2 ∷ writes 2 1 ∷ runs 4 ∷ [])))
     ≡ bytes_of_text "1;0 1;3 1 0 0\n2;0 2 4;2 1 0 0\n3;0 2 5;1 1 1 0\n4;0 2;0 1 1 0\n5;0 1;3 0 1 0\n6;0 3 6;2 0 1 0\n"
-two-groups-lines = unfold everything in refl
+two_groups_lines = unfold everything in refl
 
 -- after cycle 4 group 2 keeps its choice 5 until the next goto to it
-two-groups-after-4
+two_groups_after_4
     : at_end two_groups groups_lent (resets ∷ runs 2 ∷ writes 2 1 ∷ runs 2 ∷ [])
     ≡ lent (0 ∷ 0 ∷ 0 ∷ 0 ∷ 1 ∷ 0 ∷ 0 ∷ 0 ∷ 1 ∷ 0 ∷ 0 ∷ 0 ∷ 0 ∷ 0 ∷ 0 ∷ 0 ∷ []) (1 ∷ 1 ∷ 5 ∷ 6 ∷ 4 ∷ 5 ∷ 6 ∷ 7 ∷ [])
-two-groups-after-4 = unfold everything in refl
+two_groups_after_4 = unfold everything in refl
 
 -- Document 004, figure 2(c): one group with a parameter for both parties.
 
@@ -422,16 +422,16 @@ one_group_accepted : verdict one_group ≡ Accepted 0
 one_group_accepted = unfold checks in refl
 
 -- its walk is that of the two groups, with group 2 for 3, and 3 and 4 for 4 and 5 and for 6 and 7; r4 and r5 are as r2 and r3
-one-group-lines
+one_group_lines
     : lines 1 (cycles_of (events one_group one_group_lent (resets ∷ runs 2 ∷ writes 2 1 ∷ runs 4 ∷ [])))
     ≡ bytes_of_text "1;0 1;3 1 0 0 0 0\n2;0 2 3;2 1 0 0 0 0\n3;0 2 4;1 1 1 0 1 0\n4;0 2;0 1 1 0 1 0\n5;0 1;3 0 1 0 1 0\n6;0 2 3;2 0 1 0 1 0\n"
-one-group-lines = unfold everything in refl
+one_group_lines = unfold everything in refl
 
 -- after cycle 5 r5 is bound to the group, and the group keeps no choice
-one-group-after-5
+one_group_after_5
     : at_end one_group one_group_lent (resets ∷ runs 5 ∷ [])
     ≡ lent_bound (3 ∷ replicate 23 0) (2 ∷ 1 ∷ 3 ∷ 3 ∷ 4 ∷ []) (0 ∷ 0 ∷ 0 ∷ 0 ∷ 5 ∷ replicate 5 0)
-one-group-after-5 = unfold everything in refl
+one_group_after_5 = unfold everything in refl
 
 -- What a party sees of one group is what it sees of two, with the state that stands for each of the eight, the register bound to it, and behind the registers the copies of those from r2 on.
 abbrev ran : ℕ → List ℕ → RanState

@@ -53,7 +53,7 @@ fn resized(design: Design, states: usize, commands: usize, expressions: usize) -
 fn prune_numbered(
     image: &[u8],
     design: Design,
-    res: Design,
+    smaller: Design,
     reached: &[u8],
     commands: &[u8],
     expressions: &[u8],
@@ -63,19 +63,19 @@ fn prune_numbered(
     out: &mut [u8],
 ) -> Answer
     requires { Structured image.now design
-        × Result (design_of image.now) res
+        × Result (design_of image.now) smaller
         × AllMarked (design_of image.now) design reached.now commands.now expressions.now
         × AllNumbered (design_of image.now) design state_numbers.now command_numbers.now expression_numbers.now }
     ensures { left_as result out.new ≡ prune_on image.now out.old }
 {
-    let length = nodes_end(res.expressions_at, res.expressions);
+    let length = nodes_end(smaller.expressions_at, smaller.expressions);
     if out.len() < length {
         return Answer::Refused(Refusal::OutputArea, 0);
     }
     write(
         image,
         design,
-        res,
+        smaller,
         reached,
         commands,
         expressions,

@@ -30,15 +30,15 @@ fn put_kept(image: &[u8], design: Design, out: &mut [u8])
 }
 
 // The directory of the result.
-fn put_result(res: Design, out: &mut [u8])
-    requires { Near res × (directory_length ≤ length out.old) }
-    ensures { ResultPut res out.old out.new }
+fn put_result(smaller: Design, out: &mut [u8])
+    requires { Near smaller × (directory_length ≤ length out.old) }
+    ensures { ResultPut smaller out.old out.new }
 {
-    let labels = Design::LABEL_LENGTH * res.labels;
-    let registers = Design::REGISTER_LENGTH * res.registers;
-    let states = Design::STATE_LENGTH * res.states;
-    let commands = Design::NODE_LENGTH * res.commands;
-    let expressions = Design::NODE_LENGTH * res.expressions;
+    let labels = Design::LABEL_LENGTH * smaller.labels;
+    let registers = Design::REGISTER_LENGTH * smaller.registers;
+    let states = Design::STATE_LENGTH * smaller.states;
+    let commands = Design::NODE_LENGTH * smaller.commands;
+    let expressions = Design::NODE_LENGTH * smaller.expressions;
     put_directory(
         out,
         Design::DIRECTORY_LENGTH,
@@ -51,13 +51,13 @@ fn put_result(res: Design, out: &mut [u8])
 }
 
 // All that stands in front of the states.
-fn write_front(image: &[u8], design: Design, res: Design, out: &mut [u8])
+fn write_front(image: &[u8], design: Design, smaller: Design, out: &mut [u8])
     requires { Structured image.now design
-        × Result (design_of image.now) res
+        × Result (design_of image.now) smaller
         × (length (pruned_image image.now) ≤ length out.old) }
     ensures { out.new ≡ overwritten_at 0 (states_front (pruned (design_of image.now))) out.old }
 {
-    put_result(res, out);
+    put_result(smaller, out);
     put_kept(image, design, out);
 }
 
@@ -65,22 +65,22 @@ fn write_front(image: &[u8], design: Design, res: Design, out: &mut [u8])
 fn write_to_commands(
     image: &[u8],
     design: Design,
-    res: Design,
+    smaller: Design,
     reached: &[u8],
     state_numbers: &[u16],
     command_numbers: &[u16],
     out: &mut [u8],
 )
     requires { Structured image.now design
-        × Result (design_of image.now) res
+        × Result (design_of image.now) smaller
         × Marked (reached_in (design_of image.now)) design.states reached.now
         × Numbered (reached_in (design_of image.now)) design.states state_numbers.now
         × Numbered (command_stays (design_of image.now)) design.commands command_numbers.now
         × (length (pruned_image image.now) ≤ length out.old) }
     ensures { out.new ≡ overwritten_at 0 (commands_front (pruned (design_of image.now))) out.old }
 {
-    let at = res.states_at;
-    write_front(image, design, res, out);
+    let at = smaller.states_at;
+    write_front(image, design, smaller, out);
     write_states(
         image,
         design,
@@ -96,7 +96,7 @@ fn write_to_commands(
 fn write_to_expressions(
     image: &[u8],
     design: Design,
-    res: Design,
+    smaller: Design,
     reached: &[u8],
     commands: &[u8],
     state_numbers: &[u16],
@@ -105,18 +105,18 @@ fn write_to_expressions(
     out: &mut [u8],
 )
     requires { Structured image.now design
-        × Result (design_of image.now) res
+        × Result (design_of image.now) smaller
         × Marked (reached_in (design_of image.now)) design.states reached.now
         × Marked (command_stays (design_of image.now)) design.commands commands.now
         × AllNumbered (design_of image.now) design state_numbers.now command_numbers.now expression_numbers.now
         × (length (pruned_image image.now) ≤ length out.old) }
     ensures { out.new ≡ overwritten_at 0 (expressions_front (pruned (design_of image.now))) out.old }
 {
-    let at = res.commands_at;
+    let at = smaller.commands_at;
     write_to_commands(
         image,
         design,
-        res,
+        smaller,
         reached,
         state_numbers,
         command_numbers,
@@ -138,7 +138,7 @@ fn write_to_expressions(
 pub fn write(
     image: &[u8],
     design: Design,
-    res: Design,
+    smaller: Design,
     reached: &[u8],
     commands: &[u8],
     expressions: &[u8],
@@ -148,17 +148,17 @@ pub fn write(
     out: &mut [u8],
 )
     requires { Structured image.now design
-        × Result (design_of image.now) res
+        × Result (design_of image.now) smaller
         × AllMarked (design_of image.now) design reached.now commands.now expressions.now
         × AllNumbered (design_of image.now) design state_numbers.now command_numbers.now expression_numbers.now
         × (length (pruned_image image.now) ≤ length out.old) }
     ensures { out.new ≡ over (pruned_image image.now) out.old }
 {
-    let at = res.expressions_at;
+    let at = smaller.expressions_at;
     write_to_expressions(
         image,
         design,
-        res,
+        smaller,
         reached,
         commands,
         state_numbers,

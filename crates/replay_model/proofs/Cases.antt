@@ -25,31 +25,31 @@ shows_replay = unfold replaying in refl
 abbrev registers_after : List TraceRecord → ℕ → ℕ → List (List ℕ)
 registers_after trace first n = map (λ (c : Cycle). c.after.registers) (replayed (design_of meters) trace first n (areas_of (design_of meters) meter_start))
 
-shows-before-each-cycle
+shows_before_each_cycle
     : registers_after month 0 4
     ≡ (5 ∷ 0 ∷ 5 ∷ 0 ∷ 50 ∷ []) ∷ (5 ∷ 5 ∷ 5 ∷ 0 ∷ 50 ∷ []) ∷ (6 ∷ 5 ∷ 6 ∷ 100 ∷ 150 ∷ []) ∷ (7 ∷ 6 ∷ 7 ∷ 100 ∷ 250 ∷ []) ∷ []
-shows-before-each-cycle = unfold replaying in refl
+shows_before_each_cycle = unfold replaying in refl
 
 -- "cycle from 0": a record of cycle 1 comes before the second cycle
 shows_cycle_from_0 : registers_after (reading 1 2 9 ∷ []) 0 2 ≡ (4 ∷ 0 ∷ 4 ∷ 0 ∷ 50 ∷ []) ∷ (9 ∷ 4 ∷ 9 ∷ 0 ∷ 50 ∷ []) ∷ []
 shows_cycle_from_0 = unfold replaying in refl
 
 -- the records of the last cycle are applied too, and it runs with them
-shows-last-cycle
+shows_last_cycle
     : map (λ (c : ℕ). told (replay meters meter_start (reading c 2 9 ∷ []) 3)) (0 ∷ 1 ∷ 2 ∷ [])
     ≡ accepted_with 0 (meter_areas 9 9 9 0 50) ∷ accepted_with 0 (meter_areas 9 9 9 0 50) ∷ accepted_with 0 (meter_areas 9 4 9 0 50) ∷ []
-shows-last-cycle = unfold replaying in refl
+shows_last_cycle = unfold replaying in refl
 
 -- "its records": those of the cycle, and none before or behind it, in their order
-shows-records-of-cycle
+shows_records_of_cycle
     : map (λ (c : ℕ). records_of_cycle c month) (0 ∷ 1 ∷ 2 ∷ 3 ∷ 4 ∷ [])
     ≡ (reading 0 2 5 ∷ []) ∷ [] ∷ (reading 2 2 6 ∷ reading 2 3 100 ∷ []) ∷ (reading 3 2 7 ∷ []) ∷ [] ∷ []
-shows-records-of-cycle = unfold replaying in refl
+shows_records_of_cycle = unfold replaying in refl
 
 -- "of two for one cycle and port the later supersedes the earlier, and the answer counts those superseded"
-shows-later-stands
+shows_later_stands
     : told (replay meters meter_start (reading 0 2 8 ∷ reading 0 3 10 ∷ reading 0 2 9 ∷ reading 0 3 20 ∷ []) 1) ≡ accepted_with 2 (meter_areas 9 0 9 20 70)
-shows-later-stands = unfold replaying in refl
+shows_later_stands = unfold replaying in refl
 
 -- without records a replay is a run, but for what it counts; with n of 0 nothing changes
 shows_no_records : map (λ (n : ℕ). (replay meters meter_start [] n).lent) (0 ∷ 1 ∷ 3 ∷ []) ≡ map (λ (n : ℕ). (run meters meter_start n).lent) (0 ∷ 1 ∷ 3 ∷ [])
@@ -76,23 +76,23 @@ group_areas timer mode reading root below bound =
     (root ∷ 1 ∷ below ∷ 3 ∷ 4 ∷ [])
     (0 ∷ 0 ∷ 0 ∷ 0 ∷ bound ∷ 0 ∷ 0 ∷ 0 ∷ 0 ∷ 0 ∷ [])
 
-shows-bindings
+shows_bindings
     : map (λ (trace : List TraceRecord). told (replay one_group (group_areas 3 0 0 1 3 0) trace 2)) ([] ∷ (reading 1 2 7 ∷ []) ∷ [])
     ≡ accepted_with 0 (group_areas 2 1 0 2 4 4) ∷ accepted_with 0 (group_areas 2 1 7 2 3 4) ∷ []
-shows-bindings = unfold replaying in refl
+shows_bindings = unfold replaying in refl
 
 -- ---- "The outcome equals port writes and single cycles made by hand."
-shows-by-hand
+shows_by_hand
     : by_hand month 0 4 ≡ writes 2 5 ∷ runs 1 ∷ runs 1 ∷ writes 2 6 ∷ writes 3 100 ∷ runs 1 ∷ writes 2 7 ∷ runs 1 ∷ []
-shows-by-hand = unfold replaying in refl
+shows_by_hand = unfold replaying in refl
 
 shows_same_by_hand : at_end meters meter_start (by_hand month 0 4) ≡ meter_areas 7 6 7 100 250
 shows_same_by_hand = unfold replaying in refl
 
 -- the superseded ones are written too, before those that supersede them
-shows-superseded-by-hand
+shows_superseded_by_hand
     : by_hand (reading 0 2 8 ∷ reading 0 3 10 ∷ reading 0 2 9 ∷ []) 0 1 ≡ writes 2 8 ∷ writes 3 10 ∷ writes 2 9 ∷ runs 1 ∷ []
-shows-superseded-by-hand = unfold replaying in refl
+shows_superseded_by_hand = unfold replaying in refl
 
 -- of no cycle nothing, of no record the cycles alone; from a later cycle on its records and those behind it
 shows_none_by_hand : by_hand month 0 0 ∷ by_hand [] 0 3 ∷ by_hand month 3 1 ∷ [] ≡ [] ∷ (runs 1 ∷ runs 1 ∷ runs 1 ∷ []) ∷ (writes 2 7 ∷ runs 1 ∷ []) ∷ []
@@ -103,13 +103,13 @@ shows_none_by_hand = unfold replaying in refl
 shows_divided_at_0 : trace_part 0 month ∷ trace_rest 0 month ∷ [] ≡ [] ∷ month ∷ []
 shows_divided_at_0 = unfold replaying in refl
 
-shows-divided-at-2
+shows_divided_at_2
     : trace_part 2 month ∷ trace_rest 2 month ∷ [] ≡ (reading 0 2 5 ∷ []) ∷ (reading 0 2 6 ∷ reading 0 3 100 ∷ reading 1 2 7 ∷ []) ∷ []
-shows-divided-at-2 = unfold replaying in refl
+shows_divided_at_2 = unfold replaying in refl
 
-shows-divided-at-3
+shows_divided_at_3
     : trace_part 3 month ∷ trace_rest 3 month ∷ [] ≡ (reading 0 2 5 ∷ reading 2 2 6 ∷ reading 2 3 100 ∷ []) ∷ (reading 0 2 7 ∷ []) ∷ []
-shows-divided-at-3 = unfold replaying in refl
+shows_divided_at_3 = unfold replaying in refl
 
 shows_divided_at_4 : trace_part 4 month ∷ trace_rest 4 month ∷ [] ≡ month ∷ [] ∷ []
 shows_divided_at_4 = unfold replaying in refl
@@ -117,10 +117,10 @@ shows_divided_at_4 = unfold replaying in refl
 abbrev in_two : ℕ → ℕ → Lent
 in_two n m = (replay meters (replay meters meter_start (trace_part n month) n).lent (trace_rest n month) m).lent
 
-shows-both-together
+shows_both_together
     : in_two 0 4 ∷ in_two 1 3 ∷ in_two 2 2 ∷ in_two 3 1 ∷ in_two 4 0 ∷ []
     ≡ meter_areas 7 6 7 100 250 ∷ meter_areas 7 6 7 100 250 ∷ meter_areas 7 6 7 100 250 ∷ meter_areas 7 6 7 100 250 ∷ meter_areas 7 6 7 100 250 ∷ []
-shows-both-together = unfold replaying in refl
+shows_both_together = unfold replaying in refl
 
 -- "where n plus m is allowed": each of the two may be 1,000,000 where the whole is 15
 shows_sum_allowed : answered 1000000 [] ∷ answered 1 [] ∷ answered 1000001 [] ∷ [] ≡ accepted 0 ∷ accepted 0 ∷ refused 15 0 ∷ []
@@ -130,6 +130,6 @@ shows_sum_allowed = unfold replaying in refl
 abbrev falling : List TraceRecord
 falling = reading 1 2 5 ∷ reading 0 2 6 ∷ []
 
-shows-whole-refused
+shows_whole_refused
     : answered 2 falling ∷ answered 1 (trace_part 1 falling) ∷ answered 1 (trace_rest 1 falling) ∷ [] ≡ refused 23 1 ∷ accepted 0 ∷ accepted 0 ∷ []
-shows-whole-refused = unfold replaying in refl
+shows_whole_refused = unfold replaying in refl

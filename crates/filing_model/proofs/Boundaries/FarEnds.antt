@@ -39,7 +39,7 @@ shows_high_expression_order : expression_order high ≡ 297 ∷ 298 ∷ 299 ∷ 
 shows_high_expression_order = unfold filing in refl
 
 -- the form: each node under its new number
-shows-high-form
+shows_high_form
     : filed high
     ≡ record {
       rows = 1 ∷ [];
@@ -48,14 +48,14 @@ shows-high-form
       commands = node_like 3 0 0 0 ∷ node_like 1 0 2 0 ∷ node_like 4 1 0 0 ∷ node_like 2 0 1 2 ∷ [];
       expressions = node_like 0 0 0 1 ∷ node_like 0 0 0 2 ∷ node_like 2 0 0 1 ∷ [];
     }
-shows-high-form = unfold filing in refl
+shows_high_form = unfold filing in refl
 
 -- "by these bytes": a byte behind 300 equal ones decides, and so does the length behind them
-shows-byte-300
+shows_byte_300
     : comes_before (replicate 300 7 ++ (1 ∷ [])) (replicate 300 7 ++ (2 ∷ []))
     ∷ comes_before (replicate 300 7 ++ (2 ∷ [])) (replicate 300 7 ++ (1 ∷ []))
     ∷ comes_before (replicate 300 7) (replicate 300 7 ++ (0 ∷ []))
     ∷ comes_before (replicate 300 7 ++ (0 ∷ [])) (replicate 300 7)
     ∷ []
     ≡ true ∷ false ∷ true ∷ false ∷ []
-shows-byte-300 = unfold filing in refl
+shows_byte_300 = unfold filing in refl

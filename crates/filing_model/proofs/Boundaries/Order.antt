@@ -14,13 +14,13 @@ shows_equal : comes_before [] [] ∷ comes_before (1 ∷ 2 ∷ []) (1 ∷ 2 ∷ 
 shows_equal = unfold filing in refl
 
 -- the first place where two differ decides, whatever stands behind it and however long they are
-shows-first-place
+shows_first_place
     : comes_before (1 ∷ 9 ∷ 9 ∷ []) (2 ∷ []) ∷ comes_before (2 ∷ []) (1 ∷ 9 ∷ 9 ∷ []) ∷ comes_before (5 ∷ 1 ∷ 9 ∷ []) (5 ∷ 2 ∷ 0 ∷ []) ∷ comes_before (5 ∷ 2 ∷ 0 ∷ []) (5 ∷ 1 ∷ 9 ∷ []) ∷ []
     ≡ true ∷ false ∷ true ∷ false ∷ []
-shows-first-place = unfold filing in refl
+shows_first_place = unfold filing in refl
 
 -- "by these bytes": from 0 to 255, and none of them below 0
-shows-high-bytes
+shows_high_bytes
     : comes_before (127 ∷ []) (128 ∷ []) ∷ comes_before (128 ∷ []) (127 ∷ []) ∷ comes_before (0 ∷ []) (255 ∷ []) ∷ comes_before (255 ∷ []) (0 ∷ []) ∷ comes_before (254 ∷ []) (255 ∷ []) ∷ []
     ≡ true ∷ false ∷ true ∷ false ∷ true ∷ []
-shows-high-bytes = unfold filing in refl
+shows_high_bytes = unfold filing in refl

@@ -26,7 +26,7 @@ shows_three_pairs : judged (laid 12 1 13 4 17 4 (input ++ flipflop ++ one)) ≡ 
 shows_three_pairs = unfold everything in refl
 
 -- a byte before each section, and one behind the last
-shows-byte-between
+shows_byte_between
     : map
     judged
     (laid 13 1 14 4 18 4 (0 ∷ input ++ flipflop ++ one)
@@ -35,10 +35,10 @@ shows-byte-between
     ∷ laid 12 1 13 4 17 4 (input ++ flipflop ++ one ++ (0 ∷ []))
     ∷ [])
     ≡ replicate 4 (refused 25 0)
-shows-byte-between = unfold everything in refl
+shows_byte_between = unfold everything in refl
 
 -- each section begun a byte too early, and the last byte left out
-shows-byte-shared
+shows_byte_shared
     : map
     judged
     (laid 11 1 12 4 16 4 (flipflop ++ one)
@@ -47,10 +47,10 @@ shows-byte-shared
     ∷ laid 12 1 13 4 17 4 (input ++ flipflop ++ replicate 3 0)
     ∷ [])
     ≡ replicate 4 (refused 25 0)
-shows-byte-shared = unfold everything in refl
+shows_byte_shared = unfold everything in refl
 
 -- "flip-flops, 4 bytes", "gates, 4 bytes": a byte less and a byte more
-shows-section-lengths
+shows_section_lengths
     : map
     judged
     (sections input (replicate 3 0) one
@@ -60,15 +60,15 @@ shows-section-lengths
     ∷ sections input (flipflop ++ flipflop) (one ++ one)
     ∷ [])
     ≡ replicate 4 (refused 25 0) ++ (accepted ∷ [])
-shows-section-lengths = unfold everything in refl
+shows_section_lengths = unfold everything in refl
 
 -- "At most 256, 256 and 4,096."
 shows_most_inputs : map judged (sections (replicate 256 1) [] [] ∷ sections (replicate 257 1) [] [] ∷ []) ≡ accepted ∷ refused 25 0 ∷ []
 shows_most_inputs = unfold everything in refl
 
-shows-most-flipflops
+shows_most_flipflops
     : map judged (sections [] (joined (replicate 256 (flip_flop 255 1 1))) [] ∷ sections [] (joined (replicate 257 (flip_flop 0 1 1))) [] ∷ []) ≡ accepted ∷ refused 25 0 ∷ []
-shows-most-flipflops = unfold everything in refl
+shows_most_flipflops = unfold everything in refl
 
 shows_most_gates : map directory_kept (sections [] [] (replicate 16384 0) ∷ sections [] [] (replicate 16388 0) ∷ []) ≡ true ∷ false ∷ []
 shows_most_gates = unfold everything in refl

@@ -40,10 +40,10 @@ widest =
     }
 
 -- "Wires are numbered inputs, flip-flops, gates": of 512 wires the last input and the first flip-flop
-shows-widest-cycle
+shows_widest_cycle
     : cycled widest (replicate 255 0 ++ (1 ∷ [])) (1 ∷ 1 ∷ replicate 510 0)
     ≡ 1 ∷ 0 ∷ bytes_of (replicate 254 (signal 0 1)) ++ (1 ∷ 1 ∷ [])
-shows-widest-cycle = unfold everything in refl
+shows_widest_cycle = unfold everything in refl
 
 -- "Reset writes the start bytes.": of the last flip-flop too
 shows_widest_start : started widest ≡ replicate 510 0 ++ (1 ∷ 1 ∷ [])
@@ -74,51 +74,51 @@ abbrev largest : FlipFlop → Gate → Table
 largest flipflop last = record { inputs = replicate 256 0; flipflops = replicate 255 (flip_flop_like 0 0 0) ++ (flipflop ∷ []); gates = replicate 4095 (gate_like 0 0) ++ (last ∷ []) }
 
 -- "next wire": the last of 4,608, and the first behind it; bytes with their top bit set
-shows-last-flipflop
+shows_last_flipflop
     : map (λ f. flip_flop_kept (largest f (gate_like 0 0)) 255) (flip_flop_like 4607 1 1 ∷ flip_flop_like 4608 0 0 ∷ flip_flop_like 32768 0 0 ∷ flip_flop_like 0 128 0 ∷ flip_flop_like 0 0 128 ∷ []) ≡ true ∷ replicate 4 false
-shows-last-flipflop = unfold everything in refl
+shows_last_flipflop = unfold everything in refl
 
 -- "a gate reads lower wires only": the last gate is wire 4,607
-shows-last-gate
+shows_last_gate
     : map
     (λ g. gate_kept (largest (flip_flop_like 0 0 0) g) 4095)
     (gate_like 4606 4606 ∷ gate_like 4607 0 ∷ gate_like 0 4607 ∷ gate_like 32768 0 ∷ gate_like 0 32768 ∷ [])
     ≡ true ∷ replicate 4 false
-shows-last-gate = unfold everything in refl
+shows_last_gate = unfold everything in refl
 
 -- by the kind of the wire: input 255, flip-flop 255 and gate 4,095
-shows-last-wires
+shows_last_wires
     : map (wire_kept (largest (flip_flop_like 0 2 0) (gate_like 4607 0))) (255 ∷ 256 ∷ 511 ∷ 512 ∷ 4607 ∷ []) ≡ true ∷ true ∷ false ∷ true ∷ false ∷ []
-shows-last-wires = unfold everything in refl
+shows_last_wires = unfold everything in refl
 
 -- "lent bytes": of the last input and of both bytes of the last flip-flop, also with their top bit set
-shows-last-lent
+shows_last_lent
     : lent_kept widest (replicate 255 0 ++ (1 ∷ [])) (replicate 512 1) 255
     ∷ lent_kept widest (replicate 255 0 ++ (128 ∷ [])) (replicate 512 1) 255
     ∷ lent_kept widest [] (replicate 511 0 ++ (128 ∷ [])) 511
     ∷ lent_kept widest [] (replicate 510 0 ++ (128 ∷ 0 ∷ [])) 511
     ∷ []
     ≡ true ∷ false ∷ false ∷ false ∷ []
-shows-last-lent = unfold everything in refl
+shows_last_lent = unfold everything in refl
 
 -- ---- which fault is told
 -- "at the lowest wire": of two flip-flops a wire, a value and a mark, each before another
-shows-flipflop-before-higher
+shows_flipflop_before_higher
     : map
     (λ (pair : List ℕ × List ℕ). judged (assemble (0 ∷ []) (pair.0 ∷ pair.1 ∷ []) []))
     ((flip_flop 3 0 0, flip_flop 0 2 0) ∷ (flip_flop 3 0 0, flip_flop 0 0 2) ∷ (flip_flop 0 2 0, flip_flop 3 0 0) ∷ (flip_flop 0 2 0, flip_flop 0 0 2) ∷ (flip_flop 0 0 2, flip_flop 3 0 0) ∷ (flip_flop 0 0 2, flip_flop 0 2 0) ∷ [])
     ≡ replicate 6 (refused 26 1)
-shows-flipflop-before-higher = unfold everything in refl
+shows_flipflop_before_higher = unfold everything in refl
 
 -- of two gates the first wire and the second, either way round
-shows-gate-before-higher
+shows_gate_before_higher
     : map judged (assemble (0 ∷ []) [] (gate 1 0 ∷ gate 0 2 ∷ []) ∷ assemble (0 ∷ []) [] (gate 0 1 ∷ gate 2 0 ∷ []) ∷ []) ≡ replicate 2 (refused 26 1)
-shows-gate-before-higher = unfold everything in refl
+shows_gate_before_higher = unfold everything in refl
 
 -- of lent bytes too: the mark of the first flip-flop before the value of the second, and the other way round
-shows-lent-before-higher
+shows_lent_before_higher
     : map
     (λ (area : List ℕ). told (gates_cycle (assemble [] (flip_flop 0 0 0 ∷ flip_flop 0 0 0 ∷ []) []) [] area))
     ((0 ∷ 2 ∷ 2 ∷ 0 ∷ []) ∷ (2 ∷ 0 ∷ 0 ∷ 2 ∷ []) ∷ [])
     ≡ (refused 26 0, 0 ∷ 2 ∷ 2 ∷ 0 ∷ []) ∷ (refused 26 0, 2 ∷ 0 ∷ 0 ∷ 2 ∷ []) ∷ []
-shows-lent-before-higher = unfold everything in refl
+shows_lent_before_higher = unfold everything in refl

@@ -163,14 +163,14 @@ fed_each =
     (shows_fed_alike 0 0 1)
     (fed (shows_given 1 0 (omega arith) (omega arith)) (shows_given 1 1 (omega arith) (omega arith)) (shows_fed_alike 1 0 1) unfed)
 
-shows-claim
+shows_claim
     : CyclesStayAlike
     → (answers store (1 ∷ 0 ∷ 0 ∷ 1 ∷ []) (map cycles feds) ≡ Accepted 0 ∷ Accepted 0 ∷ [])
     × (answers store (1 ∷ 0 ∷ 1 ∷ 1 ∷ []) (map cycles feds') ≡ Accepted 0 ∷ Accepted 0 ∷ [])
     × AgreeEach (table_of store) ((0 ∷ 0 ∷ 0 ∷ 1 ∷ []) ∷ (1 ∷ 0 ∷ 0 ∷ 1 ∷ []) ∷ []) ((0 ∷ 0 ∷ 1 ∷ 1 ∷ []) ∷ (1 ∷ 0 ∷ 1 ∷ 1 ∷ []) ∷ [])
     × Agree (table_of store) (1 ∷ 0 ∷ 0 ∷ 1 ∷ []) (1 ∷ 0 ∷ 1 ∷ 1 ∷ [])
 unfolding everything
-shows-claim claim =
+shows_claim claim =
     let stay =
     claim
     store
@@ -186,11 +186,11 @@ shows-claim claim =
     (stay.accepted, stay.accepted', stay.each, stay.end)
 
 -- and none: nothing is answered, and the areas are as they were
-shows-claim-none
+shows_claim_none
     : CyclesStayAlike
     → (answers store (1 ∷ 0 ∷ 0 ∷ 1 ∷ []) [] ≡ []) × AgreeEach (table_of store) [] [] × Agree (table_of store) (1 ∷ 0 ∷ 0 ∷ 1 ∷ []) (1 ∷ 0 ∷ 1 ∷ 1 ∷ [])
 unfolding everything
-shows-claim-none claim =
+shows_claim_none claim =
     let stay =
     claim
     store

@@ -38,7 +38,7 @@ shows_no_lower_wire : judged (assemble [] [] (gate 0 0 ∷ [])) ≡ refused 26 0
 shows_no_lower_wire = unfold everything in refl
 
 -- "at the lowest wire whose record .. hold[s] it": inputs before flip-flops before gates, and the lower of two of one kind
-shows-lowest-wire
+shows_lowest_wire
     : map
     judged
     (assemble (0 ∷ 2 ∷ 2 ∷ []) (flip_flop 9 0 0 ∷ []) (gate 9 9 ∷ [])
@@ -46,4 +46,4 @@ shows-lowest-wire
     ∷ assemble (0 ∷ 1 ∷ 0 ∷ []) (flip_flop 0 0 0 ∷ []) (gate 0 0 ∷ gate 5 0 ∷ gate 9 9 ∷ [])
     ∷ [])
     ≡ refused 26 1 ∷ refused 26 4 ∷ refused 26 5 ∷ []
-shows-lowest-wire = unfold everything in refl
+shows_lowest_wire = unfold everything in refl

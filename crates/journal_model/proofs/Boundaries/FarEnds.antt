@@ -24,9 +24,9 @@ abbrev three_hundred : List ℕ
 three_hundred = 44 ∷ 1 ∷ 0 ∷ 0 ∷ numbered 0 300
 
 -- "before the k-th last cycle it counts": the last, the 44th last and the first of 300
-shows-back-of-300
+shows_back_of_300
     : map (λ k. (saved_back least three_hundred k).targets) (1 ∷ 44 ∷ 300 ∷ []) ≡ (43 ∷ 1 ∷ 9 ∷ []) ∷ (0 ∷ 1 ∷ 9 ∷ []) ∷ (0 ∷ 0 ∷ 9 ∷ []) ∷ []
-shows-back-of-300 = unfold journalling in refl
+shows_back_of_300 = unfold journalling in refl
 
 -- all that is counted is there
 shows_saved_of_300 : length (saved_in least three_hundred) ≡ 300

@@ -35,25 +35,25 @@ shows_steps_refused = unfold journalling in refl
 shows_no_15 : map (back_with two_saved) (1000000 ∷ 1000001 ∷ 4294967295 ∷ []) ≡ refused 22 0 ∷ refused 22 0 ∷ refused 22 0 ∷ []
 shows_no_15 = unfold journalling in refl
 
-shows-above-a-million
+shows_above_a_million
     : map (steps_answer (journal_of 1000001 [])) (1000000 ∷ 1000001 ∷ 1000002 ∷ []) ++ map (steps_answer (journal_of 4294967295 [])) (4294967295 ∷ 4294967296 ∷ [])
     ≡ (Accepted 0 ∷ Accepted 0 ∷ Refused StepsBack 0 ∷ []) ++ (Accepted 0 ∷ Refused StepsBack 0 ∷ [])
-shows-above-a-million = unfold journalling in refl
+shows_above_a_million = unfold journalling in refl
 
 -- "with 22, after 21": a journal under 4 bytes, and one too short for its count, with a k above either
-shows-21-before-22
+shows_21_before_22
     : back_with (0 ∷ 0 ∷ 0 ∷ []) 1 ∷ back_with (journal_of 2 (saved0 ∷ spare 22 ∷ [])) 3 ∷ back_with (journal_of 2 (saved0 ∷ spare 23 ∷ [])) 3 ∷ []
     ≡ refused 21 0 ∷ refused 21 0 ∷ refused 22 0 ∷ []
-shows-21-before-22 = unfold journalling in refl
+shows_21_before_22 = unfold journalling in refl
 
 -- lengths of the areas, either one by a byte, before 21
 abbrev lengths_with : Lent → Numbers
 lengths_with areas = numbers_of (step_back_answer lease (lends areas (0 ∷ 0 ∷ 0 ∷ [])) 1)
 
-shows-lengths-before-21
+shows_lengths_before_21
     : map lengths_with (short_lent ∷ long_lent ∷ long_targets ∷ lent_bound (replicate 7 9) (replicate 15 9) [] ∷ lent_bound (replicate 8 9) (replicate 14 9) [] ∷ any_lent ∷ [])
     ≡ replicate 5 (refused 14 0) ++ (refused 21 0 ∷ [])
-shows-lengths-before-21 = unfold journalling in refl
+shows_lengths_before_21 = unfold journalling in refl
 
 -- they are judged also where nothing is restored
 shows_lengths_of_none : numbers_of (step_back_answer lease (lends long_targets two_saved) 0) ≡ refused 14 0

@@ -47,56 +47,56 @@ shows_saved_content : map (λ (v : ℕ). back_to v 1 2 0) (3 ∷ 4 ∷ 255 ∷ [
 shows_saved_content = unfold journalling in refl
 
 -- a target, at its state: of the root, and of 2, which has no child
-shows-saved-target
+shows_saved_target
     : map (λ (root : ℕ). back_to 0 root 2 1) (0 ∷ 1 ∷ 2 ∷ 3 ∷ []) ++ map (λ (two : ℕ). back_to 0 1 two 1) (0 ∷ 1 ∷ 2 ∷ [])
     ≡ (refused 14 0 ∷ accepted 1 ∷ accepted 1 ∷ refused 14 0 ∷ []) ++ (refused 14 2 ∷ refused 14 2 ∷ accepted 1 ∷ [])
-shows-saved-target = unfold journalling in refl
+shows_saved_target = unfold journalling in refl
 
 -- a binding, at its state: any register off the path, and r1 alone on it
-shows-saved-binding
+shows_saved_binding
     : map (λ (bound : ℕ). back_to 0 1 2 bound) (0 ∷ 1 ∷ 2 ∷ []) ++ map (λ (bound : ℕ). back_to 0 2 2 bound) (0 ∷ 1 ∷ 2 ∷ [])
     ≡ (accepted 1 ∷ accepted 1 ∷ refused 14 2 ∷ []) ++ (refused 14 2 ∷ accepted 1 ∷ refused 14 2 ∷ [])
-shows-saved-binding = unfold journalling in refl
+shows_saved_binding = unfold journalling in refl
 
 -- in the order of a run: contents, targets, bindings; the same places as there
-shows-saved-order
+shows_saved_order
     : (back_to 4 0 1 2 ∷ run_of 4 0 1 2 ∷ []) ++ (back_to 0 1 1 2 ∷ run_of 0 1 1 2 ∷ []) ++ (back_to 0 0 1 2 ∷ run_of 0 0 1 2 ∷ []) ++ (back_to 0 1 2 2 ∷ run_of 0 1 2 2 ∷ [])
     ≡ (refused 14 1 ∷ refused 14 1 ∷ []) ++ (refused 14 2 ∷ refused 14 2 ∷ []) ++ (refused 14 0 ∷ refused 14 0 ∷ []) ++ (refused 14 2 ∷ refused 14 2 ∷ [])
-shows-saved-order = unfold journalling in refl
+shows_saved_order = unfold journalling in refl
 
 -- the state "to be restored" alone is judged: of three the second is unsound
 abbrev middle : List ℕ
 middle = journal_of 3 (saved 1 1 2 0 ∷ saved 4 1 2 0 ∷ saved 3 1 2 0 ∷ [])
 
-shows-only-restored
+shows_only_restored
     : map (λ (k : ℕ). numbers_of (step_back_answer narrow (lends (areas 0 1 2 0) middle) k)) (0 ∷ 1 ∷ 2 ∷ 3 ∷ []) ≡ accepted 0 ∷ accepted 1 ∷ refused 14 1 ∷ accepted 3 ∷ []
-shows-only-restored = unfold journalling in refl
+shows_only_restored = unfold journalling in refl
 
 -- a refusal changes no lent byte, and what is lent is not judged but by its lengths
 shows_unsound_refused : told (step_back narrow (lends (areas 9 9 9 9) middle) 2) ≡ refused_with 14 1 (lends (areas 9 9 9 9) middle)
 shows_unsound_refused = unfold journalling in refl
 
 -- "judged after 22": all that is counted is unsound, and k is above the count
-shows-22-before-14
+shows_22_before_14
     : map (λ (k : ℕ). numbers_of (step_back_answer narrow (lends (areas 0 1 2 0) (journal_of 2 (spare 34 ∷ []))) k)) (1 ∷ 2 ∷ 3 ∷ []) ≡ refused 14 1 ∷ refused 14 1 ∷ refused 22 0 ∷ []
-shows-22-before-14 = unfold journalling in refl
+shows_22_before_14 = unfold journalling in refl
 
 -- and so after 21
-shows-21-before-14
+shows_21_before_14
     : map (λ (bytes : ℕ). numbers_of (step_back_answer narrow (lends (areas 0 1 2 0) (journal_of 2 (spare bytes ∷ []))) 2)) (33 ∷ 34 ∷ []) ≡ refused 21 0 ∷ refused 14 1 ∷ []
-shows-21-before-14 = unfold journalling in refl
+shows_21_before_14 = unfold journalling in refl
 
 -- "With k of 0 nothing changes": saved states and areas that are unsound stay as they are
-shows-none-unsound
+shows_none_unsound
     : told (step_back narrow (lends (areas 9 9 9 9) (journal_of 2 (spare 34 ∷ []))) 0) ≡ accepted_with 0 (areas 9 9 9 9) (journal_of 2 (spare 34 ∷ []))
-shows-none-unsound = unfold journalling in refl
+shows_none_unsound = unfold journalling in refl
 
 -- a journalled run judges its areas and no saved state
-shows-run-judges-areas
+shows_run_judges_areas
     : told (run_journalled narrow (lends (areas 4 1 2 0) (journal_of 1 (spare 34 ∷ []))) 1)
     ∷ told (run_journalled narrow (lends (areas 3 1 2 0) (journal_of 1 (spare 34 ∷ []))) 1)
     ∷ []
     ≡ refused_with 14 1 (lends (areas 4 1 2 0) (journal_of 1 (spare 34 ∷ [])))
     ∷ accepted_with 1 (areas 3 1 2 0) (journal_of 2 (spare 17 ∷ saved 3 1 2 0 ∷ []))
     ∷ []
-shows-run-judges-areas = unfold journalling in refl
+shows_run_judges_areas = unfold journalling in refl

@@ -47,9 +47,9 @@ shows_elsewhere_matching : map (λ (secret : ℕ). remains_of back_and_on (from_
 shows_elsewhere_matching = unfold listing in refl
 
 -- level 0 sees r1, in the walk and in r0
-shows-elsewhere-seen
+shows_elsewhere_seen
     : map (λ (secret : ℕ). view_of back_and_on (from_elsewhere secret)) (0 ∷ 1 ∷ []) ≡ (seen 0 (0 ∷ []) ∷ []) ∷ (seen 1 (0 ∷ 3 ∷ []) ∷ []) ∷ []
-shows-elsewhere-seen = unfold listing in refl
+shows_elsewhere_seen = unfold listing in refl
 
 shows_elsewhere_at_end : map (λ (secret : ℕ). end_of back_and_on (from_elsewhere secret)) (0 ∷ 1 ∷ []) ≡ (0 ∷ []) ∷ (1 ∷ []) ∷ []
 shows_elsewhere_at_end = unfold listing in refl
@@ -58,10 +58,10 @@ shows_elsewhere_at_end = unfold listing in refl
 abbrev journalled_and_back : List Call
 journalled_and_back = runs_journalled 1 ∷ back_and_on
 
-shows-own-journal-matching
+shows_own_journal_matching
     : map (λ (secret : ℕ). remains_of journalled_and_back (from_empty secret)) (0 ∷ 1 ∷ []) ≡ replicate 2 (a_journalled_cycle ∷ a_step_back ∷ a_cycle ∷ [])
-shows-own-journal-matching = unfold listing in refl
+shows_own_journal_matching = unfold listing in refl
 
-shows-own-journal-unseen
+shows_own_journal_unseen
     : map (λ (secret : ℕ). view_of journalled_and_back (from_empty secret)) (0 ∷ 1 ∷ []) ≡ replicate 2 (seen 0 (0 ∷ []) ∷ seen 0 (0 ∷ []) ∷ [])
-shows-own-journal-unseen = unfold listing in refl
+shows_own_journal_unseen = unfold listing in refl

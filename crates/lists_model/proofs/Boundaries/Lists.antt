@@ -98,12 +98,12 @@ ports_use =
       calls = [];
     }
 
-shows-journal-start
+shows_journal_start
     : map (λ (level : ℕ). begun two_ports level ports_use) (0 ∷ 1 ∷ [])
     ≡ lends (lent (7 ∷ 0 ∷ 0 ∷ 0 ∷ 0 ∷ 0 ∷ 0 ∷ 0 ∷ []) (1 ∷ 1 ∷ [])) (journal_of 0 (spare 3 ∷ []))
     ∷ lends (lent (7 ∷ 0 ∷ 0 ∷ 0 ∷ 5 ∷ 0 ∷ 0 ∷ 0 ∷ []) (1 ∷ 1 ∷ [])) (journal_of 0 (spare 3 ∷ []))
     ∷ []
-shows-journal-start = unfold listing in refl
+shows_journal_start = unfold listing in refl
 
 -- Demand 3 is about journals of different lengths and bytes, and lists that differ in what is struck out
 abbrev other_use : Use (design_of lease)
@@ -112,14 +112,14 @@ other_use =
     (replicate 100 0)
     (runs_journalled 1 ∷ writes 1 7 ∷ runs_journalled 2 ∷ goes_back 4 ∷ goes_back 2 ∷ runs 1 ∷ writes 0 1 ∷ resets ∷ goes_back 1 ∷ runs 1 ∷ [])
 
-shows-claim-0
+shows_claim_0
     : IndependentJournals → (views lease 0 a_use ≡ views lease 0 other_use) × (seen_at_end lease 0 a_use ≡ seen_at_end lease 0 other_use)
-shows-claim-0 claim = claim lease (unfold everything in refl) 0 (unfold everything in omega arith) a_use other_use (unfold listing in refl)
+shows_claim_0 claim = claim lease (unfold everything in refl) 0 (unfold everything in omega arith) a_use other_use (unfold listing in refl)
 
 -- at the highest level, of empty lists
-shows-claim-1
+shows_claim_1
     : IndependentJournals → (views lease 1 (lease_use [] []) ≡ views lease 1 (lease_use (spare 9) [])) × (seen_at_end lease 1 (lease_use [] []) ≡ seen_at_end lease 1 (lease_use (spare 9) []))
-shows-claim-1 claim = claim lease (unfold everything in refl) 1 (unfold everything in omega arith) (lease_use [] []) (lease_use (spare 9) []) (unfold listing in refl)
+shows_claim_1 claim = claim lease (unfold everything in refl) 1 (unfold everything in omega arith) (lease_use [] []) (lease_use (spare 9) []) (unfold listing in refl)
 
 -- ---- why each condition is there: lists from an empty journal that differ in it alone, and what they leave in sight of level 0
 abbrev from : LentJournal
@@ -132,19 +132,19 @@ abbrev end_of : List Call → List ℕ
 end_of list = values_seen (design_of lease) 0 (words_of 2 (at_end lease from list).areas.registers)
 
 -- "journal the same cycles": of three cycles one list journals all, and the other the first two, so that going back by 1 comes to another state
-shows-same-cycles-needed
+shows_same_cycles_needed
     : end_of (runs_journalled 2 ∷ runs_journalled 1 ∷ goes_back 1 ∷ []) ∷ end_of (runs_journalled 2 ∷ runs 1 ∷ goes_back 1 ∷ []) ∷ [] ≡ (2 ∷ []) ∷ (3 ∷ []) ∷ []
-shows-same-cycles-needed = unfold listing in refl
+shows_same_cycles_needed = unfold listing in refl
 
-shows-same-cycles-not-matching
+shows_same_cycles_not_matching
     : remains_of (runs_journalled 2 ∷ runs_journalled 1 ∷ goes_back 1 ∷ []) ∷ remains_of (runs_journalled 2 ∷ runs 1 ∷ goes_back 1 ∷ []) ∷ []
     ≡ (a_journalled_cycle ∷ a_journalled_cycle ∷ a_journalled_cycle ∷ a_step_back ∷ []) ∷ (a_journalled_cycle ∷ a_journalled_cycle ∷ a_cycle ∷ a_step_back ∷ []) ∷ []
-shows-same-cycles-not-matching = unfold listing in refl
+shows_same_cycles_not_matching = unfold listing in refl
 
 -- "and go back by equal numbers at equal moments"
 shows_equal_numbers_needed : map (λ (k : ℕ). end_of (runs_journalled 3 ∷ goes_back k ∷ [])) (0 ∷ 1 ∷ 2 ∷ []) ≡ (1 ∷ []) ∷ (2 ∷ []) ∷ (3 ∷ []) ∷ []
 shows_equal_numbers_needed = unfold listing in refl
 
-shows-equal-moments-needed
+shows_equal_moments_needed
     : end_of (runs_journalled 2 ∷ runs 1 ∷ goes_back 1 ∷ []) ∷ end_of (runs_journalled 2 ∷ goes_back 1 ∷ runs 1 ∷ []) ∷ [] ≡ (3 ∷ []) ∷ (2 ∷ []) ∷ []
-shows-equal-moments-needed = unfold listing in refl
+shows_equal_moments_needed = unfold listing in refl

@@ -73,31 +73,31 @@ abbrev walks_of : List Seen → List (List RanState)
 walks_of = map (λ (seen : Seen). seen.walk)
 
 -- the registers bound to all parameters in scope, those around the state first
-shows-wider-views
+shows_wider_views
     : walks_of (wider_views mine 2 (of_mine a_list))
     ≡ (ran 0 [] ∷ ran 1 [] ∷ []) ∷ (ran 0 [] ∷ ran 2 (1 ∷ []) ∷ ran 3 (1 ∷ []) ∷ []) ∷ (ran 0 [] ∷ ran 2 (1 ∷ []) ∷ ran 4 (1 ∷ 2 ∷ []) ∷ []) ∷ []
-shows-wider-views = unfold listing in refl
+shows_wider_views = unfold listing in refl
 
 -- and no more states: at label 1 state 4, which has the label of r2, is not seen
-shows-wider-of-seen-only
+shows_wider_of_seen_only
     : walks_of (wider_views mine 1 (of_mine a_list))
     ≡ (ran 0 [] ∷ ran 1 [] ∷ []) ∷ (ran 0 [] ∷ ran 2 (1 ∷ []) ∷ ran 3 (1 ∷ []) ∷ []) ∷ (ran 0 [] ∷ ran 2 (1 ∷ []) ∷ []) ∷ []
-shows-wider-of-seen-only = unfold listing in refl
+shows_wider_of_seen_only = unfold listing in refl
 
 -- in the view that 02 asks for, own ones only
-shows-own-views
+shows_own_views
     : walks_of (views mine 2 (of_mine a_list))
     ≡ (ran 0 [] ∷ ran 1 [] ∷ []) ∷ (ran 0 [] ∷ ran 2 (1 ∷ []) ∷ ran 3 [] ∷ []) ∷ (ran 0 [] ∷ ran 2 (1 ∷ []) ∷ ran 4 (2 ∷ []) ∷ []) ∷ []
-shows-own-views = unfold listing in refl
+shows_own_views = unfold listing in refl
 
 -- ---- demand 3 across two designs: each list on its own image, with other refused calls
 abbrev other_list : List Call
 other_list = goes_back 1 ∷ replays [] 1 ∷ writes 0 5 ∷ runs_journalled 1 ∷ runs 1 ∷ replays (reading 0 0 5 ∷ []) 1 ∷ goes_back 1 ∷ []
 
-shows-claim-across
+shows_claim_across
     : IndependentNeighbours
     → (views mine 2 (of_mine a_list) ≡ views edited 2 (of_edited other_list)) × (seen_at_end mine 2 (of_mine a_list) ≡ seen_at_end edited 2 (of_edited other_list))
-shows-claim-across claim =
+shows_claim_across claim =
     claim
     mine
     edited
@@ -125,9 +125,9 @@ shows_claim_widely claim =
     (unfold listing in refl)
 
 -- at the highest level, where every body is in common
-shows-claim-highest
+shows_claim_highest
     : IndependentNeighbours → (views mine 3 (of_mine []) ≡ views mine 3 (of_mine [])) × (seen_at_end mine 3 (of_mine []) ≡ seen_at_end mine 3 (of_mine []))
-shows-claim-highest claim =
+shows_claim_highest claim =
     claim
     mine
     mine

@@ -86,14 +86,14 @@ lease_use list =
       calls = list;
     }
 
-shows-walk-0
+shows_walk_0
     : views lease 0 (lease_use (replays (reading 1 1 7 ∷ []) 3 ∷ [])) ≡ seen (3 ∷ []) (0 ∷ 1 ∷ []) ∷ seen (2 ∷ []) (0 ∷ 2 ∷ []) ∷ seen (1 ∷ []) (0 ∷ 2 ∷ []) ∷ []
-shows-walk-0 = unfold listing in refl
+shows_walk_0 = unfold listing in refl
 
-shows-walk-1
+shows_walk_1
     : views lease 1 (lease_use (replays (reading 1 1 7 ∷ []) 3 ∷ []))
     ≡ seen (3 ∷ 0 ∷ []) (0 ∷ 1 ∷ []) ∷ seen (2 ∷ 7 ∷ []) (0 ∷ 2 ∷ 3 ∷ []) ∷ seen (1 ∷ 7 ∷ []) (0 ∷ 2 ∷ 4 ∷ []) ∷ []
-shows-walk-1 = unfold listing in refl
+shows_walk_1 = unfold listing in refl
 
 -- ---- "the count is not part of the view": two traces that level 0 cannot tell apart, of which one supersedes two records
 abbrev quiet : List TraceRecord
@@ -111,24 +111,24 @@ shows_alike = unfold listing in refl
 shows_count_tells : map (count_of 0) (quiet ∷ busy ∷ []) ≡ accepted 0 ∷ accepted 2 ∷ []
 shows_count_tells = unfold listing in refl
 
-shows-view-does-not
+shows_view_does_not
     : map (λ (trace : List TraceRecord). views meters 0 (meter_use (replays trace 3 ∷ []))) (quiet ∷ busy ∷ [])
     ≡ replicate 2 (seen (5 ∷ 0 ∷ 5 ∷ []) (0 ∷ 1 ∷ []) ∷ seen (5 ∷ 5 ∷ 5 ∷ []) (0 ∷ 1 ∷ []) ∷ seen (6 ∷ 5 ∷ 6 ∷ []) (0 ∷ 1 ∷ []) ∷ [])
-shows-view-does-not = unfold listing in refl
+shows_view_does_not = unfold listing in refl
 
 shows_end_does_not : map (λ (trace : List TraceRecord). seen_at_end meters 0 (meter_use (replays trace 3 ∷ []))) (quiet ∷ busy ∷ []) ≡ replicate 2 (6 ∷ 5 ∷ 6 ∷ [])
 shows_end_does_not = unfold listing in refl
 
 -- level 1 can tell them apart
-shows-unlike-at-1
+shows_unlike_at_1
     : map (λ (trace : List TraceRecord). seen_at_end meters 1 (meter_use (replays trace 3 ∷ []))) (quiet ∷ busy ∷ []) ≡ (6 ∷ 5 ∷ 6 ∷ 0 ∷ 50 ∷ []) ∷ (6 ∷ 5 ∷ 6 ∷ 4 ∷ 60 ∷ []) ∷ []
-shows-unlike-at-1 = unfold listing in refl
+shows_unlike_at_1 = unfold listing in refl
 
 -- what 02 promises is about these two: any accepted image, each level, any two such traces, the same n
-shows-claim-0
+shows_claim_0
     : IndependentReplays
     → (views meters 0 (meter_use (replays quiet 3 ∷ [])) ≡ views meters 0 (meter_use (replays busy 3 ∷ []))) × (seen_at_end meters 0 (meter_use (replays quiet 3 ∷ [])) ≡ seen_at_end meters 0 (meter_use (replays busy 3 ∷ [])))
-shows-claim-0 claim =
+shows_claim_0 claim =
     claim
     meters
     (unfold everything in refl)
@@ -144,11 +144,11 @@ shows-claim-0 claim =
     (unfold listing in refl)
 
 -- and about two designs that have the same in common, of which one may be the other
-shows-claim-across
+shows_claim_across
     : IndependentReplayNeighbours
     → (views meters 0 (meter_use (replays quiet 3 ∷ [])) ≡ views meters 0 (meter_use (replays busy 3 ∷ [])))
     × (seen_at_end meters 0 (meter_use (replays quiet 3 ∷ [])) ≡ seen_at_end meters 0 (meter_use (replays busy 3 ∷ [])))
-shows-claim-across claim =
+shows_claim_across claim =
     claim
     meters
     meters
@@ -167,9 +167,9 @@ shows-claim-across claim =
     (unfold listing in refl)
 
 -- at the highest level, of no record and no cycle
-shows-claim-1
+shows_claim_1
     : IndependentReplays → (views meters 1 (meter_use (replays [] 0 ∷ [])) ≡ views meters 1 (meter_use (replays [] 0 ∷ []))) × (seen_at_end meters 1 (meter_use (replays [] 0 ∷ [])) ≡ seen_at_end meters 1 (meter_use (replays [] 0 ∷ [])))
-shows-claim-1 claim =
+shows_claim_1 claim =
     claim
     meters
     (unfold everything in refl)
@@ -195,31 +195,31 @@ shows_refused_alike = unfold listing in refl
 shows_refused_numbers : map (count_of 0) (quiet ∷ refused_one ∷ []) ≡ accepted 0 ∷ refused 23 2 ∷ []
 shows_refused_numbers = unfold listing in refl
 
-shows-refusal-tells
+shows_refusal_tells
     : map (λ (trace : List TraceRecord). seen_at_end meters 0 (meter_use (replays trace 3 ∷ []))) (quiet ∷ refused_one ∷ []) ≡ (6 ∷ 5 ∷ 6 ∷ []) ∷ (0 ∷ 0 ∷ 4 ∷ []) ∷ []
-shows-refusal-tells = unfold listing in refl
+shows_refusal_tells = unfold listing in refl
 
 -- "for the same n"
 shows_same_n_needed : map (λ (n : ℕ). seen_at_end meters 0 (meter_use (replays quiet n ∷ []))) (3 ∷ 4 ∷ []) ≡ (6 ∷ 5 ∷ 6 ∷ []) ∷ (6 ∷ 6 ∷ 6 ∷ []) ∷ []
 shows_same_n_needed = unfold listing in refl
 
 -- traces that differ in a record in sight, by its cycle or by its value, may give unlike views
-shows-equal-records-needed
+shows_equal_records_needed
     : map (λ (trace : List TraceRecord). seen_at_end meters 0 (meter_use (replays trace 3 ∷ []))) ((reading 1 2 5 ∷ []) ∷ (reading 2 2 5 ∷ []) ∷ (reading 2 2 6 ∷ []) ∷ [])
     ≡ (5 ∷ 5 ∷ 5 ∷ []) ∷ (5 ∷ 4 ∷ 5 ∷ []) ∷ (6 ∷ 4 ∷ 6 ∷ []) ∷ []
-shows-equal-records-needed = unfold listing in refl
+shows_equal_records_needed = unfold listing in refl
 
 -- ---- lists that mix replays with the other calls
 -- an accepted replay counts as the port writes and cycles that it makes, in their order; a refused one is struck out
 abbrev remains_of : ℕ → List Call → List Remaining
 remains_of level list = remains meters level (meter_use list)
 
-shows-replay-remains
+shows_replay_remains
     : map (λ (level : ℕ). remains_of level (replays month 4 ∷ [])) (0 ∷ 1 ∷ [])
     ≡ (a_write 2 5 ∷ a_cycle ∷ a_cycle ∷ a_write 2 6 ∷ a_cycle ∷ a_write 2 7 ∷ a_cycle ∷ [])
     ∷ (a_write 2 5 ∷ a_cycle ∷ a_cycle ∷ a_write 2 6 ∷ a_write 3 100 ∷ a_cycle ∷ a_write 2 7 ∷ a_cycle ∷ [])
     ∷ []
-shows-replay-remains = unfold listing in refl
+shows_replay_remains = unfold listing in refl
 
 -- superseded records count too: the port takes both values
 shows_superseded_remain : remains_of 0 (replays (reading 0 2 5 ∷ reading 0 2 6 ∷ []) 1 ∷ []) ≡ a_write 2 5 ∷ a_write 2 6 ∷ a_cycle ∷ []
@@ -238,10 +238,10 @@ by_calls = writes 3 7 ∷ runs_journalled 1 ∷ writes 2 5 ∷ runs 2 ∷ replay
 shows_mixed_matching : remains_of 0 mixed ∷ remains_of 0 by_calls ∷ [] ≡ replicate 2 (a_journalled_cycle ∷ a_write 2 5 ∷ a_cycle ∷ a_cycle ∷ a_write 2 6 ∷ a_cycle ∷ a_step_back ∷ a_cycle ∷ [])
 shows_mixed_matching = unfold listing in refl
 
-shows-mixed-claim
+shows_mixed_claim
     : IndependentJournals
     → (views meters 0 (meter_use mixed) ≡ views meters 0 (meter_use by_calls)) × (seen_at_end meters 0 (meter_use mixed) ≡ seen_at_end meters 0 (meter_use by_calls))
-shows-mixed-claim claim = claim meters (unfold everything in refl) 0 (unfold everything in omega arith) (meter_use mixed) (meter_use by_calls) (unfold listing in refl)
+shows_mixed_claim claim = claim meters (unfold everything in refl) 0 (unfold everything in omega arith) (meter_use mixed) (meter_use by_calls) (unfold listing in refl)
 
 -- a replay leaves the journal as it is, and one goes back over it
 shows_back_over_replay : seen_at_end meters 1 (meter_use (runs_journalled 1 ∷ replays month 4 ∷ goes_back 1 ∷ [])) ≡ 0 ∷ 0 ∷ 4 ∷ 0 ∷ 50 ∷ []

@@ -45,7 +45,7 @@ abbrev bindings : ℕ → ℕ → ℕ → ℕ → ℕ → List ℕ
 bindings first second third fifth sixth = 20 ∷ 21 ∷ 22 ∷ 23 ∷ first ∷ second ∷ 26 ∷ 27 ∷ third ∷ 29 ∷ fifth ∷ sixth ∷ []
 
 -- these designs are accepted
-shows-trees
+shows_trees
     : map
     judged
     (tree 1 1 (goes_with 2 3) (goes_to 1) (goes_to 3)
@@ -53,11 +53,11 @@ shows-trees
     ∷ tree 1 1 (goes_with_both 5 3 1) falls (goes_with 4 64)
     ∷ [])
     ≡ replicate 3 (accepted 0)
-shows-trees = unfold everything in refl
+shows_trees = unfold everything in refl
 
 -- "set only by a goto's arguments", "two bytes per state, in state order": with one parameter the first byte alone, with two both, the first one first, and with none
 -- no byte; and of the last state. Those of the states below the named one stay, and so do all others.
-shows-goto-binds
+shows_goto_binds
     : in_one (tree 1 1 (goes_with 2 3) (goes_to 1) (goes_to 3))
     ∷ in_one (tree 2 0 (goes_with_both 2 3 1) (goes_to 1) (goes_to 3))
     ∷ in_one (tree 0 1 (goes_to 2) (goes_to 1) (goes_to 3))
@@ -70,10 +70,10 @@ shows-goto-binds
     ∷ bindings 24 25 28 3 1
     ∷ bindings 24 25 28 30 31
     ∷ []
-shows-goto-binds = unfold everything in refl
+shows_goto_binds = unfold everything in refl
 
 -- "all read before any is set": exchanged, the first to both, the second to both; by a goto of the state to itself
-shows-read-before-set
+shows_read_before_set
     : map
     (λ (x : List ℕ). in_two (tree 2 0 (goes_to 1) x (goes_to 3)))
     (goes_with_both 2 64 65 ∷ goes_with_both 2 65 64 ∷ goes_with_both 2 64 64 ∷ goes_with_both 2 65 65 ∷ goes_with_both 2 3 64 ∷ goes_with_both 2 65 3 ∷ [])
@@ -84,29 +84,29 @@ shows-read-before-set
     ∷ bindings 3 24 28 30 31
     ∷ bindings 25 3 28 30 31
     ∷ []
-shows-read-before-set = unfold everything in refl
+shows_read_before_set = unfold everything in refl
 
 -- from the state that has it to one beside it: 2 gives its first to both of 5
-shows-binds-beside
+shows_binds_beside
     : map (λ (x : List ℕ). in_two (tree 2 0 (goes_to 1) x (goes_to 3))) (goes_with_both 5 64 64 ∷ goes_with_both 5 65 2 ∷ [])
     ≡ bindings 24 25 28 24 24 ∷ bindings 24 25 28 25 2 ∷ []
-shows-binds-beside = unfold everything in refl
+shows_binds_beside = unfold everything in refl
 
 -- "own ones last": 4 has the parameter of 2 first and its own second
-shows-binds-inherited
+shows_binds_inherited
     : map (λ (x : List ℕ). in_four (tree 1 1 (goes_to 1) falls x)) (goes_with 4 64 ∷ goes_with 4 65 ∷ goes_with 4 2 ∷ [])
     ≡ bindings 24 25 24 30 31 ∷ bindings 24 25 28 30 31 ∷ bindings 24 25 2 30 31 ∷ []
-shows-binds-inherited = unfold everything in refl
+shows_binds_inherited = unfold everything in refl
 
 -- the targets are as before: a goto to 2 sets its descendants to default children, and keeps what is bound to them
-shows-targets-cleared
+shows_targets_cleared
     : cycle (design_of (tree 1 1 (goes_with 2 3) (goes_to 1) (goes_to 3))) (areas_bound (replicate 4 0) (1 ∷ 1 ∷ 4 ∷ 3 ∷ 4 ∷ 5 ∷ []) (replicate 12 2))
     ≡ record {
       after = areas_bound (replicate 4 0) (2 ∷ 1 ∷ 3 ∷ 3 ∷ 4 ∷ 5 ∷ []) (2 ∷ 2 ∷ 2 ∷ 2 ∷ 3 ∷ replicate 7 2);
       walk = 0 ∷ 1 ∷ [];
       ran_with = replicate 12 2;
     }
-shows-targets-cleared = unfold everything in refl
+shows_targets_cleared = unfold everything in refl
 
 -- ---- what a body does
 -- r0 and r3 have 32 bits, r1 has 2 and r2 has 10. State 2 with two parameters has the body whose commands follow; state 1 goes to it with r1 and r3.
@@ -129,7 +129,7 @@ abbrev adding : List ℕ
 adding = working 4 (assigns 64 2 ∷ goes_to 1 ∷ sequences 2 3 ∷ []) (reads 65 ∷ constant 5 ∷ adds 0 1 ∷ [])
 
 -- the register bound to q is read and the one bound to p is written, cut by its own width: to 2 bits, to 10, to 32; q may be p
-shows-parameters-work
+shows_parameters_work
     : map (worked adding) ((1, 3) ∷ (2, 3) ∷ (0, 3) ∷ (3, 3) ∷ (3, 1) ∷ (1, 1) ∷ (0, 2) ∷ [])
     ≡ (1 ∷ 1 ∷ 3 ∷ 4000 ∷ [])
     ∷ (1 ∷ 2 ∷ 933 ∷ 4000 ∷ [])
@@ -139,18 +139,18 @@ shows-parameters-work
     ∷ (1 ∷ 3 ∷ 3 ∷ 4000 ∷ [])
     ∷ (8 ∷ 2 ∷ 3 ∷ 4000 ∷ [])
     ∷ []
-shows-parameters-work = unfold everything in refl
+shows_parameters_work = unfold everything in refl
 
 -- an assignment shows at the next read, by the parameter and by the register: p := 7; r0 := p + q; goto 1
-shows-parameter-read-next
+shows_parameter_read_next
     : map
     (worked (working 6 (assigns 64 0 ∷ assigns 0 3 ∷ sequences 2 3 ∷ goes_to 1 ∷ sequences 4 5 ∷ []) (constant 7 ∷ reads 64 ∷ reads 65 ∷ adds 1 2 ∷ [])))
     ((3, 2) ∷ (3, 3) ∷ (1, 3) ∷ [])
     ≡ (10 ∷ 2 ∷ 3 ∷ 7 ∷ []) ∷ (14 ∷ 2 ∷ 3 ∷ 7 ∷ []) ∷ (4003 ∷ 3 ∷ 3 ∷ 4000 ∷ []) ∷ []
-shows-parameter-read-next = unfold everything in refl
+shows_parameter_read_next = unfold everything in refl
 
 -- in a condition, and in both branches: (if p then q := 7 else p := 9); goto 1, with r1, which is 2 and then 0, and r3; 9 is cut to 2 bits
-shows-parameter-condition
+shows_parameter_condition
     : map
     (λ (values : List ℕ).
     (cycle
@@ -159,7 +159,7 @@ shows-parameter-condition
     ).after.registers)
     ((1 ∷ 2 ∷ 3 ∷ 4 ∷ []) ∷ (1 ∷ 0 ∷ 3 ∷ 4 ∷ []) ∷ [])
     ≡ (1 ∷ 2 ∷ 3 ∷ 7 ∷ []) ∷ (1 ∷ 1 ∷ 3 ∷ 4 ∷ []) ∷ []
-shows-parameter-condition = unfold everything in refl
+shows_parameter_condition = unfold everything in refl
 
 -- Below a fall: state 2 has p and does p := 7; fall. State 4 below it has q of its own and does r0 := p - q; goto 3.
 abbrev below : List ℕ
@@ -171,25 +171,25 @@ below =
     (falls ∷ goes_to 1 ∷ assigns 64 0 ∷ falls ∷ sequences 2 3 ∷ goes_to 3 ∷ assigns 0 3 ∷ goes_to 3 ∷ sequences 6 7 ∷ [])
     (constant 7 ∷ reads 64 ∷ reads 65 ∷ subtracts 1 2 ∷ [])
 
-shows-parameters-below
+shows_parameters_below
     : judged below ≡ accepted 0
-shows-parameters-below = unfold everything in refl
+shows_parameters_below = unfold everything in refl
 
 -- p is bound by the byte of state 2 and q by that of state 4; the other bytes are not theirs
-shows-own-last
+shows_own_last
     : (cycle (design_of below) (areas_bound (1 ∷ 2 ∷ 3 ∷ 4 ∷ []) (2 ∷ 1 ∷ 4 ∷ 3 ∷ 4 ∷ []) (3 ∷ 3 ∷ 3 ∷ 3 ∷ 1 ∷ 3 ∷ 3 ∷ 3 ∷ 2 ∷ 3 ∷ []))).after.registers ≡ 4 ∷ 7 ∷ 3 ∷ 4 ∷ []
-shows-own-last = unfold everything in refl
+shows_own_last = unfold everything in refl
 
 -- ---- areas
 -- "0 at reset": each of two bytes a state, whatever they held
-shows-reset-unbound
+shows_reset_unbound
     : told (reset adding (lent_bound (replicate 16 9) (replicate 3 9) (replicate 6 9))) ≡ (accepted 0, lent_bound (replicate 16 0) (1 ∷ 1 ∷ 2 ∷ []) (replicate 6 0))
-shows-reset-unbound = unfold everything in refl
+shows_reset_unbound = unfold everything in refl
 
 -- "After the targets their area gains two bytes per state": what a run of one cycle and of two leaves, from reset; p := q + 5, with r1 and r3
-shows-run-binds
+shows_run_binds
     : map (told) (run adding (lent_bound (replicate 16 0) (1 ∷ 1 ∷ 2 ∷ []) (replicate 6 0)) 1 ∷ run adding (lent_bound (replicate 16 0) (1 ∷ 1 ∷ 2 ∷ []) (replicate 6 0)) 2 ∷ [])
     ≡ (accepted 1, lent_bound (replicate 16 0) (2 ∷ 1 ∷ 2 ∷ []) (0 ∷ 0 ∷ 0 ∷ 0 ∷ 1 ∷ 3 ∷ []))
     ∷ (accepted 2, lent_bound (replicate 4 0 ++ (1 ∷ replicate 11 0)) (1 ∷ 1 ∷ 2 ∷ []) (0 ∷ 0 ∷ 0 ∷ 0 ∷ 1 ∷ 3 ∷ []))
     ∷ []
-shows-run-binds = unfold everything in refl
+shows_run_binds = unfold everything in refl

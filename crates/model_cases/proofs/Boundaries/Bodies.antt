@@ -9,17 +9,17 @@ use Rattle.model.proofs.Opened.{checks, refused, accepted, judged}
 use Rattle.model.proofs.Designs.{assemble, one_state, chain, low_and_high, register_record, state_record, skips, assigns, sequences, falls, goes_to, branches, constant}
 
 -- "A command transfers if it is a fall or goto"
-shows-transfers
+shows_transfers
     : map transfers (fall 0 ∷ goto 0 1 0 0 ∷ skip 0 ∷ assign 0 0 (Expr.constant 1) ∷ []) ≡ true ∷ true ∷ false ∷ false ∷ []
-shows-transfers = unfold checks in refl
+shows_transfers = unfold checks in refl
 
 -- "a sequence whose second part transfers"
-shows-sequence-transfers
+shows_sequence_transfers
     : map transfers (sequence 2 (skip 0) (fall 1) ∷ sequence 2 (fall 0) (skip 1) ∷ sequence 2 (skip 0) (skip 1) ∷ []) ≡ true ∷ false ∷ false ∷ []
-shows-sequence-transfers = unfold checks in refl
+shows_sequence_transfers = unfold checks in refl
 
 -- "or an if whose branches both do": both, one or none
-shows-if-transfers
+shows_if_transfers
     : map
     transfers
     (branch 2 (Expr.constant 1) (fall 0) (fall 1)
@@ -28,14 +28,14 @@ shows-if-transfers
     ∷ branch 2 (Expr.constant 1) (skip 0) (skip 1)
     ∷ [])
     ≡ true ∷ false ∷ false ∷ false ∷ []
-shows-if-transfers = unfold checks in refl
+shows_if_transfers = unfold checks in refl
 
 -- state 1 has the body numbered, over these commands and one constant; there is one register
 abbrev shaped : ℕ → List (List ℕ) → List ℕ
 shaped body commands = one_state (1 ∷ []) (register_record 0 0 0 ∷ []) body commands (constant 1 ∷ [])
 
 -- "Every state's command transfers", "charged to its command": state 1 has command 3, and then state 2 the one that does not transfer
-shows-state-transfers
+shows_state_transfers
     : map
     judged
     (one_state (1 ∷ []) [] 3 (skips ∷ skips ∷ sequences 1 2 ∷ []) []
@@ -44,10 +44,10 @@ shows-state-transfers
     ∷ shaped 1 (assigns 0 0 ∷ [])
     ∷ [])
     ≡ refused 8 3 ∷ refused 8 1 ∷ refused 8 1 ∷ refused 8 1 ∷ []
-shows-state-transfers = unfold checks in refl
+shows_state_transfers = unfold checks in refl
 
 -- "The first part of a sequence never does (charged to the sequence)": a goto, a fall, an if with two gotos; and in a part of a sequence, first or second
-shows-first-part
+shows_first_part
     : map
     judged
     (shaped 5 (goes_to 1 ∷ goes_to 1 ∷ branches 0 1 2 ∷ goes_to 1 ∷ sequences 3 4 ∷ [])
@@ -56,11 +56,11 @@ shows-first-part
     ∷ one_state (1 ∷ []) [] 5 (skips ∷ skips ∷ sequences 1 2 ∷ goes_to 1 ∷ sequences 3 4 ∷ []) []
     ∷ [])
     ≡ refused 8 5 ∷ refused 8 3 ∷ refused 8 3 ∷ accepted 0 ∷ []
-shows-first-part = unfold checks in refl
+shows_first_part = unfold checks in refl
 
 -- "An if has two transferring branches or none.": then alone and else alone, as a body and before a goto; both, none; and an if in the then and in the else
 -- of another
-shows-branches
+shows_branches
     : map
     judged
     (shaped 3 (goes_to 1 ∷ skips ∷ branches 0 1 2 ∷ [])
@@ -73,10 +73,10 @@ shows-branches
     ∷ one_state (1 ∷ []) [] 5 (goes_to 1 ∷ skips ∷ branches 0 1 2 ∷ goes_to 1 ∷ branches 1 4 3 ∷ []) (constant 1 ∷ constant 1 ∷ [])
     ∷ [])
     ≡ refused 8 3 ∷ refused 8 3 ∷ refused 8 3 ∷ refused 8 3 ∷ accepted 0 ∷ accepted 0 ∷ refused 8 3 ∷ refused 8 3 ∷ []
-shows-branches = unfold checks in refl
+shows_branches = unfold checks in refl
 
 -- "A fall needs a child.": state 1 has none, first as its body and then behind a skip; and then state 2 is its child
-shows-fall-child
+shows_fall_child
     : map
     judged
     (one_state (1 ∷ []) [] 1 (falls ∷ []) []
@@ -84,7 +84,7 @@ shows-fall-child
     ∷ assemble (1 ∷ []) [] (state_record 0 0 0 ∷ state_record 0 0 1 ∷ state_record 1 0 2 ∷ []) (falls ∷ falls ∷ goes_to 2 ∷ []) []
     ∷ [])
     ≡ refused 8 1 ∷ refused 8 2 ∷ accepted 0 ∷ []
-shows-fall-child = unfold checks in refl
+shows_fall_child = unfold checks in refl
 
 -- States 1 and 2 below the root, 3 and 4 below 1, 5 below 2. State 3 goes to t.
 abbrev third_goes_to : ℕ → List ℕ
@@ -97,13 +97,13 @@ third_goes_to t =
     []
 
 -- "A goto names a sibling or the state itself": not the root, the parent, the parent's sibling or its child
-shows-goto-names
+shows_goto_names
     : map (λ (t : ℕ). judged (third_goes_to t)) (0 ∷ 1 ∷ 2 ∷ 3 ∷ 4 ∷ 5 ∷ [])
     ≡ refused 8 3 ∷ refused 8 3 ∷ refused 8 3 ∷ accepted 0 ∷ accepted 0 ∷ refused 8 3 ∷ []
-shows-goto-names = unfold checks in refl
+shows_goto_names = unfold checks in refl
 
 -- nor a child; "the root holds no goto": nor to itself, nor inside an if; "the root is nobody's sibling"
-shows-root-holds-no-goto
+shows_root_holds_no_goto
     : map
     judged
     (assemble (1 ∷ []) [] (state_record 0 0 0 ∷ state_record 0 0 1 ∷ state_record 1 0 2 ∷ []) (falls ∷ goes_to 2 ∷ goes_to 2 ∷ []) []
@@ -112,21 +112,21 @@ shows-root-holds-no-goto
     ∷ one_state (1 ∷ []) [] 1 (goes_to 0 ∷ []) []
     ∷ [])
     ≡ refused 8 1 ∷ refused 8 0 ∷ refused 8 1 ∷ refused 8 1 ∷ []
-shows-root-holds-no-goto = unfold checks in refl
+shows_root_holds_no_goto = unfold checks in refl
 
 -- refusal 8 at the lowest node of a body
 shows_shape_lowest : judged (one_state (1 ∷ []) [] 3 (goes_to 0 ∷ goes_to 1 ∷ sequences 1 2 ∷ []) []) ≡ refused 8 1
 shows_shape_lowest = unfold checks in refl
 
 -- and of all bodies: state 2 has the lower command
-shows-shape-lowest-of-states
+shows_shape_lowest_of_states
     : judged (assemble (1 ∷ []) [] (state_record 0 0 0 ∷ state_record 0 0 2 ∷ state_record 0 0 1 ∷ []) (falls ∷ goes_to 0 ∷ goes_to 0 ∷ []) []) ≡ refused 8 1
-shows-shape-lowest-of-states = unfold checks in refl
+shows_shape_lowest_of_states = unfold checks in refl
 
 -- "The lowest number that applies comes first": 8 before 9
-shows-8-before-9
+shows_8_before_9
     : judged (assemble chain [] (state_record 0 0 0 ∷ state_record 0 1 1 ∷ state_record 1 0 2 ∷ []) (falls ∷ falls ∷ goes_to 0 ∷ []) []) ≡ refused 8 2
-shows-8-before-9 = unfold checks in refl
+shows_8_before_9 = unfold checks in refl
 
 -- states 1 below the root, 2 and 3 below 1, with these labels of four, of which 1 and 2 cannot be compared
 abbrev labelled : ℕ → ℕ → ℕ → List ℕ
@@ -139,15 +139,15 @@ labelled one two three =
     []
 
 -- "Every child's label is at or above its parent's.", since E4 of default children only: the same label, one above, one below, and one that cannot be compared; the spare child 3 may have any
-shows-child-label
+shows_child_label
     : map
     judged
     (labelled 1 1 3 ∷ labelled 0 1 2 ∷ labelled 1 0 0 ∷ labelled 1 1 0 ∷ labelled 1 2 1 ∷ labelled 2 1 2 ∷ labelled 3 2 1 ∷ [])
     ≡ accepted 0 ∷ accepted 0 ∷ refused 9 2 ∷ accepted 0 ∷ refused 9 2 ∷ refused 9 2 ∷ refused 9 2 ∷ []
-shows-child-label = unfold checks in refl
+shows_child_label = unfold checks in refl
 
 -- 9 before 10: r0 := 1; fall, in state 1 with label 1; state 2 below it has label 0
-shows-9-before-10
+shows_9_before_10
     : judged
     (assemble
     chain
@@ -156,4 +156,4 @@ shows-9-before-10
     (falls ∷ assigns 0 0 ∷ falls ∷ sequences 1 2 ∷ goes_to 2 ∷ [])
     (constant 1 ∷ []))
     ≡ refused 9 2
-shows-9-before-10 = unfold checks in refl
+shows_9_before_10 = unfold checks in refl

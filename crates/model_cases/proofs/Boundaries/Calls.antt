@@ -18,10 +18,10 @@ shows_check_refuses = unfold everything in refl
 abbrev two_states : Lent
 two_states = lent (replicate 8 9) (1 ∷ 1 ∷ [])
 
-shows-image-judged
+shows_image_judged
     : map (λ call. told (perform high_to_low two_states call)) (resets ∷ writes 1 7 ∷ runs 0 ∷ runs 1 ∷ [])
     ≡ (refused 10 1, two_states) ∷ (refused 10 1, two_states) ∷ (refused 10 1, two_states) ∷ (refused 10 1, two_states) ∷ []
-shows-image-judged = unfold everything in refl
+shows_image_judged = unfold everything in refl
 
 -- "The lowest number that applies comes first": an image check before 15, and a wrong length before 15
 shows_10_before_15 : run_answer high_to_low two_states 1000001 ≡ Refused AssignFlow 1
@@ -41,61 +41,61 @@ abbrev short_registers : Lent
 short_registers = lent (replicate 7 9) (1 ∷ 1 ∷ 9 ∷ 9 ∷ 9 ∷ [])
 
 -- 14, "area length", of the targets: too short, and too long; "a wrong length comes first, with place 0", before the unsound targets here
-shows-short-targets
+shows_short_targets
     : map (λ call. told (perform lease short_targets call)) (resets ∷ runs 0 ∷ runs 1 ∷ [])
     ≡ (refused 14 0, short_targets) ∷ (refused 14 0, short_targets) ∷ (refused 14 0, short_targets) ∷ []
-shows-short-targets = unfold everything in refl
+shows_short_targets = unfold everything in refl
 
 -- the same where every target that is there is sound
-shows-short-sound-targets
+shows_short_sound_targets
     : map (λ call. numbers_of (perform lease (lent_bound (replicate 8 9) (1 ∷ 1 ∷ 3 ∷ 3 ∷ 4 ∷ []) (replicate 9 0)) call).answer) (resets ∷ runs 0 ∷ runs 1 ∷ [])
     ≡ refused 14 0 ∷ refused 14 0 ∷ refused 14 0 ∷ []
-shows-short-sound-targets = unfold everything in refl
+shows_short_sound_targets = unfold everything in refl
 
-shows-long-targets
+shows_long_targets
     : map (λ call. told (perform lease many_targets call)) (resets ∷ runs 0 ∷ runs 1 ∷ [])
     ≡ (refused 14 0, many_targets) ∷ (refused 14 0, many_targets) ∷ (refused 14 0, many_targets) ∷ []
-shows-long-targets = unfold everything in refl
+shows_long_targets = unfold everything in refl
 
 -- and of the registers, by one byte: targets that are not sound come after it
-shows-short-registers
+shows_short_registers
     : map (λ call. told (perform lease short_registers call)) (resets ∷ writes 1 7 ∷ runs 0 ∷ runs 1 ∷ [])
     ≡ (refused 14 0, short_registers) ∷ (refused 14 0, short_registers) ∷ (refused 14 0, short_registers) ∷ (refused 14 0, short_registers) ∷ []
-shows-short-registers = unfold everything in refl
+shows_short_registers = unfold everything in refl
 
 -- a piece of one more register is as wrong
-shows-piece-of-register
+shows_piece_of_register
     : map (λ call. numbers_of (perform lease (lent (replicate 11 9) (1 ∷ 1 ∷ 3 ∷ 3 ∷ 4 ∷ [])) call).answer) (resets ∷ writes 1 7 ∷ runs 1 ∷ [])
     ≡ refused 14 0 ∷ refused 14 0 ∷ refused 14 0 ∷ []
-shows-piece-of-register = unfold everything in refl
+shows_piece_of_register = unfold everything in refl
 
 -- port write "takes the register area only": it judges no target, and leaves them all
 shows_write_any_targets : told (perform lease any_lent (writes 1 7)) ≡ (accepted 0, lent_bound (9 ∷ 9 ∷ 9 ∷ 9 ∷ 7 ∷ 0 ∷ 0 ∷ 0 ∷ []) (replicate 15 9) [])
 shows_write_any_targets = unfold everything in refl
 
 -- "sets its register to its value": all 32 bits of it; 02, E2: a value that does not fit is refused by 17
-shows-write-largest
+shows_write_largest
     : told (perform lease any_lent (writes 1 4294967295)) ≡ (accepted 0, lent_bound (9 ∷ 9 ∷ 9 ∷ 9 ∷ 255 ∷ 255 ∷ 255 ∷ 255 ∷ []) (replicate 15 9) [])
-shows-write-largest = unfold everything in refl
+shows_write_largest = unfold everything in refl
 
-shows-write-33-bits
+shows_write_33_bits
     : told (perform lease any_lent (writes 1 4294967301)) ≡ (refused 17 1, any_lent)
-shows-write-33-bits = unfold everything in refl
+shows_write_33_bits = unfold everything in refl
 
 -- 13: "the place is the register number given", also where its low byte is a port's number
 shows_register_257 : told (perform lease any_lent (writes 257 7)) ≡ (refused 13 257, any_lent)
 shows_register_257 = unfold everything in refl
 
 -- 13: "no such register, or inner": of four registers the last two are ports
-shows-ports
+shows_ports
     : map (λ r. numbers_of (perform two_groups groups_lent (writes r 7)).answer) (0 ∷ 1 ∷ 2 ∷ 3 ∷ 4 ∷ 5 ∷ [])
     ≡ refused 13 0 ∷ refused 13 1 ∷ accepted 0 ∷ accepted 0 ∷ refused 13 4 ∷ refused 13 5 ∷ []
-shows-ports = unfold everything in refl
+shows_ports = unfold everything in refl
 
 -- "and changes nothing else": neither the registers before it nor the one behind it
-shows-write-between
+shows_write_between
     : told (perform two_groups groups_lent (writes 2 7)) ≡ (accepted 0, lent_bound (replicate 8 9 ++ (7 ∷ 0 ∷ 0 ∷ 0 ∷ 9 ∷ 9 ∷ 9 ∷ 9 ∷ [])) (replicate 24 9) [])
-shows-write-between = unfold everything in refl
+shows_write_between = unfold everything in refl
 
 -- 15: "more than 1,000,000 cycles", also where few of the count's bits would be a lower count
 shows_count_33_bits : run_answer lease reset_lent 4294967297 ≡ Refused CycleCount 0
@@ -120,7 +120,7 @@ shows_targets_length : map (λ image. numbers_of (targets_length image)) (lease 
 shows_targets_length = unfold everything in refl
 
 -- and the image's refusal
-shows-lengths-refused
+shows_lengths_refused
     : map numbers_of (registers_length high_to_low ∷ targets_length high_to_low ∷ registers_length [] ∷ targets_length [] ∷ [])
     ≡ refused 10 1 ∷ refused 10 1 ∷ refused 1 0 ∷ refused 1 0 ∷ []
-shows-lengths-refused = unfold everything in refl
+shows_lengths_refused = unfold everything in refl

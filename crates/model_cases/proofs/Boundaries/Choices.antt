@@ -24,7 +24,7 @@ abbrev of_two : ℕ → ℕ × ℕ → ℕ × ℕ → ℕ → List ℕ → Numbe
 of_two label p q r e = assigned (state_with 0 label 4 2 p.0 p.1 q.0 q.1) r e 64 65
 
 -- "each choice of labels within the bounds in scope": every label from the lower to the upper; of two parameters every pair
-shows-choices
+shows_choices
     : map
     (λ (two : List ℕ). choices (design_of (assemble diamond [] (state_record 0 0 0 ∷ state_record 0 0 1 ∷ two ∷ []) (falls ∷ goes_to 1 ∷ goes_to 1 ∷ []) [])) (4 ∷ 5 ∷ []))
     (state_with 0 0 2 2 0 3 1 1 ∷ state_with 0 0 2 2 0 1 2 3 ∷ state_with 0 0 2 2 1 3 0 2 ∷ [])
@@ -32,10 +32,10 @@ shows-choices
     ∷ ((0 ∷ 2 ∷ []) ∷ (0 ∷ 3 ∷ []) ∷ (1 ∷ 2 ∷ []) ∷ (1 ∷ 3 ∷ []) ∷ [])
     ∷ ((1 ∷ 0 ∷ []) ∷ (1 ∷ 2 ∷ []) ∷ (3 ∷ 0 ∷ []) ∷ (3 ∷ 2 ∷ []) ∷ [])
     ∷ []
-shows-choices = unfold checks in refl
+shows_choices = unfold checks in refl
 
 -- "A body passes if it keeps every rule for each choice": r := p, where p is 0 to 1, 0 to 3 and 1 to 3; it fails for the last choice, or for one between
-shows-read-each-choice
+shows_read_each_choice
     : map (λ (r : ℕ). of_one 0 0 1 r (reads 64)) (0 ∷ 1 ∷ 2 ∷ 3 ∷ [])
     ∷ map (λ (r : ℕ). of_one 0 0 3 r (reads 64)) (0 ∷ 1 ∷ 2 ∷ 3 ∷ [])
     ∷ map (λ (r : ℕ). of_one 0 0 0 r (reads 64)) (0 ∷ 1 ∷ 2 ∷ 3 ∷ [])
@@ -44,10 +44,10 @@ shows-read-each-choice
     ∷ (refused 10 2 ∷ refused 10 2 ∷ refused 10 2 ∷ accepted 0 ∷ [])
     ∷ replicate 4 (accepted 0)
     ∷ []
-shows-read-each-choice = unfold checks in refl
+shows_read_each_choice = unfold checks in refl
 
 -- p := r: it fails for the first choice, or for one that cannot be compared
-shows-write-each-choice
+shows_write_each_choice
     : map (λ (r : ℕ). of_one 0 0 1 64 (reads r)) (0 ∷ 1 ∷ 2 ∷ 3 ∷ [])
     ∷ map (λ (r : ℕ). of_one 0 1 3 64 (reads r)) (0 ∷ 1 ∷ 2 ∷ 3 ∷ [])
     ∷ map (λ (r : ℕ). of_one 0 3 3 64 (reads r)) (0 ∷ 1 ∷ 2 ∷ 3 ∷ [])
@@ -56,10 +56,10 @@ shows-write-each-choice
     ∷ (accepted 0 ∷ accepted 0 ∷ refused 10 2 ∷ refused 10 2 ∷ [])
     ∷ replicate 4 (accepted 0)
     ∷ []
-shows-write-each-choice = unfold checks in refl
+shows_write_each_choice = unfold checks in refl
 
 -- the same parameter to itself is kept for each choice; from one parameter to another it fails for a choice between the first and the last, which differ not
-shows-parameter-to-itself
+shows_parameter_to_itself
     : of_one 0 0 3 64 (reads 64)
     ∷ of_two 0 (0, 1) (0, 1) 64 (reads 64)
     ∷ of_two 0 (0, 1) (0, 1) 65 (reads 65)
@@ -67,18 +67,18 @@ shows-parameter-to-itself
     ∷ of_two 0 (0, 1) (0, 1) 65 (reads 64)
     ∷ []
     ≡ accepted 0 ∷ accepted 0 ∷ accepted 0 ∷ refused 10 2 ∷ refused 10 2 ∷ []
-shows-parameter-to-itself = unfold checks in refl
+shows_parameter_to_itself = unfold checks in refl
 
 -- from one to another where its upper bound flows to the other's lower one, and only then
-shows-parameter-to-another
+shows_parameter_to_another
     : map
     (λ (pq : (ℕ × ℕ) × (ℕ × ℕ)). of_two 0 pq.0 pq.1 65 (reads 64))
     (((0, 1), (1, 3)) ∷ ((0, 0), (0, 3)) ∷ ((0, 3), (3, 3)) ∷ ((0, 1), (0, 3)) ∷ ((0, 3), (1, 3)) ∷ ((1, 1), (2, 3)) ∷ [])
     ≡ replicate 3 (accepted 0) ++ replicate 3 (refused 10 2)
-shows-parameter-to-another = unfold checks in refl
+shows_parameter_to_another = unfold checks in refl
 
 -- "state label bytes 16 and 17 stand for their labels": in a state with p's label a constant goes to p, and to a register above its every choice; with q's to q
-shows-context-each-choice
+shows_context_each_choice
     : map (λ (r : ℕ). of_one 16 0 1 r (constant 1)) (0 ∷ 1 ∷ 2 ∷ 3 ∷ 64 ∷ [])
     ∷ map (λ (r : ℕ). of_two 16 (0, 1) (0, 2) r (constant 1)) (1 ∷ 2 ∷ 3 ∷ 64 ∷ 65 ∷ [])
     ∷ map (λ (r : ℕ). of_two 17 (0, 1) (0, 2) r (constant 1)) (1 ∷ 2 ∷ 3 ∷ 64 ∷ 65 ∷ [])
@@ -87,15 +87,15 @@ shows-context-each-choice
     ∷ (accepted 0 ∷ refused 10 2 ∷ accepted 0 ∷ accepted 0 ∷ refused 10 2 ∷ [])
     ∷ (refused 10 2 ∷ accepted 0 ∷ accepted 0 ∷ refused 10 2 ∷ accepted 0 ∷ [])
     ∷ []
-shows-context-each-choice = unfold checks in refl
+shows_context_each_choice = unfold checks in refl
 
 -- a state with label 1 writes p from 1 to 3, and not p from 0 to 3
-shows-context-to-parameter
+shows_context_to_parameter
     : map (λ (x : ℕ × ℕ). assigned (state_with 0 1 4 1 x.0 x.1 0 0) 64 (constant 1) 64 0) ((1, 3) ∷ (0, 3) ∷ (2, 3) ∷ []) ≡ accepted 0 ∷ refused 10 2 ∷ refused 10 2 ∷ []
-shows-context-to-parameter = unfold checks in refl
+shows_context_to_parameter = unfold checks in refl
 
 -- p in a condition: (if p then r := 1 else skip); goto 1, where p is 0 to 1
-shows-condition-each-choice
+shows_condition_each_choice
     : map
     (λ (r : ℕ).
     judged
@@ -107,15 +107,15 @@ shows-condition-each-choice
     (reads 64 ∷ constant 1 ∷ [])))
     (0 ∷ 1 ∷ 2 ∷ 3 ∷ 64 ∷ [])
     ≡ refused 10 2 ∷ accepted 0 ∷ refused 10 2 ∷ accepted 0 ∷ accepted 0 ∷ []
-shows-condition-each-choice = unfold checks in refl
+shows_condition_each_choice = unfold checks in refl
 
 -- "at fault is the first command in reading order that fails for some choice": r0 := p fails for the last choice and p := r1 for the first; in both orders
-shows-first-for-some-choice
+shows_first_for_some_choice
     : map
     (λ (x : List ℕ). judged (assemble diamond one_of_each (state_record 0 0 0 ∷ state_record 0 0 1 ∷ state_with 0 0 6 1 0 1 0 0 ∷ []) (falls ∷ goes_to 1 ∷ assigns 0 0 ∷ assigns 64 1 ∷ x ∷ goes_to 1 ∷ sequences 4 5 ∷ []) (reads 64 ∷ reads 1 ∷ [])))
     (sequences 2 3 ∷ sequences 3 2 ∷ [])
     ≡ refused 10 2 ∷ refused 10 3 ∷ []
-shows-first-for-some-choice = unfold checks in refl
+shows_first_for_some_choice = unfold checks in refl
 
 -- ---- 11: the named state's label
 -- State 1 of label 0: if c then goto 2 else goto 2, with the fields a and b. State 2 has this label byte and p, or p and q, from 0 to 3, and goes to itself with them.
@@ -140,37 +140,37 @@ gone_to_two label c a b =
     (reads c ∷ []))
 
 -- "Where the named state's label is its own parameter's, the goto rule takes the argument's label": neither its lower bound, 0, nor its upper, 3
-shows-argument-label
+shows_argument_label
     : map (gone_to_one 16 1) (0 ∷ 1 ∷ 2 ∷ 3 ∷ []) ∷ map (gone_to_one 16 0) (0 ∷ 1 ∷ 2 ∷ 3 ∷ []) ∷ map (gone_to_one 16 3) (0 ∷ 1 ∷ 2 ∷ 3 ∷ []) ∷ []
     ≡ (refused 11 1 ∷ accepted 0 ∷ refused 11 1 ∷ accepted 0 ∷ [])
     ∷ replicate 4 (accepted 0)
     ∷ (refused 11 1 ∷ refused 11 1 ∷ refused 11 1 ∷ accepted 0 ∷ [])
     ∷ []
-shows-argument-label = unfold checks in refl
+shows_argument_label = unfold checks in refl
 
 -- where it is a label it is judged as before, whatever the argument
-shows-fixed-label
+shows_fixed_label
     : map (gone_to_one 1 1) (0 ∷ 1 ∷ 2 ∷ 3 ∷ []) ∷ map (gone_to_one 2 1) (0 ∷ 1 ∷ 2 ∷ 3 ∷ []) ∷ [] ≡ replicate 4 (accepted 0) ∷ replicate 4 (refused 11 1) ∷ []
-shows-fixed-label = unfold checks in refl
+shows_fixed_label = unfold checks in refl
 
 -- the label of the first parameter is that of field a, and of the second that of field b
-shows-second-argument-label
+shows_second_argument_label
     : gone_to_two 16 1 1 0 ∷ gone_to_two 16 1 0 1 ∷ gone_to_two 17 1 0 1 ∷ gone_to_two 17 1 1 0 ∷ gone_to_two 17 1 1 3 ∷ gone_to_two 16 1 2 1 ∷ []
     ≡ accepted 0 ∷ refused 11 1 ∷ accepted 0 ∷ refused 11 1 ∷ accepted 0 ∷ refused 11 1 ∷ []
-shows-second-argument-label = unfold checks in refl
+shows_second_argument_label = unfold checks in refl
 
 -- State 2 with this record goes to itself with the fields a and b.
 abbrev around : List ℕ → ℕ → ℕ → Numbers
 around two a b = judged (assemble diamond one_of_each (state_record 0 0 0 ∷ state_record 0 0 1 ∷ two ∷ []) (falls ∷ goes_to 1 ∷ goes_with_both 2 a b ∷ []) [])
 
 -- with p's label it goes to itself with p, whatever p is, and with a register that is above p's every choice
-shows-around-with-parameter
+shows_around_with_parameter
     : around (state_with 0 16 2 1 0 3 0 0) 64 0 ∷ around (state_with 0 16 2 1 0 3 0 0) 3 0 ∷ around (state_with 0 16 2 1 0 3 0 0) 1 0 ∷ around (state_with 0 16 2 1 0 1 0 0) 1 0 ∷ around (state_with 0 16 2 1 0 1 0 0) 0 0 ∷ []
     ≡ accepted 0 ∷ accepted 0 ∷ refused 11 2 ∷ accepted 0 ∷ refused 11 2 ∷ []
-shows-around-with-parameter = unfold checks in refl
+shows_around_with_parameter = unfold checks in refl
 
 -- with p and q exchanged it goes from p's label to q's: refused unless p's upper bound flows to q's lower one; here the bounds of both hold 1 alone or more
-shows-around-exchanged
+shows_around_exchanged
     : around (state_with 0 16 2 2 0 1 0 1) 64 65
     ∷ around (state_with 0 16 2 2 0 1 0 1) 65 64
     ∷ around (state_with 0 17 2 2 0 1 0 1) 64 65
@@ -178,15 +178,15 @@ shows-around-exchanged
     ∷ around (state_with 0 17 2 2 1 1 1 1) 65 64
     ∷ []
     ≡ accepted 0 ∷ refused 11 2 ∷ accepted 0 ∷ refused 11 2 ∷ accepted 0 ∷ []
-shows-around-exchanged = unfold checks in refl
+shows_around_exchanged = unfold checks in refl
 
 -- from p's label to a state with a label: for each choice
-shows-goto-each-choice
+shows_goto_each_choice
     : map
     (λ (label : ℕ). judged (assemble diamond one_of_each (state_record 0 0 0 ∷ state_record 0 0 1 ∷ state_with 0 16 2 1 0 1 0 0 ∷ state_record 0 label 3 ∷ []) (falls ∷ goes_to 1 ∷ goes_to 3 ∷ goes_to 3 ∷ []) []))
     (0 ∷ 1 ∷ 2 ∷ 3 ∷ [])
     ≡ refused 11 2 ∷ accepted 0 ∷ refused 11 2 ∷ accepted 0 ∷ []
-shows-goto-each-choice = unfold checks in refl
+shows_goto_each_choice = unfold checks in refl
 
 -- State 2 has p from 0 to 1. Below it state 3 has this label byte and goes to state 4, which has this label byte and q from 0 to 3, with the field a; 4 goes to itself with q.
 abbrev beside : ℕ → ℕ → ℕ → Numbers
@@ -200,16 +200,16 @@ beside three four a =
     [])
 
 -- 4 with the inherited p's label: p flows to p, whatever the argument; a label flows to p where it flows to each choice
-shows-inherited-label
+shows_inherited_label
     : beside 16 16 0 ∷ beside 16 16 3 ∷ beside 16 16 64 ∷ beside 0 16 3 ∷ beside 1 16 3 ∷ beside 16 0 3 ∷ beside 16 1 0 ∷ []
     ≡ accepted 0 ∷ accepted 0 ∷ accepted 0 ∷ accepted 0 ∷ refused 11 3 ∷ refused 11 3 ∷ accepted 0 ∷ []
-shows-inherited-label = unfold checks in refl
+shows_inherited_label = unfold checks in refl
 
 -- 4 with its own q's label, byte 17: the argument's label, of a register and of the inherited p
-shows-own-label
+shows_own_label
     : beside 16 17 0 ∷ beside 16 17 1 ∷ beside 16 17 2 ∷ beside 16 17 3 ∷ beside 16 17 64 ∷ beside 0 17 0 ∷ beside 1 17 64 ∷ beside 2 17 2 ∷ []
     ≡ refused 11 3 ∷ accepted 0 ∷ refused 11 3 ∷ accepted 0 ∷ accepted 0 ∷ accepted 0 ∷ refused 11 3 ∷ accepted 0 ∷ []
-shows-own-label = unfold checks in refl
+shows_own_label = unfold checks in refl
 
 -- ---- 12 and 9
 -- State 2 with this record, with command 4: if e then fall else fall; state 3 below it with this label byte goes to itself.
@@ -224,7 +224,7 @@ fallen two r three =
     (reads r ∷ []))
 
 -- "Fall: the context flows to the own state's label", for each choice: with p's label, by a condition on p, on a register, and on q
-shows-fall-each-choice
+shows_fall_each_choice
     : map (λ (r : ℕ). fallen (state_with 0 16 4 1 0 3 0 0) r 3) (64 ∷ 0 ∷ 1 ∷ 3 ∷ [])
     ∷ map (λ (r : ℕ). fallen (state_with 0 16 4 1 1 3 0 0) r 3) (64 ∷ 0 ∷ 1 ∷ 3 ∷ [])
     ∷ map (λ (r : ℕ). fallen (state_with 0 16 4 2 0 1 0 1) r 3) (64 ∷ 65 ∷ [])
@@ -235,30 +235,30 @@ shows-fall-each-choice
     ∷ (accepted 0 ∷ refused 12 2 ∷ [])
     ∷ (accepted 0 ∷ refused 12 2 ∷ [])
     ∷ []
-shows-fall-each-choice = unfold checks in refl
+shows_fall_each_choice = unfold checks in refl
 
 -- "the default-child test is read likewise": from p's label to a label, fails for the upper choice; to p's, never
-shows-child-each-choice
+shows_child_each_choice
     : map (fallen (state_with 0 16 4 1 0 1 0 0) 0) (0 ∷ 1 ∷ 2 ∷ 3 ∷ 16 ∷ [])
     ∷ map (fallen (state_with 0 16 4 1 0 3 0 0) 0) (1 ∷ 3 ∷ 16 ∷ [])
     ∷ []
     ≡ (refused 9 3 ∷ accepted 0 ∷ refused 9 3 ∷ accepted 0 ∷ accepted 0 ∷ [])
     ∷ (refused 9 3 ∷ accepted 0 ∷ accepted 0 ∷ [])
     ∷ []
-shows-child-each-choice = unfold checks in refl
+shows_child_each_choice = unfold checks in refl
 
 -- from a label to p's, fails for the lower choice; from p's to q's, fails for one between
-shows-child-of-parameter
+shows_child_of_parameter
     : map (λ (x : ℕ × ℕ). fallen (state_with 0 1 4 1 x.0 x.1 0 0) 0 16) ((1, 3) ∷ (0, 3) ∷ (0, 1) ∷ (2, 3) ∷ [])
     ∷ map (λ (x : ℕ × ℕ). fallen (state_with 0 16 4 2 0 1 x.0 x.1) 0 17) ((1, 3) ∷ (0, 1) ∷ (0, 3) ∷ [])
     ∷ []
     ≡ (accepted 0 ∷ refused 9 3 ∷ refused 9 3 ∷ refused 9 3 ∷ []) ∷ (accepted 0 ∷ refused 9 3 ∷ refused 9 3 ∷ []) ∷ []
-shows-child-of-parameter = unfold checks in refl
+shows_child_of_parameter = unfold checks in refl
 
 -- of a state that holds no fall the default child may have any label, and a child that is not the default one
-shows-child-without-fall
+shows_child_without_fall
     : map
     (λ (body : List ℕ). judged (assemble diamond [] (state_record 0 0 0 ∷ state_record 0 0 1 ∷ state_with 0 16 2 1 0 3 0 0 ∷ state_record 2 16 3 ∷ state_record 2 0 4 ∷ []) (falls ∷ goes_to 1 ∷ body ∷ goes_to 3 ∷ goes_to 4 ∷ []) []))
     (falls ∷ goes_with 2 64 ∷ [])
     ≡ accepted 0 ∷ accepted 0 ∷ []
-shows-child-without-fall = unfold checks in refl
+shows_child_without_fall = unfold checks in refl

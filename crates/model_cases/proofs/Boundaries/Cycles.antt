@@ -20,10 +20,10 @@ shows_wrap : apply add 4294967294 1 ∷ apply add 4294967295 1 ∷ apply subtrac
 shows_wrap = unfold everything in refl
 
 -- "Equal and less (unsigned) give 1 or 0": of all 32 bits, and equal in neither direction
-shows-compared
+shows_compared
     : apply equal 8 7 ∷ apply equal 2147483649 1 ∷ apply equal 65537 1 ∷ apply less 65536 1 ∷ apply less 2147483648 1 ∷ apply less 1 65536 ∷ []
     ≡ 0 ∷ 0 ∷ 0 ∷ 0 ∷ 0 ∷ 1 ∷ []
-shows-compared = unfold everything in refl
+shows_compared = unfold everything in refl
 
 -- the expression that reads registers 7 and 8 and applies the operation of a kind, and the assignment of it to a register
 abbrev operation : ℕ → ℕ → List (List ℕ)
@@ -55,10 +55,10 @@ operations =
     (operation 0 2 ++ operation 3 3 ++ operation 6 4 ++ operation 9 5 ++ operation 12 6 ++ operation 15 7 ++ operation 18 8)
 
 -- "add, subtract, and, or, xor, equal, less", each of the first part and the second, in 32 bits
-shows-operations
+shows_operations
     : listing (1 ∷ 0 ∷ operations)
     ≡ bytes_of_text "cycle;walk;registers\n1;0 1;2004318070 3722304990 2290649224 4008636142 1717986918 0 1 2863311530 3435973836\n"
-shows-operations = unfold everything in refl
+shows_operations = unfold everything in refl
 
 -- (r0 := v; skip); (if r0 then r1 := 7 else r2 := 9); goto 1
 abbrev either_way : ℕ → List ℕ
@@ -85,44 +85,44 @@ shows_body_ends : (exec [] [] (sequence 2 (goto 0 3 5 6) (goto 1 4 7 8))).outcom
 shows_body_ends = unfold everything in refl
 
 -- "registers, 4 bytes each", little-endian: r0 = 16777216 is read, and 16777215 is written; r1 keeps its four bytes
-shows-borrow
+shows_borrow
     : told (run lease (lent (0 ∷ 0 ∷ 0 ∷ 1 ∷ 5 ∷ 6 ∷ 7 ∷ 8 ∷ []) (2 ∷ 1 ∷ 4 ∷ 3 ∷ 4 ∷ [])) 1)
     ≡ (accepted 1, lent (255 ∷ 255 ∷ 255 ∷ 0 ∷ 5 ∷ 6 ∷ 7 ∷ 8 ∷ []) (2 ∷ 1 ∷ 3 ∷ 3 ∷ 4 ∷ []))
-shows-borrow = unfold everything in refl
+shows_borrow = unfold everything in refl
 
 -- "Reset writes the reset values", all 32 bits, of a port and of an inner register
-shows-reset
+shows_reset
     : told (reset (one_state (1 ∷ []) (register_record 0 1 4275878552 ∷ register_record 0 0 67305985 ∷ []) 1 (goes_to 1 ∷ []) []) (lent_bound (replicate 8 9) (replicate 2 9) (replicate 4 9)))
     ≡ (accepted 0, lent (152 ∷ 186 ∷ 220 ∷ 254 ∷ 1 ∷ 2 ∷ 3 ∷ 4 ∷ []) (1 ∷ 1 ∷ []))
-shows-reset = unfold everything in refl
+shows_reset = unfold everything in refl
 
 -- what a run of 0 answers to targets of the lease design, whose root has the children 1 and 2, and whose state 2 has 3 and 4
 abbrev judged_targets : List ℕ → Numbers
 judged_targets targets = numbers_of (run_answer lease (lent (replicate 8 9) targets) 0)
 
 -- "A target is a child of its state": any child, the default one or not
-shows-sound
+shows_sound
     : map judged_targets ((1 ∷ 1 ∷ 3 ∷ 3 ∷ 4 ∷ []) ∷ (2 ∷ 1 ∷ 3 ∷ 3 ∷ 4 ∷ []) ∷ (1 ∷ 1 ∷ 4 ∷ 3 ∷ 4 ∷ []) ∷ (2 ∷ 1 ∷ 4 ∷ 3 ∷ 4 ∷ []) ∷ [])
     ≡ accepted 0 ∷ accepted 0 ∷ accepted 0 ∷ accepted 0 ∷ []
-shows-sound = unfold everything in refl
+shows_sound = unfold everything in refl
 
 -- and neither the state itself, nor a grandchild, nor a number that no state has
-shows-unsound-root
+shows_unsound_root
     : map judged_targets ((0 ∷ 1 ∷ 3 ∷ 3 ∷ 4 ∷ []) ∷ (3 ∷ 1 ∷ 3 ∷ 3 ∷ 4 ∷ []) ∷ (5 ∷ 1 ∷ 3 ∷ 3 ∷ 4 ∷ []) ∷ (255 ∷ 1 ∷ 3 ∷ 3 ∷ 4 ∷ []) ∷ [])
     ≡ refused 14 0 ∷ refused 14 0 ∷ refused 14 0 ∷ refused 14 0 ∷ []
-shows-unsound-root = unfold everything in refl
+shows_unsound_root = unfold everything in refl
 
 -- nor the state itself where it has children, nor its sibling, nor its parent
-shows-unsound-parent
+shows_unsound_parent
     : map judged_targets ((1 ∷ 1 ∷ 2 ∷ 3 ∷ 4 ∷ []) ∷ (1 ∷ 1 ∷ 1 ∷ 3 ∷ 4 ∷ []) ∷ (1 ∷ 1 ∷ 0 ∷ 3 ∷ 4 ∷ []) ∷ [])
     ≡ refused 14 2 ∷ refused 14 2 ∷ refused 14 2 ∷ []
-shows-unsound-parent = unfold everything in refl
+shows_unsound_parent = unfold everything in refl
 
 -- "a childless state's is its own number": not a sibling's, not its parent's, and the last state is judged too
-shows-unsound-childless
+shows_unsound_childless
     : map judged_targets ((1 ∷ 2 ∷ 3 ∷ 3 ∷ 4 ∷ []) ∷ (1 ∷ 0 ∷ 3 ∷ 3 ∷ 4 ∷ []) ∷ (1 ∷ 1 ∷ 3 ∷ 2 ∷ 4 ∷ []) ∷ (1 ∷ 1 ∷ 3 ∷ 3 ∷ 3 ∷ []) ∷ (1 ∷ 1 ∷ 3 ∷ 3 ∷ 5 ∷ []) ∷ [])
     ≡ refused 14 1 ∷ refused 14 1 ∷ refused 14 3 ∷ refused 14 4 ∷ refused 14 4 ∷ []
-shows-unsound-childless = unfold everything in refl
+shows_unsound_childless = unfold everything in refl
 
 -- n states, one below the other, from a number on: each is the child of the one before it, and has the command of its own number
 abbrev below : ℕ → ℕ → List (List ℕ)
@@ -134,10 +134,10 @@ abbrev deepest : List ℕ
 deepest = assemble (1 ∷ []) [] (state_record 0 0 0 ∷ below 0 63) (replicate 63 falls ++ (goes_to 63 ∷ [])) []
 
 -- "A fall runs the target's command": so often that in one cycle all 64 commands run
-shows-deepest-walk
+shows_deepest_walk
     : listing (1 ∷ 0 ∷ deepest)
     ≡ bytes_of_text "cycle;walk;registers\n1;0 1 2 3 4 5 6 7 8 9 10 11 12 13 14 15 16 17 18 19 20 21 22 23 24 25 26 27 28 29 30 31 32 33 34 35 36 37 38 39 40 41 42 43 44 45 46 47 48 49 50 51 52 53 54 55 56 57 58 59 60 61 62 63;\n"
-shows-deepest-walk = unfold everything in refl
+shows_deepest_walk = unfold everything in refl
 
 -- State 1 goes to 2. The states 2 to 8 stand one below the other, and 9 beside 8 and 10 beside 2 have no children.
 abbrev stairs : List ℕ
@@ -150,13 +150,13 @@ stairs =
     []
 
 -- "sets s and all its descendants to default children": down to state 7, the sixth from state 2
-shows-goto-clears-deep
+shows_goto_clears_deep
     : told (run stairs (lent [] (1 ∷ 1 ∷ 3 ∷ 4 ∷ 5 ∷ 6 ∷ 7 ∷ 9 ∷ 8 ∷ 9 ∷ 10 ∷ [])) 1)
     ≡ (accepted 1, lent [] (2 ∷ 1 ∷ 3 ∷ 4 ∷ 5 ∷ 6 ∷ 7 ∷ 8 ∷ 8 ∷ 9 ∷ 10 ∷ []))
-shows-goto-clears-deep = unfold everything in refl
+shows_goto_clears_deep = unfold everything in refl
 
 -- "s and all its descendants", and no other state, though its number lies between: 2 has the children 4 and 5, and 3 keeps its choice 7
-shows-goto-keeps-others
+shows_goto_keeps_others
     : told (run two_groups (lent (replicate 4 9 ++ (replicate 4 0 ++ replicate 8 9)) (1 ∷ 1 ∷ 5 ∷ 7 ∷ 4 ∷ 5 ∷ 6 ∷ 7 ∷ [])) 1)
     ≡ (accepted 1, lent (3 ∷ 0 ∷ 0 ∷ 0 ∷ 1 ∷ 0 ∷ 0 ∷ 0 ∷ replicate 8 9) (2 ∷ 1 ∷ 4 ∷ 7 ∷ 4 ∷ 5 ∷ 6 ∷ 7 ∷ []))
-shows-goto-keeps-others = unfold everything in refl
+shows_goto_keeps_others = unfold everything in refl

@@ -28,10 +28,10 @@ abbrev only_goes : List (List ℕ)
 only_goes = goes_to 1 ∷ goes_to 1 ∷ branches 0 1 2 ∷ []
 
 -- "looks only at the default child": children that are not, the last one or all but the first, may be low
-shows-spare-children
+shows_spare_children
     : map judged (grouped fall_or_go 1 1 1 ∷ grouped fall_or_go 1 1 0 ∷ grouped fall_or_go 1 0 1 ∷ grouped fall_or_go 1 0 0 ∷ [])
     ≡ accepted 0 ∷ accepted 0 ∷ accepted 0 ∷ accepted 0 ∷ []
-shows-spare-children = unfold checks in refl
+shows_spare_children = unfold checks in refl
 
 -- the default child may not, and is charged; whatever the others are
 shows_default_child
@@ -39,23 +39,23 @@ shows_default_child
 shows_default_child = unfold checks in refl
 
 -- "of a state that holds a fall": anywhere in its body, in the second branch of an if or behind another command
-shows-fall-anywhere
+shows_fall_anywhere
     : map
     judged
     (grouped go_or_fall 0 1 1 ∷ assemble chain [] (state_record 0 0 0 ∷ state_record 0 1 3 ∷ state_record 1 0 4 ∷ []) (falls ∷ skips ∷ falls ∷ sequences 1 2 ∷ goes_to 2 ∷ []) [] ∷ [])
     ≡ refused 9 2 ∷ refused 9 2 ∷ []
-shows-fall-anywhere = unfold checks in refl
+shows_fall_anywhere = unfold checks in refl
 
 -- a state that holds none: its default child, here its only one, may have any label
-shows-no-fall
+shows_no_fall
     : map
     judged
     (grouped only_goes 0 0 0 ∷ assemble chain [] (state_record 0 0 0 ∷ state_record 0 1 1 ∷ state_record 1 0 2 ∷ []) (falls ∷ goes_to 1 ∷ goes_to 2 ∷ []) [] ∷ [])
     ≡ accepted 0 ∷ accepted 0 ∷ []
-shows-no-fall = unfold checks in refl
+shows_no_fall = unfold checks in refl
 
 -- "charged to that child", "the lowest such child first": groups 1 and 2 hold a fall; the child of 1 is 4 and that of 2 is 3
-shows-lowest-child
+shows_lowest_child
     : judged
     (assemble
     chain
@@ -64,7 +64,7 @@ shows-lowest-child
     (falls ∷ falls ∷ falls ∷ goes_to 3 ∷ goes_to 4 ∷ [])
     [])
     ≡ refused 9 3
-shows-lowest-child = unfold checks in refl
+shows_lowest_child = unfold checks in refl
 
 -- Why "from reset onward": a design with a spare child.
 shows_spare_accepted : judged spare ≡ accepted 0
@@ -83,13 +83,13 @@ seen_from secret targets =
     view (design_of spare) 0 (events spare (lent (0 ∷ 0 ∷ 0 ∷ 0 ∷ secret ∷ 0 ∷ 0 ∷ 0 ∷ []) targets) (runs 1 ∷ []))
 
 -- With the targets of reset level 0 sees the same whatever r1 holds.
-shows-from-reset
+shows_from_reset
     : seen_from 0 (1 ∷ 2 ∷ 2 ∷ 3 ∷ []) ∷ seen_from 1 (1 ∷ 2 ∷ 2 ∷ 3 ∷ []) ∷ []
     ≡ (seen 0 (0 ∷ []) ∷ []) ∷ (seen 0 (0 ∷ []) ∷ []) ∷ []
-shows-from-reset = unfold whole in refl
+shows_from_reset = unfold whole in refl
 
 -- With the spare child as the target of its group, which is sound and which no run from reset comes to, it sees r1: areas are never restored from elsewhere.
-shows-not-from-reset
+shows_not_from_reset
     : seen_from 0 (1 ∷ 3 ∷ 2 ∷ 3 ∷ []) ∷ seen_from 1 (1 ∷ 3 ∷ 2 ∷ 3 ∷ []) ∷ []
     ≡ (seen 0 (0 ∷ []) ∷ []) ∷ (seen 1 (0 ∷ 3 ∷ []) ∷ []) ∷ []
-shows-not-from-reset = unfold whole in refl
+shows_not_from_reset = unfold whole in refl

@@ -22,26 +22,26 @@ use Rattle.model.proofs.Opened.{checks, raising}
 
 -- ---- indices
 -- "the lowest offending label, register, state or node": up to the last of 2,048
-shows-last-of-2048
+shows_last_of_2048
     : all_below (λ i. not (eqb i 2047)) 2048 ∷ some_below (λ i. eqb i 2047) 2048 ∷ [] ≡ false ∷ true ∷ []
-shows-last-of-2048 = unfold checks in refl
+shows_last_of_2048 = unfold checks in refl
 
-shows-lowest-of-2048
+shows_lowest_of_2048
     : lowest (λ i. ltb 2046 i) 2048 ∷ lowest_failing (λ i. ltb i 1023) 1024 ∷ lowest_of (3071 ∷ 1023 ∷ 1280 ∷ []) ∷ [] ≡ At 2047 ∷ At 1023 ∷ At 1023 ∷ []
-shows-lowest-of-2048 = unfold checks in refl
+shows_lowest_of_2048 = unfold checks in refl
 
 -- more than 255 of one, and entries from 128 on
-shows-many
+shows_many
     : occurrences 5 (replicate 300 5 ++ (2047 ∷ [])) ∷ occurrences 5 (261 ∷ 5 ∷ 1029 ∷ []) ∷ length (tabulate (λ i. i) 300) ∷ get_or (tabulate (λ i. i) 300) 299 0 ∷ get_or (join_below (λ i. i ∷ []) 300) 299 0 ∷ []
     ≡ 300 ∷ 1 ∷ 300 ∷ 299 ∷ 299 ∷ []
-shows-many = unfold checks in refl
+shows_many = unfold checks in refl
 
 -- a table that is filled up to an entry: not beyond it, and no further than it is long
-shows-filled
+shows_filled
     : filled_to (λ k. k + 5) 2 (9 ∷ 9 ∷ 9 ∷ []) ∷ filled_to (λ k. k + 5) 0 (9 ∷ []) ∷ filled_to (λ k. k + 5) 3 (9 ∷ 9 ∷ []) ∷ []
     ≡ (5 ∷ 6 ∷ 9 ∷ []) ∷ (9 ∷ []) ∷ (5 ∷ 6 ∷ []) ∷ []
 unfolding filled_to tabulate tabulate_from
-shows-filled = refl
+shows_filled = refl
 
 -- recursion from the highest node down to the lowest
 shows_recursion_from_2047 : recursively 0 (λ n below. suc (below (n - 1))) 2047 ≡ 2048
@@ -56,10 +56,10 @@ shows_top_bits = unfold checks in refl
 shows_high_register : register_of (15 ∷ 255 ∷ 252 ∷ 253 ∷ 254 ∷ 255 ∷ 251 ∷ []) ≡ record { label = 15; kind = 255; reset = 4294901244; width = 251 }
 shows_high_register = unfold checks in refl
 
-shows-high-state
+shows_high_state
     : state_of (255 ∷ 254 ∷ 253 ∷ 252 ∷ 251 ∷ 250 ∷ 249 ∷ 248 ∷ 247 ∷ [])
     ≡ record { parent = 255; label = 254; command = 64765; parameters = 251; first_lower = 250; first_upper = 249; second_lower = 248; second_upper = 247 }
-shows-high-state = unfold checks in refl
+shows_high_state = unfold checks in refl
 
 shows_high_node : node_of (255 ∷ 254 ∷ 253 ∷ 252 ∷ 251 ∷ 250 ∷ 249 ∷ 248 ∷ []) ≡ record { kind = 255; item = 254; a = 64765; b = 64251; c = 63737 }
 shows_high_node = unfold checks in refl
@@ -83,28 +83,28 @@ sixteen a b c d =
     65535 ∷ 65534 ∷ 65532 ∷ 65528 ∷ 65520 ∷ 65504 ∷ 65472 ∷ 65408 ∷ 65280 ∷ 65024 ∷ 64512 ∷ 63488 ∷ a ∷ b ∷ c ∷ d ∷ []
 
 -- "bit j of row i set means i flows to j": bit 15 of row 15, of row 0 and of row 14, and bit 14 of row 15
-shows-flow-of-15
+shows_flow_of_15
     : flows_to (sixteen 61440 57344 49152 32768) 15 15 ∷ flows_to (sixteen 61440 57344 49152 32768) 0 15 ∷ flows_to (sixteen 61440 57344 16384 32768) 14 15 ∷ flows_to (sixteen 61440 57344 49152 32768) 15 14 ∷ []
     ≡ true ∷ true ∷ false ∷ false ∷ []
-shows-flow-of-15 = unfold checks in refl
+shows_flow_of_15 = unfold checks in refl
 
 -- "no bit at or above the label count": of 15 labels, bit 15
 shows_row_of_15_labels : map (λ row. row_inside (replicate 14 32767 ++ (row ∷ [])) 14) (16384 ∷ 32768 ∷ 49152 ∷ []) ≡ true ∷ false ∷ false ∷ []
 shows_row_of_15_labels = unfold checks in refl
 
 -- each rule of a high label with the last one: reflexive of 15; 14 and 15 flow to each other; row 0 without bit 15
-shows-rules-of-15
+shows_rules_of_15
     : reflexive (sixteen 61440 57344 49152 16384) 15 ∷ antisymmetric (sixteen 61440 57344 49152 49152) 14 ∷ least_full (32767 ∷ replicate 15 32768) 0 ∷ [] ≡ false ∷ false ∷ false ∷ []
-shows-rules-of-15 = unfold checks in refl
+shows_rules_of_15 = unfold checks in refl
 
 -- "transitive": 13 flows to 14, 14 to 15, and 13 not to 15; and 13 flows to 15, 15 to 14, and 13 not to 14
 shows_transitive_of_15 : transitive (sixteen 61440 24576 49152 32768) 13 ∷ transitive (sixteen 61440 40960 16384 49152) 13 ∷ [] ≡ false ∷ false ∷ []
 shows_transitive_of_15 = unfold checks in refl
 
 -- "a least common label above them": 13 and 14 have 15; 14 and 15 have none; 12 and 13 have 14 and 15, of which neither is below the other
-shows-joins-of-15
+shows_joins_of_15
     : joined (sixteen 61440 40960 49152 32768) 13 ∷ joined (sixteen 61440 57344 16384 32768) 14 ∷ joined (sixteen 53248 57344 16384 32768) 12 ∷ [] ≡ true ∷ false ∷ false ∷ []
-shows-joins-of-15 = unfold checks in refl
+shows_joins_of_15 = unfold checks in refl
 
 -- ---- registers and states
 -- a register of 32 bits with this label and kind
@@ -148,29 +148,29 @@ abbrev with_command : Node → Design
 with_command command = full (register_with 15 1 4294967295 32) (state_like 62 15 1023 2) command no_node
 
 -- r63: "label, kind (0 inner, 1 port), 32-bit reset value", with the largest label, and bytes with their top bit set
-shows-register-63
+shows_register_63
     : map
     (λ register. register_kept (with_register register) 63)
     (register_with 15 1 4294967295 32 ∷ register_with 16 1 0 32 ∷ register_with 128 0 0 32 ∷ register_with 0 128 0 32 ∷ register_with 0 255 0 32 ∷ register_with 0 0 2147483648 31 ∷ register_with 0 0 0 160 ∷ [])
     ≡ true ∷ replicate 6 false
-shows-register-63 = unfold checks in refl
+shows_register_63 = unfold checks in refl
 
 -- state 63: its parent below it, label 15, and command 1023
-shows-state-63
+shows_state_63
     : map
     (λ state. state_kept (with_state state) 63)
     (state_like 62 15 1023 0 ∷ state_like 63 0 0 0 ∷ state_like 190 0 0 0 ∷ state_like 0 128 0 0 ∷ state_like 0 145 0 0 ∷ state_like 0 0 1024 0 ∷ state_like 0 0 32769 0 ∷ [])
     ≡ true ∷ replicate 6 false
-shows-state-63 = unfold checks in refl
+shows_state_63 = unfold checks in refl
 
 abbrev deepest : Design
 deepest = with_state (state_like 62 15 1023 2)
 
 -- "The default child is the lowest-numbered child": the last state is a child, and has none
-shows-last-child
+shows_last_child
     : is_child deepest 62 63 ∷ is_child deepest 62 64 ∷ has_child deepest 62 ∷ has_child deepest 63 ∷ sibling_or_self deepest 63 63 ∷ within deepest 1 63 ∷ within deepest 63 63 ∷ within deepest 63 62 ∷ []
     ≡ true ∷ false ∷ true ∷ false ∷ true ∷ true ∷ true ∷ false ∷ []
-shows-last-child = unfold checks in refl
+shows_last_child = unfold checks in refl
 
 shows_default_of_62 : default_target deepest 62 ∷ default_target deepest 63 ∷ [] ≡ 63 ∷ 63 ∷ []
 shows_default_of_62 = unfold checks in refl
@@ -184,25 +184,25 @@ shows_high_expression_kinds : map expression_kind (128 ∷ 139 ∷ 255 ∷ []) �
 shows_high_expression_kinds = unfold checks in refl
 
 -- parts below their owner by both bytes of the number; the last expression, and the first behind it; the last register and state, and bytes behind them
-shows-high-parts
+shows_high_parts
     : map (command_holds deepest 1023 sequences) (plain_node 2 0 1022 1021 0 ∷ plain_node 2 0 1023 0 0 ∷ plain_node 2 0 0 1024 0 ∷ plain_node 2 0 0 33000 0 ∷ []) ≡ true ∷ false ∷ false ∷ false ∷ []
-shows-high-parts = unfold checks in refl
+shows_high_parts = unfold checks in refl
 
-shows-high-values
+shows_high_values
     : map (command_holds deepest 5 assigns) (plain_node 1 63 2047 0 0 ∷ plain_node 1 0 2048 0 0 ∷ plain_node 1 0 34000 0 0 ∷ plain_node 1 66 0 0 0 ∷ plain_node 1 191 0 0 0 ∷ plain_node 1 255 0 0 0 ∷ [])
     ≡ true ∷ replicate 5 false
-shows-high-values = unfold checks in refl
+shows_high_values = unfold checks in refl
 
 shows_high_states : map (command_holds deepest 5 goes) (plain_node 4 63 0 0 0 ∷ plain_node 4 64 0 0 0 ∷ plain_node 4 128 0 0 0 ∷ plain_node 4 255 0 0 0 ∷ []) ≡ true ∷ replicate 3 false
 shows_high_states = unfold checks in refl
 
-shows-high-branches
+shows_high_branches
     : map (command_holds deepest 1023 branches) (plain_node 5 0 2047 1021 1022 ∷ plain_node 5 0 2048 0 0 ∷ plain_node 5 0 0 1023 0 ∷ plain_node 5 0 0 0 1023 ∷ plain_node 5 128 0 0 0 ∷ []) ≡ true ∷ replicate 4 false
-shows-high-branches = unfold checks in refl
+shows_high_branches = unfold checks in refl
 
-shows-high-operands
+shows_high_operands
     : map (expression_holds deepest 2047 (operates add)) (plain_node 2 0 2046 2045 0 ∷ plain_node 2 0 2047 0 0 ∷ plain_node 2 0 0 2047 0 ∷ plain_node 2 0 0 0 32768 ∷ plain_node 2 128 0 0 0 ∷ []) ≡ true ∷ replicate 4 false
-shows-high-operands = unfold checks in refl
+shows_high_operands = unfold checks in refl
 
 -- the body of the last state is its command, 1023: a goto, with the highest argument fields as they are written
 shows_body_of_63 : body_of (with_command (plain_node 4 63 65 320 0)) 63 ≡ goto 1023 63 65 320
@@ -217,9 +217,9 @@ shows_port_63 = unfold checks in refl
 shows_parameters_of_63 : scope_of deepest 63 ≡ 126 ∷ 127 ∷ []
 shows_parameters_of_63 = unfold checks in refl
 
-shows-bounds-of-63
+shows_bounds_of_63
     : lower_bound deepest 126 ∷ upper_bound deepest 126 ∷ lower_bound deepest 127 ∷ upper_bound deepest 127 ∷ [] ≡ 14 ∷ 15 ∷ 1 ∷ 15 ∷ []
-shows-bounds-of-63 = unfold checks in refl
+shows_bounds_of_63 = unfold checks in refl
 
 shows_within_15 : within_bounds deepest 126 15 ∷ within_bounds deepest 126 13 ∷ within_bounds deepest 127 15 ∷ within_bounds deepest 127 0 ∷ [] ≡ true ∷ false ∷ true ∷ false ∷ []
 shows_within_15 = unfold checks in refl
@@ -240,9 +240,9 @@ shows_label_in_scope = unfold checks in refl
 
 -- ---- raising, and neighbours
 -- the least label above labels 13 and 14, and above 0 and 15, is 15; above 13 and 15, where 15 is below 14, it is 15 too
-shows-join-15
+shows_join_15
     : join_of (sixteen 61440 40960 49152 32768) (13 ∷ 14 ∷ []) ∷ join_of lattice (0 ∷ 15 ∷ []) ∷ join_of (sixteen 61440 57344 16384 49152) (13 ∷ 15 ∷ []) ∷ [] ≡ 15 ∷ 15 ∷ 15 ∷ []
-shows-join-15 = unfold raising in refl
+shows_join_15 = unfold raising in refl
 
 -- the label of the last of 64 registers, 7 bytes each from byte 20 on
 shows_label_of_63_put : get_or (put_labels 20 (replicate 63 1 ++ (15 ∷ [])) (replicate 500 0)) 461 0 ≡ 15

@@ -51,26 +51,26 @@ shows_signed_top_bit : of_top_bits signed_less ++ of_top_bits arithmetic_shift +
 shows_signed_top_bit = unfold everything in refl
 
 -- "registers, 4 bytes each": the highest byte of the last value, read and written
-shows-last-byte
+shows_last_byte
     : get_or (words_of 64 (replicate 252 0 ++ (252 ∷ 253 ∷ 254 ∷ 255 ∷ []))) 63 0 ∷ bytes_of (0 ∷ 4294901244 ∷ []) ≡ 4294901244 ∷ 0 ∷ 0 ∷ 0 ∷ 0 ∷ 252 ∷ 253 ∷ 254 ∷ 255 ∷ []
-shows-last-byte = unfold everything in refl
+shows_last_byte = unfold everything in refl
 
 -- ---- registers
 abbrev inner : ℕ → Register
 inner width = record { label = 0; kind = 0; reset = 0; width = width }
 
 -- an assignment to the largest register, and to the first of the upper half
-shows-assign-63
+shows_assign_63
     : map
     (λ r. (exec (replicate 64 (inner 32)) (replicate 64 0) (assign 0 r (constant 4294967295))).registers)
     (63 ∷ 32 ∷ [])
     ≡ (replicate 63 0 ++ (4294967295 ∷ [])) ∷ (replicate 32 0 ++ (4294967295 ∷ replicate 31 0)) ∷ []
-shows-assign-63 = unfold everything in refl
+shows_assign_63 = unfold everything in refl
 
 -- it is cut by its own width, and read as it is
-shows-read-63
+shows_read_63
     : get_or (exec (replicate 63 (inner 32) ++ (inner 10 ∷ [])) (replicate 64 0) (assign 0 63 (constant 4294967295))).registers 63 0 ∷ eval (replicate 63 0 ++ (4294967295 ∷ [])) (register 0 63) ∷ [] ≡ 1023 ∷ 4294967295 ∷ []
-shows-read-63 = unfold everything in refl
+shows_read_63 = unfold everything in refl
 
 -- "when the value is not 0": the top bit alone is not 0
 shows_if_top_bit : (exec (inner 32 ∷ []) (0 ∷ []) (branch 0 (constant 2147483648) (assign 1 0 (constant 1)) (assign 2 0 (constant 2)))).registers ≡ 1 ∷ []
@@ -128,24 +128,24 @@ shows_goto_63 = unfold everything in refl
 shows_binds_63 : bound_by deepest 63 61 62 (replicate 128 9) ≡ replicate 126 9 ++ (61 ∷ 62 ∷ [])
 shows_binds_63 = unfold everything in refl
 
-shows-bound-in-63
+shows_bound_in_63
     : bound_in deepest (replicate 126 9 ++ (61 ∷ 62 ∷ [])) 63 ∷ own_bound deepest (replicate 126 9 ++ (61 ∷ 62 ∷ [])) 63 ∷ map (named (61 ∷ 62 ∷ [])) (62 ∷ 63 ∷ 64 ∷ 65 ∷ []) ∷ []
     ≡ (61 ∷ 62 ∷ []) ∷ (61 ∷ 62 ∷ []) ∷ (62 ∷ 63 ∷ 61 ∷ 62 ∷ []) ∷ []
-shows-bound-in-63 = unfold everything in refl
+shows_bound_in_63 = unfold everything in refl
 
 -- "along the current targets": down to the last state, and not where the target above it is another
 shows_path_to_63 : on_path deepest targets 63 ∷ on_path deepest (up_to 1 62 ++ (62 ∷ 63 ∷ [])) 63 ∷ on_path deepest (2 ∷ up_to 2 62 ++ (63 ∷ [])) 63 ∷ [] ≡ true ∷ false ∷ false ∷ []
 shows_path_to_63 = unfold everything in refl
 
 -- "each is 0 or an existing register's number": the last byte of the area; "is no port": r63
-shows-last-binding
+shows_last_binding
     : map (λ (r : ℕ). byte_sound deepest (replicate 127 0 ++ (r ∷ [])) 127) (63 ∷ 64 ∷ 128 ∷ 255 ∷ []) ++ map (λ (r : ℕ). bound_sound deepest (replicate 127 0 ++ (r ∷ [])) 127) (62 ∷ 63 ∷ [])
     ≡ true ∷ false ∷ false ∷ false ∷ true ∷ false ∷ []
-shows-last-binding = unfold everything in refl
+shows_last_binding = unfold everything in refl
 
-shows-last-state-bound
+shows_last_state_bound
     : map (λ (r : ℕ). binding_sound deepest targets (replicate 127 0 ++ (r ∷ [])) 63) (62 ∷ 63 ∷ []) ++ map (λ (r : ℕ). binding_sound deepest targets (replicate 126 0 ++ (r ∷ 0 ∷ [])) 63) (62 ∷ 63 ∷ []) ≡ true ∷ false ∷ true ∷ false ∷ []
-shows-last-state-bound = unfold everything in refl
+shows_last_state_bound = unfold everything in refl
 
 -- ---- cycles
 -- r0 counts them: state 1: r0 := r0 + 1; goto 1
@@ -169,10 +169,10 @@ shows_high_cycle_counts = unfold everything in refl
 
 -- ---- areas
 -- 64 registers take 256 bytes, and neither none nor as many again; 64 states take 192
-shows-lengths-of-64
+shows_lengths_of_64
     : map (λ n. register_area_answer deepest (replicate n 0)) (256 ∷ 0 ∷ 512 ∷ []) ++ map (λ n. length_answer deepest (lent_bound (replicate 256 0) (replicate n 0) [])) (192 ∷ 448 ∷ [])
     ≡ Accepted 0 ∷ Refused Area 0 ∷ Refused Area 0 ∷ Accepted 0 ∷ Refused Area 0 ∷ []
-shows-lengths-of-64 = unfold everything in refl
+shows_lengths_of_64 = unfold everything in refl
 
 -- "at the lowest register": the last one's, of 10 bits; "at the lowest state": the last one's target
 shows_content_63 : map (λ high. contents_answer deepest (replicate 252 255 ++ (255 ∷ high ∷ 0 ∷ 0 ∷ []))) (3 ∷ 4 ∷ []) ≡ Accepted 0 ∷ Refused Area 63 ∷ []

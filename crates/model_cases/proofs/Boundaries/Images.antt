@@ -36,7 +36,7 @@ shows_five_pairs = unfold checks in refl
 
 -- "The first offset is 20; each later one is the sum of offset and length before it; the last section ends at the image's end": a byte before each
 -- section, and one behind the last
-shows-byte-between
+shows_byte_between
     : map
     judged
     (laid 21 23 30 48 96 (0 ∷ labels ++ records)
@@ -47,10 +47,10 @@ shows-byte-between
     ∷ laid 20 22 29 47 95 (labels ++ records ++ (0 ∷ []))
     ∷ [])
     ≡ replicate 6 (refused 1 0)
-shows-byte-between = unfold checks in refl
+shows_byte_between = unfold checks in refl
 
 -- and each section begun a byte too early, in what stands before it; and the last byte left out
-shows-byte-shared
+shows_byte_shared
     : map
     judged
     (laid 19 21 28 46 94 (0 ∷ records)
@@ -61,15 +61,15 @@ shows-byte-shared
     ∷ laid 20 22 29 47 95 (labels ++ registers ++ states ++ commands ++ replicate 7 0)
     ∷ [])
     ≡ replicate 6 (refused 1 0)
-shows-byte-shared = unfold checks in refl
+shows_byte_shared = unfold checks in refl
 
 -- "The first offset is 20"
-shows-first-offset
+shows_first_offset
     : directory_kept (joined (rows (21 ∷ 2 ∷ 23 ∷ 0 ∷ 23 ∷ 9 ∷ 32 ∷ 0 ∷ 32 ∷ 0 ∷ [])) ++ replicate 12 0) ≡ false
-shows-first-offset = unfold checks in refl
+shows_first_offset = unfold checks in refl
 
 -- refusal 1, "section length": a section is a whole number of records
-shows-piece
+shows_piece
     : map
     judged
     (from_sections (labels ++ (0 ∷ [])) registers states commands (constant 1)
@@ -80,51 +80,51 @@ shows-piece
     ∷ from_sections labels registers states commands (constant 1)
     ∷ [])
     ≡ replicate 5 (refused 1 0) ++ (accepted 0 ∷ [])
-shows-piece = unfold checks in refl
+shows_piece = unfold checks in refl
 
 -- labels, "1 to 16"
-shows-labels-17
+shows_labels_17
     : directory_kept (from_sections (replicate 34 0) [] (replicate 9 0) [] [])
     ∷ directory_kept (from_sections (replicate 32 0) [] (replicate 9 0) [] [])
     ∷ directory_kept (from_sections [] [] (replicate 9 0) [] [])
     ∷ []
     ≡ false ∷ true ∷ false ∷ []
-shows-labels-17 = unfold checks in refl
+shows_labels_17 = unfold checks in refl
 
 -- registers, "0 to 64"
-shows-registers-65
+shows_registers_65
     : directory_kept (from_sections (1 ∷ 0 ∷ []) (replicate 455 0) (replicate 9 0) [] [])
     ∷ directory_kept (from_sections (1 ∷ 0 ∷ []) (replicate 448 0) (replicate 9 0) [] [])
     ∷ directory_kept (from_sections (1 ∷ 0 ∷ []) [] (replicate 9 0) [] [])
     ∷ []
     ≡ false ∷ true ∷ true ∷ []
-shows-registers-65 = unfold checks in refl
+shows_registers_65 = unfold checks in refl
 
 -- states, "1 to 64"
-shows-states-65
+shows_states_65
     : directory_kept (from_sections (1 ∷ 0 ∷ []) [] (replicate 585 0) [] [])
     ∷ directory_kept (from_sections (1 ∷ 0 ∷ []) [] (replicate 576 0) [] [])
     ∷ directory_kept (from_sections (1 ∷ 0 ∷ []) [] (replicate 9 0) [] [])
     ∷ directory_kept (from_sections (1 ∷ 0 ∷ []) [] [] [] [])
     ∷ []
     ≡ false ∷ true ∷ true ∷ false ∷ []
-shows-states-65 = unfold checks in refl
+shows_states_65 = unfold checks in refl
 
 -- commands, "0 to 1,024", of 8 bytes
-shows-commands-1025
+shows_commands_1025
     : map
     (λ (bytes : ℕ). directory_kept (from_sections (1 ∷ 0 ∷ []) [] (replicate 9 0) (replicate bytes 0) []))
     (8200 ∷ 8192 ∷ 0 ∷ [])
     ≡ false ∷ true ∷ true ∷ []
-shows-commands-1025 = unfold checks in refl
+shows_commands_1025 = unfold checks in refl
 
 -- expressions, "0 to 2,048", of 8 bytes
-shows-expressions-2049
+shows_expressions_2049
     : map
     (λ (bytes : ℕ). directory_kept (from_sections (1 ∷ 0 ∷ []) [] (replicate 9 0) [] (replicate bytes 0)))
     (16392 ∷ 16384 ∷ 0 ∷ [])
     ≡ false ∷ true ∷ true ∷ []
-shows-expressions-2049 = unfold checks in refl
+shows_expressions_2049 = unfold checks in refl
 
 -- labels, "2 bytes: row": bit 8 of a row stands in its second byte, and is at or above the label count
 shows_row_16_bits : judged (of_rows (257 ∷ [])) ≡ refused 2 0
@@ -135,12 +135,12 @@ shows_command_16_bits : judged (one_state (1 ∷ []) [] 257 (goes_to 1 ∷ []) [
 shows_command_16_bits = unfold checks in refl
 
 -- "byte 0 kind, byte 1 a register or state, then 16-bit fields a, b, c": a second byte of each field is not 0
-shows-fields-16-bits
+shows_fields_16_bits
     : map
     (λ (x : List ℕ). judged (one_state (1 ∷ []) [] 3 (goes_to 1 ∷ goes_to 1 ∷ x ∷ []) (constant 1 ∷ [])))
     (node 5 0 256 1 2 ∷ node 5 0 0 257 2 ∷ node 5 0 0 1 258 ∷ node 5 0 0 1 2 ∷ [])
     ≡ refused 5 3 ∷ refused 5 3 ∷ refused 5 3 ∷ accepted 0 ∷ []
-shows-fields-16-bits = unfold checks in refl
+shows_fields_16_bits = unfold checks in refl
 
 -- "fields little-endian"; "0 constant, 32 bits in bytes 4 to 7"
 shows_constant : eval [] (expr_of (design_of (one_state (1 ∷ []) [] 1 (goes_to 1 ∷ []) (constant 4275878552 ∷ []))) 0) ≡ 4275878552

@@ -47,9 +47,9 @@ shows_remains_1 : remains lease 1 a_use ≡ a_cycle ∷ a_cycle ∷ a_write 1 5 
 shows_remains_1 = unfold whole in refl
 
 -- 02, E9: a journalled cycle remains apart from a cycle and shows what it shows; a step back remains, at every level, and shows nothing
-shows-journalled-remain
+shows_journalled_remain
     : (c : Cycle) → remaining (design_of lease) 0 (journalled c ∷ stepped_back ∷ cycled c ∷ stepped_back ∷ []) ≡ a_journalled_cycle ∷ a_step_back ∷ a_cycle ∷ a_step_back ∷ []
-shows-journalled-remain c = unfold whole in refl
+shows_journalled_remain c = unfold whole in refl
 
 shows_journalled_seen : (c other : Cycle) → cycles_of (journalled c ∷ stepped_back ∷ was_reset ∷ cycled other ∷ journalled other ∷ []) ≡ c ∷ other ∷ other ∷ []
 shows_journalled_seen c other = unfold whole in refl
@@ -124,38 +124,38 @@ both_ways =
     }
 
 -- "Each starts with a reset; then the registers not at or below the level are given any values": at level 1 those of labels 2 and 3, at level 2 of 1 and 3
-shows-start
+shows_start
     : map (λ level. start diamond level both_ways.begins) (0 ∷ 1 ∷ 2 ∷ 3 ∷ [])
     ≡ lent (bytes_of (0 ∷ 101 ∷ 102 ∷ 103 ∷ 104 ∷ 105 ∷ [])) (1 ∷ 1 ∷ 2 ∷ 4 ∷ 4 ∷ [])
     ∷ lent (bytes_of (0 ∷ 11 ∷ 102 ∷ 103 ∷ 41 ∷ 105 ∷ [])) (1 ∷ 1 ∷ 2 ∷ 4 ∷ 4 ∷ [])
     ∷ lent (bytes_of (0 ∷ 101 ∷ 20 ∷ 103 ∷ 104 ∷ 105 ∷ [])) (1 ∷ 1 ∷ 2 ∷ 4 ∷ 4 ∷ [])
     ∷ lent (bytes_of (0 ∷ 11 ∷ 20 ∷ 13 ∷ 41 ∷ 53 ∷ [])) (1 ∷ 1 ∷ 2 ∷ 4 ∷ 4 ∷ [])
     ∷ []
-shows-start = unfold whole in refl
+shows_start = unfold whole in refl
 
 -- "for each cycle in order, the values of all registers at or below the level after it, and its walk without the states not at or below the level"
-shows-views-left
+shows_views_left
     : views diamond 1 both_ways
     ≡ seen (0 ∷ 11 ∷ 41 ∷ []) (0 ∷ 1 ∷ [])
     ∷ seen (0 ∷ 11 ∷ 41 ∷ []) (0 ∷ [])
     ∷ seen (5 ∷ 11 ∷ 41 ∷ []) (0 ∷ 1 ∷ [])
     ∷ seen (5 ∷ 11 ∷ 42 ∷ []) (0 ∷ 2 ∷ [])
     ∷ []
-shows-views-left = unfold whole in refl
+shows_views_left = unfold whole in refl
 
-shows-views-right
+shows_views_right
     : views diamond 2 both_ways
     ≡ seen (0 ∷ 20 ∷ []) (0 ∷ 1 ∷ []) ∷ seen (0 ∷ 20 ∷ []) (0 ∷ 3 ∷ []) ∷ seen (5 ∷ 20 ∷ []) (0 ∷ 1 ∷ []) ∷ seen (5 ∷ 20 ∷ []) (0 ∷ []) ∷ []
-shows-views-right = unfold whole in refl
+shows_views_right = unfold whole in refl
 
-shows-views-top
+shows_views_top
     : views diamond 3 both_ways
     ≡ seen (0 ∷ 11 ∷ 20 ∷ 13 ∷ 41 ∷ 53 ∷ []) (0 ∷ 1 ∷ [])
     ∷ seen (0 ∷ 11 ∷ 20 ∷ 13 ∷ 41 ∷ 20 ∷ []) (0 ∷ 3 ∷ 4 ∷ [])
     ∷ seen (5 ∷ 11 ∷ 20 ∷ 33 ∷ 41 ∷ 53 ∷ []) (0 ∷ 1 ∷ [])
     ∷ seen (5 ∷ 11 ∷ 20 ∷ 33 ∷ 42 ∷ 53 ∷ []) (0 ∷ 2 ∷ [])
     ∷ []
-shows-views-top = unfold whole in refl
+shows_views_top = unfold whole in refl
 
 -- "with refused calls and port writes to registers not at or below the level struck out, the same resets, port writes (register and value) and cycles
 -- remain in the same order"
@@ -185,14 +185,14 @@ ends_by call =
       calls = runs 2 ∷ call ∷ [];
     }
 
-shows-end-of-last-call
+shows_end_of_last_call
     : map (λ call. seen_at_end lease 1 (ends_by call)) (writes 1 5 ∷ resets ∷ runs 1 ∷ []) ≡ (2 ∷ 5 ∷ []) ∷ (3 ∷ 0 ∷ []) ∷ (1 ∷ 0 ∷ []) ∷ []
-shows-end-of-last-call = unfold whole in refl
+shows_end_of_last_call = unfold whole in refl
 
 -- "with refused calls .. struck out": a reset, a port write and a run with an area of the wrong length, and a write to an inner register
-shows-refused-events
+shows_refused_events
     : events lease short_lent (resets ∷ writes 1 5 ∷ runs 2 ∷ []) ++ events lease any_lent (writes 0 5 ∷ writes 2 5 ∷ runs 2 ∷ []) ≡ []
-shows-refused-events = unfold whole in refl
+shows_refused_events = unfold whole in refl
 
 -- "the areas after the last are what the call leaves", and what the next call finds: two runs of 2 are a run of 4
 shows_runs_in_order : at_end lease any_lent (resets ∷ runs 2 ∷ runs 2 ∷ []) ≡ lent (replicate 8 0) (1 ∷ 1 ∷ 3 ∷ 3 ∷ 4 ∷ [])
@@ -219,11 +219,11 @@ other_use =
       calls = runs 1 ∷ runs 1 ∷ writes 2 6 ∷ writes 1 5 ∷ runs 1 ∷ [];
     }
 
-shows-claim-1
+shows_claim_1
     : Independent → (views lease 1 a_use ≡ views lease 1 other_use) × (seen_at_end lease 1 a_use ≡ seen_at_end lease 1 other_use)
-shows-claim-1 claim = claim lease (unfold everything in refl) 1 (unfold everything in omega arith) a_use other_use (unfold whole in refl)
+shows_claim_1 claim = claim lease (unfold everything in refl) 1 (unfold everything in omega arith) a_use other_use (unfold whole in refl)
 
 -- at the lowest level, of empty lists
-shows-claim-0
+shows_claim_0
     : Independent → (views lease 0 no_calls ≡ views lease 0 no_calls) × (seen_at_end lease 0 no_calls ≡ seen_at_end lease 0 no_calls)
-shows-claim-0 claim = claim lease (unfold everything in refl) 0 (unfold everything in omega arith) no_calls no_calls refl
+shows_claim_0 claim = claim lease (unfold everything in refl) 0 (unfold everything in omega arith) no_calls no_calls refl

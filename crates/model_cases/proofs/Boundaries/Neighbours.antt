@@ -17,10 +17,10 @@ unfolding sights unnumbered_expr unnumbered is_excepted common_body common
 neighbouring = 0
 
 -- "the same commands", apart from node numbers: of every kind, and of nothing else
-shows-unnumbered
+shows_unnumbered
     : unnumbered (branch 9 (binary add (register 8 1) (constant 7)) (sequence 6 (skip 5) (assign 4 3 (register 2 65))) (sequence 3 (assign 2 64 (constant 1)) (branch 1 (constant 5) (fall 7) (goto 8 4 3 2))))
     ≡ branch 0 (binary add (register 0 1) (constant 7)) (sequence 0 (skip 0) (assign 0 3 (register 0 65))) (sequence 0 (assign 0 64 (constant 1)) (branch 0 (constant 5) (fall 0) (goto 0 4 3 2)))
-shows-unnumbered = unfold neighbouring in refl
+shows_unnumbered = unfold neighbouring in refl
 
 -- Labels 1 and 2 cannot be compared, 3 is above both. States 0 and 1 have label 0, and states 2, 3 and 4 the labels 1, 2 and 3.
 abbrev labelled : List ℕ
@@ -33,14 +33,14 @@ labelled =
     []
 
 -- "not at or below a level": neither at it, nor below it; a label that cannot be compared with the level is not at or below it
-shows-excepted
+shows_excepted
     : map (λ level. map (is_excepted (design_of labelled) level) (0 ∷ 1 ∷ 2 ∷ 3 ∷ 4 ∷ [])) (0 ∷ 1 ∷ 2 ∷ 3 ∷ [])
     ≡ (false ∷ false ∷ true ∷ true ∷ true ∷ [])
     ∷ (false ∷ false ∷ false ∷ true ∷ true ∷ [])
     ∷ (false ∷ false ∷ true ∷ false ∷ true ∷ [])
     ∷ (false ∷ false ∷ false ∷ false ∷ false ∷ [])
     ∷ []
-shows-excepted = unfold neighbouring in refl
+shows_excepted = unfold neighbouring in refl
 
 -- r0 has label 0 and this reset value, r1 has label 1 and this width. State 1 of label 1: r1 := r1 + v; goto 1.
 abbrev counting : ℕ → ℕ → ℕ → List ℕ
@@ -62,12 +62,12 @@ renumbered reset width v =
     (images.goes_to 1 ∷ images.assigns 1 2 ∷ images.falls ∷ images.sequences 1 0 ∷ [])
     (images.constant v ∷ images.reads 1 ∷ images.adds 1 0 ∷ [])
 
-shows-counting-accepted
+shows_counting_accepted
     : map judged (counting 3 32 5 ∷ counting 3 32 6 ∷ counting 4 32 5 ∷ counting 3 2 5 ∷ renumbered 3 32 5 ∷ labelled ∷ []) ≡ replicate 6 (accepted 0)
-shows-counting-accepted = unfold checks in refl
+shows_counting_accepted = unfold checks in refl
 
 -- "equal labels and registers, and equal state records apart from command numbers", all of them; and the bodies of all states at or below the level
-shows-common-at-level
+shows_common_at_level
     : common (design_of (counting 3 32 5)) 1
     ≡ record {
       rows = 3 ∷ 2 ∷ [];
@@ -78,7 +78,7 @@ shows-common-at-level
           ∷ [];
       bodies = (fall 0 ∷ []) ∷ (sequence 0 (assign 0 1 (binary add (register 0 1) (constant 5))) (goto 0 1 0 0) ∷ []) ∷ [];
     }
-shows-common-at-level = unfold neighbouring in refl
+shows_common_at_level = unfold neighbouring in refl
 
 -- below it, state 1 is excepted
 shows_common_below : map (λ v. (common (design_of (counting 3 32 v)) 0).bodies) (5 ∷ 6 ∷ []) ≡ replicate 2 ((fall 0 ∷ []) ∷ [] ∷ [])
@@ -103,7 +103,7 @@ shows_given_accepted : map judged (given 5 ∷ given 6 ∷ []) ≡ replicate 2 (
 shows_given_accepted = unfold checks in refl
 
 -- "whose fixed label": a state whose label is a parameter's is not excepted, and its record counts with its bounds
-shows-no-fixed-label
+shows_no_fixed_label
     : common (design_of (given 5)) 0
     ≡ record {
       rows = 3 ∷ 2 ∷ [];
@@ -115,7 +115,7 @@ shows-no-fixed-label
           ∷ [];
       bodies = (fall 0 ∷ []) ∷ (goto 0 2 0 0 ∷ []) ∷ (sequence 0 (assign 0 64 (constant 5)) (goto 0 2 64 0) ∷ []) ∷ [];
     }
-shows-no-fixed-label = unfold neighbouring in refl
+shows_no_fixed_label = unfold neighbouring in refl
 
 -- every field of a state record but the command number: a default child of a state that holds no fall, with the second parameter in scope of the group it stands in
 abbrev bounded : List ℕ
@@ -127,7 +127,7 @@ bounded =
     (images.falls ∷ images.goes_with_both 2 0 1 ∷ images.goes_with_both 2 64 65 ∷ images.goes_to 3 ∷ [])
     []
 
-shows-records-whole
+shows_records_whole
     : (judged bounded ∷ [] ≡ accepted 0 ∷ [])
     × ((common (design_of bounded) 0).states
     ≡ record { parent = 0; label = 0; command = 0; parameters = 0; first_lower = 0; first_upper = 0; second_lower = 0; second_upper = 0 }
@@ -135,7 +135,7 @@ shows-records-whole
     ∷ record { parent = 0; label = 17; command = 0; parameters = 2; first_lower = 0; first_upper = 1; second_lower = 1; second_upper = 1 }
     ∷ record { parent = 2; label = 1; command = 0; parameters = 0; first_lower = 0; first_upper = 0; second_lower = 0; second_upper = 0 }
     ∷ [])
-shows-records-whole = unfold neighbouring in (refl, refl)
+shows_records_whole = unfold neighbouring in (refl, refl)
 
 -- ---- what a level sees of some cycles from reset
 abbrev values_of : List ℕ → ℕ → ℕ → ℕ → List (List ℕ)
@@ -143,20 +143,20 @@ values_of image states level n =
     map (λ (seen : Seen). seen.values) (view (design_of image) level (events image (lent_bound (replicate 8 9) (replicate states 9) []) (resets ∷ runs n ∷ [])))
 
 -- "Then that level sees equal runs across the two designs": level 0 the same, and level 1, whose own state was edited, another run
-shows-neighbours-seen
+shows_neighbours_seen
     : map (λ v. values_of (counting 3 32 v) 6 0 2) (5 ∷ 6 ∷ []) ≡ ((3 ∷ []) ∷ (3 ∷ []) ∷ []) ∷ ((3 ∷ []) ∷ (3 ∷ []) ∷ []) ∷ []
-shows-neighbours-seen = unfold neighbouring in refl
+shows_neighbours_seen = unfold neighbouring in refl
 
 -- Why nothing may be left out. The level itself is not excepted: it sees its own states run.
-shows-level-sees-itself
+shows_level_sees_itself
     : map (λ v. values_of (counting 3 32 v) 6 1 2) (5 ∷ 6 ∷ []) ≡ ((3 ∷ 7 ∷ []) ∷ (3 ∷ 12 ∷ []) ∷ []) ∷ ((3 ∷ 8 ∷ []) ∷ (3 ∷ 14 ∷ []) ∷ []) ∷ []
-shows-level-sees-itself = unfold neighbouring in refl
+shows_level_sees_itself = unfold neighbouring in refl
 
 -- Registers are equal with their reset values, which are seen from the first cycle on, and with their widths.
-shows-registers-seen
+shows_registers_seen
     : values_of (counting 3 32 5) 6 1 1 ∷ values_of (counting 4 32 5) 6 1 1 ∷ values_of (counting 3 2 5) 6 1 1 ∷ []
     ≡ ((3 ∷ 7 ∷ []) ∷ []) ∷ ((4 ∷ 7 ∷ []) ∷ []) ∷ ((3 ∷ 3 ∷ []) ∷ []) ∷ []
-shows-registers-seen = unfold neighbouring in refl
+shows_registers_seen = unfold neighbouring in refl
 
 -- A state whose label is a parameter's may run at the level: here it writes r0.
 shows_parameter_seen : map (λ v. values_of (given v) 9 0 2) (5 ∷ 6 ∷ []) ≡ ((0 ∷ []) ∷ (5 ∷ []) ∷ []) ∷ ((0 ∷ []) ∷ (6 ∷ []) ∷ []) ∷ []

@@ -13,43 +13,43 @@ shows_join_before_higher_row : judged (of_rows (15 ∷ 2 ∷ 4 ∷ 24 ∷ [])) �
 shows_join_before_higher_row = unfold checks in refl
 
 -- the first to fail is "no bit at or above the label count"; reflexive, antisymmetric, transitive, joined of a higher label
-shows-row-inside-before-higher
+shows_row_inside_before_higher
     : map judged (of_rows (15 ∷ 2 ∷ 22 ∷ 2 ∷ []) ∷ of_rows (15 ∷ 18 ∷ 14 ∷ 14 ∷ []) ∷ of_rows (15 ∷ 22 ∷ 4 ∷ 10 ∷ []) ∷ of_rows (15 ∷ 30 ∷ 4 ∷ 8 ∷ []) ∷ [])
     ≡ refused 2 2 ∷ refused 2 1 ∷ refused 2 1 ∷ refused 2 1 ∷ []
-shows-row-inside-before-higher = unfold checks in refl
+shows_row_inside_before_higher = unfold checks in refl
 
 -- the first to fail is "reflexive"; a bit at the count, antisymmetric, transitive of a higher label
-shows-reflexive-before-higher
+shows_reflexive_before_higher
     : map judged (of_rows (15 ∷ 2 ∷ 2 ∷ 26 ∷ []) ∷ of_rows (15 ∷ 12 ∷ 12 ∷ 12 ∷ []) ∷ of_rows (15 ∷ 12 ∷ 8 ∷ 12 ∷ []) ∷ [])
     ≡ refused 2 2 ∷ refused 2 1 ∷ refused 2 1 ∷ []
-shows-reflexive-before-higher = unfold checks in refl
+shows_reflexive_before_higher = unfold checks in refl
 
 -- the first to fail is "antisymmetric"; a bit at the count, reflexive, transitive, joined of a higher label
-shows-antisymmetric-before-higher
+shows_antisymmetric_before_higher
     : map judged (of_rows (15 ∷ 2 ∷ 6 ∷ 31 ∷ []) ∷ of_rows (15 ∷ 2 ∷ 2 ∷ 15 ∷ []) ∷ of_rows (15 ∷ 2 ∷ 6 ∷ 11 ∷ []) ∷ of_rows (15 ∷ 2 ∷ 4 ∷ 15 ∷ []) ∷ [])
     ≡ refused 2 0 ∷ refused 2 0 ∷ refused 2 0 ∷ refused 2 0 ∷ []
-shows-antisymmetric-before-higher = unfold checks in refl
+shows_antisymmetric_before_higher = unfold checks in refl
 
 -- the first to fail is "transitive"; a bit at the count, reflexive, antisymmetric, joined of a higher label
-shows-transitive-before-higher
+shows_transitive_before_higher
     : map judged (of_rows (15 ∷ 6 ∷ 12 ∷ 26 ∷ []) ∷ of_rows (15 ∷ 6 ∷ 12 ∷ 4 ∷ []) ∷ of_rows (15 ∷ 6 ∷ 12 ∷ 12 ∷ []) ∷ of_rows (15 ∷ 6 ∷ 12 ∷ 2 ∷ []) ∷ [])
     ≡ refused 2 1 ∷ refused 2 1 ∷ refused 2 1 ∷ refused 2 1 ∷ []
-shows-transitive-before-higher = unfold checks in refl
+shows_transitive_before_higher = unfold checks in refl
 
 -- the first to fail is "row 0 full"; a bit at the count, reflexive, antisymmetric, transitive, joined of a higher label
-shows-row-0-full-before-higher
+shows_row_0_full_before_higher
     : map judged (of_rows (5 ∷ 6 ∷ 4 ∷ 28 ∷ []) ∷ of_rows (5 ∷ 4 ∷ 4 ∷ 12 ∷ []) ∷ of_rows (5 ∷ 14 ∷ 4 ∷ 14 ∷ []) ∷ of_rows (5 ∷ 7 ∷ 4 ∷ 14 ∷ []) ∷ of_rows (5 ∷ 6 ∷ 4 ∷ 7 ∷ []) ∷ [])
     ≡ refused 2 0 ∷ refused 2 0 ∷ refused 2 0 ∷ refused 2 0 ∷ refused 2 0 ∷ []
-shows-row-0-full-before-higher = unfold checks in refl
+shows_row_0_full_before_higher = unfold checks in refl
 
 -- the first to fail is "a least common label above"; a bit at the count, reflexive, antisymmetric, transitive of a higher label
-shows-joined-before-higher
+shows_joined_before_higher
     : map judged (of_rows (15 ∷ 2 ∷ 4 ∷ 30 ∷ []) ∷ of_rows (15 ∷ 2 ∷ 2 ∷ 6 ∷ []) ∷ of_rows (15 ∷ 2 ∷ 12 ∷ 12 ∷ []) ∷ of_rows (15 ∷ 2 ∷ 6 ∷ 12 ∷ []) ∷ [])
     ≡ refused 2 1 ∷ refused 2 0 ∷ refused 2 1 ∷ refused 2 1 ∷ []
-shows-joined-before-higher = unfold checks in refl
+shows_joined_before_higher = unfold checks in refl
 
 -- of r1 and r2: a label, a kind, a width and a reset value, each before another
-shows-register-before-higher
+shows_register_before_higher
     : map
     (λ (pair : List ℕ × List ℕ). judged (one_state (1 ∷ []) (register_record 0 0 0 ∷ pair.0 ∷ pair.1 ∷ []) 1 (goes_to 1 ∷ []) []))
     ((width_record 1 0 0 8, width_record 0 2 0 8)
@@ -63,10 +63,10 @@ shows-register-before-higher
     ∷ (width_record 0 0 256 8, width_record 0 0 0 0)
     ∷ [])
     ≡ replicate 9 (refused 3 1)
-shows-register-before-higher = unfold checks in refl
+shows_register_before_higher = unfold checks in refl
 
 -- of states 1 and 2: a parent, a label and a command number, each before another
-shows-state-before-higher
+shows_state_before_higher
     : map
     (λ (pair : List ℕ × List ℕ). judged (assemble (1 ∷ []) [] (state_record 0 0 0 ∷ pair.0 ∷ pair.1 ∷ []) (falls ∷ goes_to 1 ∷ goes_to 2 ∷ []) []))
     ((state_record 1 0 1, state_record 0 1 2)
@@ -77,10 +77,10 @@ shows-state-before-higher
     ∷ (state_record 0 0 3, state_record 0 1 2)
     ∷ [])
     ≡ replicate 6 (refused 4 1)
-shows-state-before-higher = unfold checks in refl
+shows_state_before_higher = unfold checks in refl
 
 -- of commands 1 and 2: a kind, an unused byte, a part, a register and a state, each before another
-shows-command-before-higher
+shows_command_before_higher
     : map
     (λ (pair : List ℕ × List ℕ). judged (one_state (1 ∷ []) [] 1 (pair.0 ∷ pair.1 ∷ []) (constant 0 ∷ [])))
     ((node 0 1 0 0 0, node 6 0 0 0 0)
@@ -92,18 +92,18 @@ shows-command-before-higher
     ∷ (node 2 0 1 0 0, node 4 2 0 0 0)
     ∷ [])
     ≡ replicate 7 (refused 5 1)
-shows-command-before-higher = unfold checks in refl
+shows_command_before_higher = unfold checks in refl
 
 -- of expressions 0 and 1, likewise
-shows-expression-before-higher
+shows_expression_before_higher
     : map
     (λ (pair : List ℕ × List ℕ). judged (one_state (1 ∷ []) [] 1 (goes_to 1 ∷ []) (pair.0 ∷ pair.1 ∷ [])))
     ((node 0 1 0 0 0, node 12 0 0 0 0) ∷ (node 2 0 0 0 0, node 12 0 0 0 0) ∷ (node 1 0 0 0 0, node 0 1 0 0 0) ∷ (node 12 0 0 0 0, node 0 1 0 0 0) ∷ [])
     ≡ replicate 4 (refused 5 1024)
-shows-expression-before-higher = unfold checks in refl
+shows_expression_before_higher = unfold checks in refl
 
 -- "node not used exactly once": one that is not used before one that is used twice, and the other way round; of commands and of expressions
-shows-use-before-higher
+shows_use_before_higher
     : map
     judged
     (one_state (1 ∷ []) [] 4 (skips ∷ skips ∷ sequences 2 2 ∷ goes_to 1 ∷ []) []
@@ -112,18 +112,18 @@ shows-use-before-higher
     ∷ one_state (1 ∷ []) [] 3 (goes_to 1 ∷ goes_to 1 ∷ branches 2 1 2 ∷ []) (constant 0 ∷ constant 1 ∷ node 2 0 0 0 0 ∷ [])
     ∷ [])
     ≡ refused 6 1 ∷ refused 6 1 ∷ refused 6 1024 ∷ refused 6 1024 ∷ []
-shows-use-before-higher = unfold checks in refl
+shows_use_before_higher = unfold checks in refl
 
 -- "at the lowest such assignment", and at a goto with a port as its argument: whichever is lower. r0 is a port, r1 is none; state 2 has a parameter
-shows-port-before-higher
+shows_port_before_higher
     : map
     (λ (commands : List (List ℕ)). judged (assemble (1 ∷ []) (register_record 0 1 0 ∷ register_record 0 0 0 ∷ []) (state_record 0 0 0 ∷ state_record 0 0 3 ∷ state_with 0 0 4 1 0 0 0 0 ∷ []) (falls ∷ commands) (constant 0 ∷ [])))
     ((assigns 0 0 ∷ goes_with 2 0 ∷ sequences 1 2 ∷ goes_with 2 64 ∷ []) ∷ (goes_with 2 0 ∷ assigns 0 0 ∷ sequences 2 1 ∷ goes_with 2 64 ∷ []) ∷ [])
     ≡ refused 16 1 ∷ refused 16 1 ∷ []
-shows-port-before-higher = unfold checks in refl
+shows_port_before_higher = unfold checks in refl
 
 -- 19 "at the lowest state": of states 2 and 3 a count, a scope, bounds and a label byte, each before another
-shows-parameters-before-higher
+shows_parameters_before_higher
     : map
     (λ (pair : List ℕ × List ℕ). judged (assemble chain [] (state_record 0 0 0 ∷ state_record 0 0 1 ∷ pair.0 ∷ pair.1 ∷ []) (falls ∷ goes_to 1 ∷ goes_to 2 ∷ goes_to 3 ∷ []) []))
     ((state_with 0 0 2 1 1 0 0 0, state_with 0 0 3 3 0 0 0 0)
@@ -135,10 +135,10 @@ shows-parameters-before-higher
     ∷ (state_with 0 0 2 1 1 0 0 0, state_with 0 16 3 0 0 0 0 0)
     ∷ [])
     ≡ replicate 7 (refused 19 2)
-shows-parameters-before-higher = unfold checks in refl
+shows_parameters_before_higher = unfold checks in refl
 
 -- 14 "at the lowest state": a port bound on the path, in state 2, before a byte that is no register's, in state 3; r0 is a port, r1 is none
-shows-binding-before-higher
+shows_binding_before_higher
     : map
     (λ (bindings : List ℕ).
     numbers_of
@@ -153,4 +153,4 @@ shows-binding-before-higher
     1))
     ((0 ∷ 0 ∷ 0 ∷ 0 ∷ 0 ∷ 0 ∷ 2 ∷ 0 ∷ []) ∷ (0 ∷ 0 ∷ 0 ∷ 0 ∷ 1 ∷ 0 ∷ 2 ∷ 0 ∷ []) ∷ [])
     ≡ refused 14 2 ∷ refused 14 3 ∷ []
-shows-binding-before-higher = unfold everything in refl
+shows_binding_before_higher = unfold everything in refl

@@ -26,17 +26,17 @@ shows_port_to_itself : judged (with_kinds 0 1 0 3 (assigns 1 0 ∷ goes_to 1 ∷
 shows_port_to_itself = unfold checks in refl
 
 -- A port may be read: r0 := r1; if r1 then goto 1 else goto 1
-shows-port-read
+shows_port_read
     : judged (with_kinds 0 1 1 5 (assigns 0 0 ∷ goes_to 1 ∷ goes_to 1 ∷ branches 1 2 3 ∷ sequences 1 4 ∷ []) (reads 1 ∷ reads 1 ∷ [])) ≡ accepted 0
-shows-port-read = unfold checks in refl
+shows_port_read = unfold checks in refl
 
 -- No other command names a register: r0 and r1 are ports, a goto has state 1 in byte 1, and skip, sequence, if and fall have 0 there
-shows-other-commands
+shows_other_commands
     : judged (with_kinds 1 1 1 5 (skips ∷ goes_to 1 ∷ goes_to 1 ∷ branches 0 2 3 ∷ sequences 1 4 ∷ []) (reads 0 ∷ [])) ≡ accepted 0
-shows-other-commands = unfold checks in refl
+shows_other_commands = unfold checks in refl
 
 -- Not only the first assignment of a body: r0 := 1; r1 := 1; goto 1. In the first part and in the second, in the then and in the else.
-shows-each-assignment
+shows_each_assignment
     : map
     judged
     (with_kinds 0 1 0 5 (assigns 0 0 ∷ assigns 1 1 ∷ goes_to 1 ∷ sequences 2 3 ∷ sequences 1 4 ∷ []) (constant 1 ∷ constant 1 ∷ [])
@@ -45,7 +45,7 @@ shows-each-assignment
     ∷ with_kinds 1 0 0 5 (assigns 0 0 ∷ assigns 1 1 ∷ branches 2 1 2 ∷ goes_to 1 ∷ sequences 3 4 ∷ []) (constant 1 ∷ constant 1 ∷ constant 1 ∷ [])
     ∷ [])
     ≡ refused 16 2 ∷ refused 16 1 ∷ refused 16 2 ∷ refused 16 1 ∷ []
-shows-each-assignment = unfold checks in refl
+shows_each_assignment = unfold checks in refl
 
 -- In the body of the root, of state 1 and of the last state; and a design of whose states none names the port r1
 abbrev in_bodies : ℕ → ℕ → ℕ → List ℕ
@@ -58,30 +58,30 @@ in_bodies root one two =
     (constant 1 ∷ constant 1 ∷ constant 1 ∷ [])
 
 -- "at the lowest such assignment": of one, of two, of all
-shows-lowest-assignment
+shows_lowest_assignment
     : map
     judged
     (in_bodies 0 0 0 ∷ in_bodies 1 0 0 ∷ in_bodies 0 1 0 ∷ in_bodies 0 0 1 ∷ in_bodies 0 1 1 ∷ in_bodies 1 0 1 ∷ in_bodies 1 1 1 ∷ [])
     ≡ accepted 0 ∷ refused 16 0 ∷ refused 16 3 ∷ refused 16 6 ∷ refused 16 3 ∷ refused 16 0 ∷ refused 16 0 ∷ []
-shows-lowest-assignment = unfold checks in refl
+shows_lowest_assignment = unfold checks in refl
 
 -- the lowest by its number, not by where it is written: command 3 runs before command 1
-shows-lowest-by-number
+shows_lowest_by_number
     : judged (with_kinds 1 1 0 5 (assigns 0 0 ∷ goes_to 1 ∷ assigns 1 1 ∷ sequences 1 2 ∷ sequences 3 4 ∷ []) (constant 1 ∷ constant 1 ∷ [])) ≡ refused 16 1
-shows-lowest-by-number = unfold checks in refl
+shows_lowest_by_number = unfold checks in refl
 
 -- "after 8": r0 := 1; goto 0, where r0 is a port and the goto names the root, by a higher command; and a design that breaks 5, whose register is none
-shows-8-before-16
+shows_8_before_16
     : map
     judged
     (with_kinds 1 0 0 3 (assigns 0 0 ∷ goes_to 0 ∷ sequences 1 2 ∷ []) (constant 1 ∷ [])
     ∷ with_kinds 1 0 0 3 (assigns 3 0 ∷ goes_to 1 ∷ sequences 1 2 ∷ []) (constant 1 ∷ [])
     ∷ [])
     ≡ refused 8 2 ∷ refused 5 1 ∷ []
-shows-8-before-16 = unfold checks in refl
+shows_8_before_16 = unfold checks in refl
 
 -- "and before 9": r0 := 1; fall, in state 1 with label 1, where r0 is a port; state 2 below it has label 0. The assignment breaks 10 as well.
-shows-16-before-9
+shows_16_before_9
     : judged
     (assemble
     chain
@@ -90,10 +90,10 @@ shows-16-before-9
     (falls ∷ assigns 0 0 ∷ falls ∷ sequences 1 2 ∷ goes_to 2 ∷ [])
     (constant 1 ∷ []))
     ≡ refused 16 1
-shows-16-before-9 = unfold checks in refl
+shows_16_before_9 = unfold checks in refl
 
 -- 16 before 10, which a lower command breaks: r0 := r1; r2 := 1; goto 1, where r1 has the higher label and r2 is a port
-shows-16-before-10
+shows_16_before_10
     : judged
     (one_state
     chain
@@ -102,13 +102,13 @@ shows-16-before-10
     (assigns 0 0 ∷ assigns 2 1 ∷ goes_to 1 ∷ sequences 2 3 ∷ sequences 1 4 ∷ [])
     (reads 1 ∷ constant 1 ∷ []))
     ≡ refused 16 2
-shows-16-before-10 = unfold checks in refl
+shows_16_before_10 = unfold checks in refl
 
 -- "Every call makes the image checks .. first", 16 with them: though the area is too short
-shows-16-in-calls
+shows_16_in_calls
     : map (λ call. told (perform port_assigned short_lent call)) (resets ∷ writes 0 7 ∷ runs 1 ∷ [])
     ≡ (refused 16 1, short_lent) ∷ (refused 16 1, short_lent) ∷ (refused 16 1, short_lent) ∷ []
-shows-16-in-calls = unfold everything in refl
+shows_16_in_calls = unfold everything in refl
 
 shows_16_in_lengths : numbers_of (registers_length port_assigned) ∷ numbers_of (targets_length port_assigned) ∷ [] ≡ refused 16 1 ∷ refused 16 1 ∷ []
 shows_16_in_lengths = unfold everything in refl

@@ -32,7 +32,7 @@ summed rows own p q =
 
 -- "inner register labels raised .. so that the whole is accepted"; "The result is the least": to the label of one, of the other, of both where they are one, and to
 -- the top only where both flow in
-shows-raised-to-least
+shows_raised_to_least
     : map (λ (pq : ℕ × ℕ). raised (summed diamond 0 pq.0 pq.1)) ((1, 0) ∷ (0, 2) ∷ (1, 1) ∷ (1, 2) ∷ (3, 0) ∷ [])
     ≡ (accepted 0, summed diamond 1 1 0)
     ∷ (accepted 0, summed diamond 2 0 2)
@@ -40,26 +40,26 @@ shows-raised-to-least
     ∷ (accepted 0, summed diamond 3 1 2)
     ∷ (accepted 0, summed diamond 3 3 0)
     ∷ []
-shows-raised-to-least = unfold raising in refl
+shows_raised_to_least = unfold raising in refl
 
 -- such an image is refused by 10 as it comes in; that is not asked
 shows_raised_from_ten : judged (summed diamond 0 1 2) ≡ refused 10 1
 shows_raised_from_ten = unfold checks in refl
 
 -- "never lowered": a register that is higher than it needs to be stays, and one that is beside what flows in goes above both
-shows-never-lowered
+shows_never_lowered
     : map (λ (own : ℕ). raised (summed diamond own 1 0)) (1 ∷ 2 ∷ 3 ∷ [])
     ≡ (accepted 0, summed diamond 1 1 0) ∷ (accepted 0, summed diamond 3 1 0) ∷ (accepted 0, summed diamond 3 1 0) ∷ []
-shows-never-lowered = unfold raising in refl
+shows_never_lowered = unfold raising in refl
 
 -- The least label above is not the one with the lowest number: here label 1 is the top, and 2 and 3 cannot be compared.
 abbrev turned : List ℕ
 turned = 15 ∷ 2 ∷ 6 ∷ 10 ∷ []
 
-shows-least-not-lowest
+shows_least_not_lowest
     : map (λ (pq : ℕ × ℕ). raised (summed turned 0 pq.0 pq.1)) ((2, 0) ∷ (0, 3) ∷ (3, 2) ∷ [])
     ≡ (accepted 0, summed turned 2 2 0) ∷ (accepted 0, summed turned 3 0 3) ∷ (accepted 0, summed turned 1 3 2) ∷ []
-shows-least-not-lowest = unfold raising in refl
+shows_least_not_lowest = unfold raising in refl
 
 -- Inner registers r0 to r2, and the ports r3 of label 1 and r4 of label 0, over two labels; state 1 has the body numbered over these commands.
 abbrev five : ℕ → ℕ → ℕ → List (List ℕ)
@@ -159,10 +159,10 @@ shows_not_helped : map raised (bad_goto ∷ bad_fall ∷ []) ≡ (refused 18 0, 
 shows_not_helped = unfold raising in refl
 
 -- "An output area not as long as the image is refusal 14": shorter and longer, before 18, and where there is a raising
-shows-area
+shows_area
     : map (λ (image : List ℕ). told (raise image (shorter image))) (bad_goto ∷ upstream 0 0 0 ∷ lease ∷ [])
     ≡ (refused 14 0, shorter bad_goto) ∷ (refused 14 0, shorter (upstream 0 0 0)) ∷ (refused 14 0, shorter lease) ∷ []
-shows-area = unfold raising in refl
+shows_area = unfold raising in refl
 
 shows_long_area : told (raise bad_goto (longer bad_goto)) ≡ (refused 14 0, longer bad_goto)
 shows_long_area = unfold raising in refl
@@ -195,22 +195,22 @@ parameterised two t =
     assemble chain (five 0 0 0) (state_record 0 0 0 ∷ state_record 0 0 3 ∷ two ∷ []) (falls ∷ assigns 0 0 ∷ goes_to t ∷ sequences 1 2 ∷ goes_to 1 ∷ []) (reads 3 ∷ [])
 
 -- one parameter or two, in the last state; without any it is raised
-shows-raising-parameters
+shows_raising_parameters
     : map (λ (count : ℕ). (raised (parameterised (state_with 0 0 4 count 0 0 0 0) 1)).0) (0 ∷ 1 ∷ 2 ∷ []) ≡ accepted 0 ∷ refused 20 0 ∷ refused 20 0 ∷ []
-shows-raising-parameters = unfold raising in refl
+shows_raising_parameters = unfold raising in refl
 
 -- the area is as it was, and an area of another length is not looked at
-shows-20-before-14
+shows_20_before_14
     : told (raise (parameterised (state_with 0 0 4 1 0 0 0 0) 1) (9 ∷ [])) ∷ told (raise (parameterised (state_record 0 0 4) 1) (9 ∷ [])) ∷ []
     ≡ (refused 20 0, 9 ∷ []) ∷ (refused 14 0, 9 ∷ []) ∷ []
-shows-20-before-14 = unfold raising in refl
+shows_20_before_14 = unfold raising in refl
 
 -- an accepted image that has parameters is refused too
 shows_20_of_accepted : told (raise one_group (9 ∷ [])) ≡ (refused 20 0, 9 ∷ [])
 shows_20_of_accepted = unfold raising in refl
 
 -- after the image checks: 8 of a goto to the root, 19 of a count, 19 of an argument outside its bounds, and 9
-shows-image-before-20
+shows_image_before_20
     : map
     (λ (image : List ℕ). (raised image).0)
     (parameterised (state_with 0 0 4 1 0 0 0 0) 0
@@ -219,4 +219,4 @@ shows-image-before-20
     ∷ assemble chain (five 0 0 0) (state_record 0 0 0 ∷ state_record 0 1 1 ∷ state_record 1 0 2 ∷ state_with 1 0 3 1 0 0 0 0 ∷ []) (falls ∷ falls ∷ goes_to 2 ∷ goes_to 2 ∷ []) []
     ∷ [])
     ≡ refused 8 2 ∷ refused 19 2 ∷ refused 19 2 ∷ refused 9 2 ∷ []
-shows-image-before-20 = unfold raising in refl
+shows_image_before_20 = unfold raising in refl

@@ -34,14 +34,14 @@ shows_rising_accepted : judged rising ≡ accepted 0
 shows_rising_accepted = unfold checks in refl
 
 -- "A state that ran is seen by the label its binding gave it then": in cycle 2 by r0, though the cycle binds r1, and in cycle 3 by r1
-shows-seen-by-label-then
+shows_seen_by_label_then
     : walks_seen rising 8 9 0 3 ≡ (ran 0 [] ∷ ran 1 [] ∷ []) ∷ (ran 0 [] ∷ ran 2 (0 ∷ []) ∷ []) ∷ (ran 0 [] ∷ []) ∷ []
-shows-seen-by-label-then = unfold sights in refl
+shows_seen_by_label_then = unfold sights in refl
 
 -- "the numbers (not the contents) of the registers that were bound to it as it ran": in cycle 2 r0, in cycle 3 r1
-shows-bound-as-it-ran
+shows_bound_as_it_ran
     : walks_seen rising 8 9 1 3 ≡ (ran 0 [] ∷ ran 1 [] ∷ []) ∷ (ran 0 [] ∷ ran 2 (0 ∷ []) ∷ []) ∷ (ran 0 [] ∷ ran 2 (1 ∷ []) ∷ []) ∷ []
-shows-bound-as-it-ran = unfold sights in refl
+shows_bound_as_it_ran = unfold sights in refl
 
 -- State 2 has this label byte and two parameters, from 0 to 3: r3 := 7; fall; the default child 3 has this label byte and goes to itself. State 1 goes to 2 with a and b.
 abbrev two_bound : ℕ → ℕ → ℕ → ℕ → List ℕ
@@ -59,7 +59,7 @@ second_seen image level =
     view (design_of image) level (events image (lent_bound (replicate 16 0) (2 ∷ 1 ∷ 3 ∷ 3 ∷ []) (0 ∷ 0 ∷ 0 ∷ 0 ∷ 1 ∷ 2 ∷ 0 ∷ 0 ∷ [])) (runs 1 ∷ []))
 
 -- the first one first, and own ones only: the child has both in scope and none of its own; the values are those of the registers alone
-shows-own-bound
+shows_own_bound
     : second_seen (two_bound 0 3 1 2) 3 ∷ second_seen (two_bound 0 3 1 2) 0 ∷ second_seen (two_bound 16 16 1 2) 1 ∷ second_seen (two_bound 16 16 1 2) 2 ∷ second_seen (two_bound 17 17 1 2) 2 ∷ second_seen (two_bound 16 3 1 2) 1 ∷ []
     ≡ (record { values = 0 ∷ 0 ∷ 0 ∷ 7 ∷ []; walk = ran 0 [] ∷ ran 2 (1 ∷ 2 ∷ []) ∷ ran 3 [] ∷ [] } ∷ [])
     ∷ (record { values = 0 ∷ []; walk = ran 0 [] ∷ ran 2 (1 ∷ 2 ∷ []) ∷ [] } ∷ [])
@@ -68,7 +68,7 @@ shows-own-bound
     ∷ (record { values = 0 ∷ 0 ∷ []; walk = ran 0 [] ∷ ran 2 (1 ∷ 2 ∷ []) ∷ ran 3 [] ∷ [] } ∷ [])
     ∷ (record { values = 0 ∷ 0 ∷ []; walk = ran 0 [] ∷ ran 2 (1 ∷ 2 ∷ []) ∷ [] } ∷ [])
     ∷ []
-shows-own-bound = unfold sights in refl
+shows_own_bound = unfold sights in refl
 
 shows_two_bound_accepted : map judged (two_bound 0 3 1 2 ∷ two_bound 16 16 1 2 ∷ two_bound 17 17 1 2 ∷ two_bound 16 3 1 2 ∷ []) ≡ replicate 4 (accepted 0)
 shows_two_bound_accepted = unfold checks in refl
@@ -89,33 +89,33 @@ shows_nested_accepted : judged nested ≡ accepted 0
 shows_nested_accepted = unfold checks in refl
 
 -- the registers bound to all parameters in scope, those around the state first: state 3 has none of its own, and state 4 has r1 around it and r2 of its own
-shows-bound-around
+shows_bound_around
     : wider_walks_seen nested 16 15 2 3
     ≡ (ran 0 [] ∷ ran 1 [] ∷ []) ∷ (ran 0 [] ∷ ran 2 (1 ∷ []) ∷ ran 3 (1 ∷ []) ∷ []) ∷ (ran 0 [] ∷ ran 2 (1 ∷ []) ∷ ran 4 (1 ∷ 2 ∷ []) ∷ []) ∷ []
-shows-bound-around = unfold sights in refl
+shows_bound_around = unfold sights in refl
 
 -- and in the view that 02 asks for its own ones only
-shows-own-bound-inside
+shows_own_bound_inside
     : walks_seen nested 16 15 2 3
     ≡ (ran 0 [] ∷ ran 1 [] ∷ []) ∷ (ran 0 [] ∷ ran 2 (1 ∷ []) ∷ ran 3 [] ∷ []) ∷ (ran 0 [] ∷ ran 2 (1 ∷ []) ∷ ran 4 (2 ∷ []) ∷ []) ∷ []
-shows-own-bound-inside = unfold sights in refl
+shows_own_bound_inside = unfold sights in refl
 
 -- the wider view has no more states: at label 1 state 4, which has the label of r2, is not seen; and what it shows of a cycle beside its walk is the same
-shows-wider-of-seen-only
+shows_wider_of_seen_only
     : wider_view (design_of nested) 1 (from_reset nested 16 15 3)
     ≡ record { values = 0 ∷ 0 ∷ []; walk = ran 0 [] ∷ ran 1 [] ∷ [] }
     ∷ record { values = 0 ∷ 0 ∷ []; walk = ran 0 [] ∷ ran 2 (1 ∷ []) ∷ ran 3 (1 ∷ []) ∷ [] }
     ∷ record { values = 0 ∷ 0 ∷ []; walk = ran 0 [] ∷ ran 2 (1 ∷ []) ∷ [] }
     ∷ []
-shows-wider-of-seen-only = unfold sights in refl
+shows_wider_of_seen_only = unfold sights in refl
 
 -- by the binding that it ran with: in cycle 2 r0, though the cycle binds r1, and in cycle 3 r1
-shows-wider-as-it-ran
+shows_wider_as_it_ran
     : wider_walks_seen rising 8 9 0 3 ∷ wider_walks_seen rising 8 9 1 3 ∷ []
     ≡ ((ran 0 [] ∷ ran 1 [] ∷ []) ∷ (ran 0 [] ∷ ran 2 (0 ∷ []) ∷ []) ∷ (ran 0 [] ∷ []) ∷ [])
     ∷ ((ran 0 [] ∷ ran 1 [] ∷ []) ∷ (ran 0 [] ∷ ran 2 (0 ∷ []) ∷ []) ∷ (ran 0 [] ∷ ran 2 (1 ∷ []) ∷ []) ∷ [])
     ∷ []
-shows-wider-as-it-ran = unfold sights in refl
+shows_wider_as_it_ran = unfold sights in refl
 
 -- Demand 3 of the wider view: of two lists of this design, with other values given and another refused call.
 nested_within : (given : ℕ) → given < 2 ^ 32 → (r : ℕ) → r < length (design_of nested).registers → given < 2 ^ (register_at (design_of nested) r).width
@@ -153,7 +153,7 @@ shows_wider_claim : IndependentWidely → wider_views nested 2 one_use ≡ wider
 shows_wider_claim claim = claim nested (unfold everything in refl) 2 (unfold everything in omega arith) one_use other_use (unfold whole in refl)
 
 -- which is, of the second list, the wider view of its three cycles
-shows-wider-views
+shows_wider_views
     : walks_of (wider_views nested 2 other_use)
     ≡ (ran 0 [] ∷ ran 1 [] ∷ []) ∷ (ran 0 [] ∷ ran 2 (1 ∷ []) ∷ ran 3 (1 ∷ []) ∷ []) ∷ (ran 0 [] ∷ ran 2 (1 ∷ []) ∷ ran 4 (1 ∷ 2 ∷ []) ∷ []) ∷ []
-shows-wider-views = unfold whole in refl
+shows_wider_views = unfold whole in refl

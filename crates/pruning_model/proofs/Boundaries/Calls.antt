@@ -43,7 +43,7 @@ abbrev answered : List ℕ → ℕ → List Answer
 answered image states =
     answers image (reset image (lent_bound (replicate 12 9) (replicate states 9) [])).lent (runs 2 ∷ writes 1 1 ∷ writes 0 1 ∷ writes 9 1 ∷ resets ∷ runs 1 ∷ [])
 
-shows-answers-alike
+shows_answers_alike
     : (map numbers_of (answered mixed 21) ≡ accepted 2 ∷ accepted 0 ∷ refused 13 0 ∷ refused 13 9 ∷ accepted 0 ∷ accepted 1 ∷ [])
     × (map numbers_of (answered mixed_pruned 15) ≡ accepted 2 ∷ accepted 0 ∷ refused 13 0 ∷ refused 13 9 ∷ accepted 0 ∷ accepted 1 ∷ [])
-shows-answers-alike = unfold pruning in (refl, refl)
+shows_answers_alike = unfold pruning in (refl, refl)

@@ -15,9 +15,9 @@ use Rattle.pruning_model.proofs.Opened.{pruning}
 
 -- ---- "numbers closed up"
 -- where one number goes, those behind it are one lower, up to the last of 2,048; where all go but the last, it is 0
-shows-closed-up-2047
+shows_closed_up_2047
     : closed_up (λ n. not (eqb n 1)) 2047 ∷ closed_up (λ n. not (eqb n 2046)) 2047 ∷ closed_up (λ n. eqb n 2047) 2047 ∷ closed_up (λ n. true) 300 ∷ [] ≡ 2046 ∷ 2046 ∷ 0 ∷ 300 ∷ []
-shows-closed-up-2047 = unfold pruning in refl
+shows_closed_up_2047 = unfold pruning in refl
 
 -- the last of 300 stays, and the one before it goes
 shows_last_stays : staying {A = ℕ} (λ n. eqb n 299) (replicate 299 1 ++ (7 ∷ [])) ∷ staying {A = ℕ} (λ n. not (eqb n 298)) (replicate 298 1 ++ (2 ∷ 3 ∷ [])) ∷ [] ≡ (7 ∷ []) ∷ (replicate 298 1 ++ (3 ∷ [])) ∷ []
@@ -56,7 +56,7 @@ shows_high_commands_stay = unfold pruning in refl
 abbrev shifted : ℕ → ℕ
 shifted n = 300 + n
 
-shows-high-renumbered
+shows_high_renumbered
     : renumbered_command suc shifted shifted goes (record { kind = 4; item = 62; a = 65; b = 64; c = 0 })
     ∷ renumbered_command suc shifted shifted assigns (record { kind = 1; item = 63; a = 1747; b = 0; c = 0 })
     ∷ renumbered_expression suc shifted shifted (operates add) (record { kind = 2; item = 0; a = 1746; b = 1747; c = 0 })
@@ -65,21 +65,21 @@ shows-high-renumbered
     ∷ record { kind = 1; item = 63; a = 2047; b = 0; c = 0 }
     ∷ record { kind = 2; item = 0; a = 2046; b = 2047; c = 0 }
     ∷ []
-shows-high-renumbered = unfold pruning in refl
+shows_high_renumbered = unfold pruning in refl
 
 -- ---- bytes of records, with the highest in them
 shows_high_words : word16_bytes 65535 ++ word16_bytes 32768 ++ word32_bytes 4294901244 ++ row_bytes 32768 ≡ 255 ∷ 255 ∷ 0 ∷ 128 ∷ 252 ∷ 253 ∷ 254 ∷ 255 ∷ 0 ∷ 128 ∷ []
 shows_high_words = unfold pruning in refl
 
-shows-high-records
+shows_high_records
     : register_bytes (record { label = 15; kind = 1; reset = 4294901244; width = 32 })
     ++ state_bytes (record { parent = 62; label = 17; command = 1023; parameters = 2; first_lower = 12; first_upper = 13; second_lower = 14; second_upper = 15 })
     ++ node_bytes (record { kind = 5; item = 63; a = 2047; b = 1022; c = 1021 })
     ≡ (15 ∷ 1 ∷ 252 ∷ 253 ∷ 254 ∷ 255 ∷ 32 ∷ []) ++ (62 ∷ 17 ∷ 255 ∷ 3 ∷ 2 ∷ 12 ∷ 13 ∷ 14 ∷ 15 ∷ []) ++ (5 ∷ 63 ∷ 255 ∷ 7 ∷ 254 ∷ 3 ∷ 253 ∷ 3 ∷ [])
-shows-high-records = unfold pruning in refl
+shows_high_records = unfold pruning in refl
 
 -- the directory of the largest image: "five pairs of offset and length, 16 bits each"
-shows-high-directory
+shows_high_directory
     : directory_bytes
     (record {
       rows = replicate 16 1;
@@ -89,4 +89,4 @@ shows-high-directory
       expressions = replicate 2048 no_node;
     })
     ≡ 20 ∷ 0 ∷ 32 ∷ 0 ∷ 52 ∷ 0 ∷ 192 ∷ 1 ∷ 244 ∷ 1 ∷ 64 ∷ 2 ∷ 52 ∷ 4 ∷ 0 ∷ 32 ∷ 52 ∷ 36 ∷ 0 ∷ 64 ∷ []
-shows-high-directory = unfold pruning in refl
+shows_high_directory = unfold pruning in refl

@@ -103,7 +103,7 @@ calls = runs 2 ∷ writes 1 1 ∷ runs 3 ∷ writes 0 1 ∷ []
 abbrev ran_in : List ℕ → ℕ → (ℕ → ℕ) → List Ran
 ran_in image states number = map (ran_under number) (cycles_of (events image (reset image (lent_bound (replicate 12 9) (replicate states 9) [])).lent calls))
 
-shows-same-runs
+shows_same_runs
     : ran_in mixed_pruned 15 (λ s. s)
     ≡ record { registers = 2 ∷ 0 ∷ 9 ∷ []; walk = 0 ∷ 1 ∷ [] }
     ∷ record { registers = 2 ∷ 0 ∷ 9 ∷ []; walk = 0 ∷ 2 ∷ [] }
@@ -111,16 +111,16 @@ shows-same-runs
     ∷ record { registers = 1 ∷ 1 ∷ 9 ∷ []; walk = 0 ∷ 2 ∷ 3 ∷ [] }
     ∷ record { registers = 1 ∷ 1 ∷ 9 ∷ []; walk = 0 ∷ 2 ∷ 4 ∷ [] }
     ∷ []
-shows-same-runs = unfold pruning in refl
+shows_same_runs = unfold pruning in refl
 
 shows_new_numbers : map (new_state (design_of mixed)) (0 ∷ 1 ∷ 3 ∷ 4 ∷ 6 ∷ []) ≡ 0 ∷ 1 ∷ 2 ∷ 3 ∷ 4 ∷ []
 shows_new_numbers = unfold pruning in refl
 
 -- The new numbers alone do not tell a dropped state from one that stays: 2 and 5 are not reached, and have the numbers of 3 and 6, which are,
-shows-one-number
+shows_one_number
     : (map (reached (design_of mixed)) (2 ∷ 5 ∷ 3 ∷ 6 ∷ []) ≡ false ∷ false ∷ true ∷ true ∷ [])
     × (map (new_state (design_of mixed)) (2 ∷ 5 ∷ []) ≡ map (new_state (design_of mixed)) (3 ∷ 6 ∷ []))
-shows-one-number = unfold pruning in (refl, refl)
+shows_one_number = unfold pruning in (refl, refl)
 
 abbrev pub walked : List ℕ → Cycle
 walked walk = record { after = reset_areas (design_of mixed); walk = walk; ran_with = [] }

@@ -49,31 +49,31 @@ shows_both_is_13 : map (λ (r : ℕ). answered 1 (reading 0 r 256 ∷ [])) (0 �
 shows_both_is_13 = unfold replaying in refl
 
 -- the number is the one that a port write gives
-shows-as-port-writes
+shows_as_port_writes
     : map (λ (rv : ℕ × ℕ). (answered 1 (reading 0 rv.0 rv.1 ∷ [])).number) ((0, 256) ∷ (2, 255) ∷ (2, 256) ∷ (3, 256) ∷ (4, 0) ∷ (5, 0) ∷ [])
     ≡ map (λ (rv : ℕ × ℕ). (numbers_of (perform meters meter_start (writes rv.0 rv.1)).answer).number) ((0, 256) ∷ (2, 255) ∷ (2, 256) ∷ (3, 256) ∷ (4, 0) ∷ (5, 0) ∷ [])
-shows-as-port-writes = unfold replaying in refl
+shows_as_port_writes = unfold replaying in refl
 
 -- ---- "in one pass where the lowest bad record counts"
-shows-one-pass
+shows_one_pass
     : map
     (answered 1)
     ((bad_value ∷ bad_register ∷ []) ∷ (bad_register ∷ bad_value ∷ []) ∷ (good ∷ bad_value ∷ bad_register ∷ []) ∷ (good ∷ bad_register ∷ bad_value ∷ []) ∷ [])
     ≡ refused 17 0 ∷ refused 13 0 ∷ refused 17 1 ∷ refused 13 1 ∷ []
-shows-one-pass = unfold replaying in refl
+shows_one_pass = unfold replaying in refl
 
 -- of two of one kind too
 shows_lowest_bad : map (answered 1) ((good ∷ bad_value ∷ bad_value ∷ []) ∷ (good ∷ bad_register ∷ bad_register ∷ []) ∷ []) ≡ refused 17 1 ∷ refused 13 1 ∷ []
 shows_lowest_bad = unfold replaying in refl
 
 -- "the place in all three is the record's number from 0": not the register, the cycle or the value
-shows-place-of-13
+shows_place_of_13
     : map (λ (r : ℕ). answered 2 (good ∷ good ∷ reading 1 r 0 ∷ [])) (0 ∷ 4 ∷ 5 ∷ 4294967295 ∷ []) ≡ replicate 4 (refused 13 2)
-shows-place-of-13 = unfold replaying in refl
+shows_place_of_13 = unfold replaying in refl
 
-shows-place-of-17
+shows_place_of_17
     : map (answered 2) ((good ∷ good ∷ good ∷ reading 1 2 256 ∷ []) ∷ (reading 1 2 256 ∷ []) ∷ (reading 1 3 4294967296 ∷ []) ∷ []) ≡ refused 17 3 ∷ refused 17 0 ∷ refused 17 0 ∷ []
-shows-place-of-17 = unfold replaying in refl
+shows_place_of_17 = unfold replaying in refl
 
 -- a bad record is not saved by one that supersedes it
 shows_superseded_judged : map (answered 1) ((bad_value ∷ good ∷ []) ∷ (bad_register ∷ reading 0 5 0 ∷ []) ∷ []) ≡ refused 17 0 ∷ refused 13 0 ∷ []
@@ -85,13 +85,13 @@ shows_bad_in_last_cycle = unfold replaying in refl
 
 -- ---- what comes before
 -- "It refuses with 23 ..; a bad register or value is then 13 or 17": the bad register stands in an earlier record, in the same one, and alone
-shows-23-before-13
+shows_23_before_13
     : map (answered 1) ((bad_register ∷ reading 1 2 1 ∷ []) ∷ (reading 1 5 1 ∷ []) ∷ (bad_register ∷ good ∷ []) ∷ []) ≡ refused 23 1 ∷ refused 23 0 ∷ refused 13 0 ∷ []
-shows-23-before-13 = unfold replaying in refl
+shows_23_before_13 = unfold replaying in refl
 
-shows-23-before-17
+shows_23_before_17
     : map (answered 1) ((bad_value ∷ reading 1 2 1 ∷ []) ∷ (reading 1 2 256 ∷ []) ∷ (bad_value ∷ good ∷ []) ∷ []) ≡ refused 23 1 ∷ refused 23 0 ∷ refused 17 0 ∷ []
-shows-23-before-17 = unfold replaying in refl
+shows_23_before_17 = unfold replaying in refl
 
 -- and a fall, which a bad register stands before
 shows_fall_before_13 : answered 2 (reading 1 5 1 ∷ reading 0 2 1 ∷ []) ≡ refused 23 1
@@ -111,7 +111,7 @@ shows_14_before_13 = unfold replaying in refl
 abbrev three_of_one : TraceRecord → List TraceRecord
 three_of_one last = reading 0 2 7 ∷ reading 0 2 8 ∷ reading 0 2 9 ∷ last ∷ []
 
-shows-bad-leaves
+shows_bad_leaves
     : map (λ (last : TraceRecord). told (replay meters (meter_areas 1 2 3 4 5) (three_of_one last) 2)) (reading 1 0 1 ∷ reading 1 2 256 ∷ [])
     ≡ refused_with 13 3 (meter_areas 1 2 3 4 5) ∷ refused_with 17 3 (meter_areas 1 2 3 4 5) ∷ []
-shows-bad-leaves = unfold replaying in refl
+shows_bad_leaves = unfold replaying in refl

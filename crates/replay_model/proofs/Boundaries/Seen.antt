@@ -15,11 +15,11 @@ four_ports = one_state diamond (register_record 0 1 0 ∷ register_record 1 1 0 
 abbrev of_each : List TraceRecord
 of_each = reading 0 3 13 ∷ reading 0 2 12 ∷ reading 1 1 11 ∷ reading 1 0 10 ∷ reading 2 1 21 ∷ []
 
-shows-trace-seen
+shows_trace_seen
     : map (λ (level : ℕ). trace_seen (design_of four_ports) level of_each) (0 ∷ 1 ∷ 2 ∷ 3 ∷ [])
     ≡ (reading 1 0 10 ∷ [])
     ∷ (reading 1 1 11 ∷ reading 1 0 10 ∷ reading 2 1 21 ∷ [])
     ∷ (reading 0 2 12 ∷ reading 1 0 10 ∷ [])
     ∷ of_each
     ∷ []
-shows-trace-seen = unfold replaying in refl
+shows_trace_seen = unfold replaying in refl
