@@ -96,8 +96,8 @@ pub step_back_tie : (κs : Lfts 4) (a : Dens κs step-back-kinds.ps) (h : HostAn
     ≡ in_numbers (step_back a.0.now (lends_journal a.1.0.now a.1.1.0.now a.1.1.1.0.now) a.1.1.1.1.0)
 step_back_tie κs a h e post = post
 
--- The exported replay is lent a slice of structs, so the borrow checker makes no reading of its contract, and the tie is with the clause itself: in every model of the logic it is the fact
--- that the equation with the definition holds. A clause that says less is refused here.
+-- The exported replay is lent a slice of structs. Its tie is with the clause itself: in every model of the logic it is the fact that the equation with the definition holds. A clause that
+-- says less is refused here.
 abbrev pub Replayed : List ℕ → Lent → List TraceRecord → ℕ → HostAnswer → Lent → Type 0
 Replayed image before trace n h after = told_left h after ≡ in_numbers (replay image before trace n)
 
