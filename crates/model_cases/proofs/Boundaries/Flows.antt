@@ -55,9 +55,9 @@ under_else c r =
     one_state diamond one_of_each 5 (assigns r 1 ∷ skips ∷ branches 0 2 1 ∷ goes_to 1 ∷ sequences 3 4 ∷ []) (reads c ∷ constant 1 ∷ [])
 
 -- "the labels of all registers read in the conditions of the ifs around it", in the then and in the else. The goto behind the if is not inside it.
-Shows_then
+shows_then
     : map (λ (c : ℕ). judged (under_if c 1)) (0 ∷ 1 ∷ 2 ∷ 3 ∷ []) ≡ accepted 0 ∷ accepted 0 ∷ refused 10 1 ∷ refused 10 1 ∷ []
-Shows_then = unfold checks in refl
+shows_then = unfold checks in refl
 
 -- the same in the else
 shows_else
