@@ -649,7 +649,8 @@ caisson_answer caisson_file(const uint8_t *image, size_t image_len, /* the image
 
 /*
  * The proved call behind caisson_earlier, for hosts that have no use of the function below: it puts the part into
- * *part. What *part holds before must be a slice as said above, as {first, 0} is; it is not read.
+ * *part. What *part holds before must be a slice as said above, as {first, 0} is; it is not read. The empty part of
+ * a `first` that is NULL has another pointer than NULL, to no byte at all.
  */
 void caisson_earlier_part(const uint8_t *first, size_t first_len,   /* one image */
                           const uint8_t *second, size_t second_len, /* and another */
@@ -685,6 +686,8 @@ static inline caisson_part caisson_earlier(const uint8_t *first, size_t first_le
     caisson_part part = {first, 0};
 
     caisson_earlier_part(first, first_len, second, second_len, &part);
+    if (part.len == 0)
+        part.bytes = first; /* NULL too, for which the library has a pointer of its own */
     return part;
 }
 
