@@ -11,7 +11,7 @@ soak_build = gcc -std=c11 -O2 -Wall -Wextra -Werror -Iinclude -Ihost -Itests/soa
 
 .PHONY: test quick definitions bench stack run host tool soak library lister clean
 
-# The gate, as CI runs it: proofs from nothing, must-fail edits, tests outside Rattle.
+# The gate, as CI runs it: `rt ci` with all proofs and must-fail edits, then the tests outside Rattle.
 test:
 	.ci/run
 
@@ -82,6 +82,6 @@ lister:
 include install.mk
 include deb.mk
 
-# Removes everything built.
+# Removes everything built, and what `rt` kept of its proofs in this checkout.
 clean:
-	rm -rf target
+	rm -rf target crates/*/out
