@@ -5,9 +5,9 @@
  * A design is a binary image of at most CAISSON_LARGEST_IMAGE bytes. The library keeps no state and
  * allocates nothing: a call works on the slices that it is lent and on its own stack, ends, and
  * relies on no earlier call. Each call makes its image checks again. The stack that a call takes is
- * measured, not proved: `make stack` shows less than 36 KB on the deepest design, and where a call has tables
- * of its own beside those of the image checks more: less than 41 KB for caisson_prune, 44 KB for caisson_file
- * and, which has those of two images, 57 KB for caisson_earlier.
+ * measured, not proved: `make stack` shows less than 22 KB on the deepest design, and where a call has tables
+ * of its own beside those of the image checks more: less than 23 KB for caisson_prune, 26 KB for caisson_file
+ * and, which has those of two images, 38 KB for caisson_earlier.
  *
  * A slice is a pointer and a length in bytes, that of a port trace in records. The pointer may be NULL where
  * the length is 0. The slices of one call must not overlap. Nothing is read or written outside them.
@@ -495,7 +495,7 @@ caisson_answer caisson_run(const uint8_t *image, size_t image_len,
  *
  * Whether it is refused is known before the first cycle, so that a refusal changes nothing, whichever record
  * it is of. Time is linear in the cycles and the records together, however many of these one cycle has. The
- * call takes some 1,800 bytes of stack more than caisson_run, measured as above. No journal is kept. Refusals:
+ * call takes some 2,100 bytes of stack more than caisson_run, measured as above. No journal is kept. Refusals:
  * those of caisson_run in their order, 15 last; then 23 at the lowest record whose cycle is below that of the
  * record before it, or not below `cycles`; then 13 and 17 in one pass, at the lowest record that names no port
  * (13), or whose value is too large for its port (17). The place of all three is the number of the record,
@@ -582,7 +582,7 @@ caisson_answer caisson_step_back(const uint8_t *image, size_t image_len,
  * image and does not overlap it. What it held before does not matter: on acceptance every byte of it is
  * written, on a refusal none. The call goes over the bodies at most CAISSON_REGISTERS * CAISSON_LABELS =
  * 1,024 times, again only where some label has risen, which on most designs is a few times. It takes
- * about as much stack as caisson_check, measured: 8,088 bytes on the lease design and 31,784 on the
+ * about as much stack as caisson_check, measured: 7,880 bytes on the lease design and 14,080 on the
  * deepest one. Refusals: the image checks 1 to 8, 16, 19 and 9, then 20, then 14 for the length of `out`,
  * then 18, all three with place 0.
  */
@@ -745,7 +745,7 @@ caisson_answer caisson_gates_reset(const uint8_t *table, size_t table_len,
  * `inputs` has one value byte for each input of the table, and the marks of the inputs are never lent.
  * A value is 0 or 1, a mark CAISSON_TRUSTED or CAISSON_UNTRUSTED, else the wire is refused by 26, inputs
  * before flip-flops. Time is linear in the table. The values and marks of all wires lie on the call's own
- * stack: it takes 4,776 bytes of it, measured as above. Refusals: 25, then 26 for the table,
+ * stack: it takes 4,768 bytes of it, measured as above. Refusals: 25, then 26 for the table,
  * then 14 for the length of `inputs` or of the area, then 26 for the lent bytes.
  */
 CAISSON_LOOK_AT_ANSWER
