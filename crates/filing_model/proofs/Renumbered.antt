@@ -7,7 +7,7 @@ use mathlib.Core.List.Memᴰ
 use mathlib.Core.List.{List, [], ◌∷◌, Memᴰ}
 use native.Mathlib.Omega.{arith}
 use lib.ListN.{length}
-use Rattle.model.specs.declared.Answer.TheVariants.{Accepted}
+use Rattle.model.specs.Answers.{Accepted}
 use Rattle.model.specs.Image.{AreBytes, Design, Node, state_at, command_at, expression_at, design_of}
 use Rattle.model.specs.Kinds.{CommandKind, skips, assigns, sequences, falls, goes, branches, unknown_command, ExpressionKind, constants, reads, unknown_expression, operates, command_kind, expression_kind}
 use Rattle.model.specs.Nodes.{command_parts, expression_parts, parts_of, operands_of}

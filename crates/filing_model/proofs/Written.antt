@@ -1,13 +1,12 @@
 -- What the call leaves in the output area: where it is accepted the form over its beginning, and in any case behind it what was there.
+use Rattle.std.specs.Prelude.{Err}
 use Prim.Native.Nat.{ℕ, ◌≤◌}
 use mathlib.Core.Path.{◌≡◌, refl, ◌∙◌, ap}
 use mathlib.Core.List.{List}
 use lib.ListN.{length, take, drop}
 use lib.Seq.{take-append_seam}
-use Rattle.model.specs.declared.Answer.{Answer}
-use Rattle.model.specs.declared.Answer.TheVariants.{Accepted, Refused}
 use Rattle.model.specs.Image.{byte_at}
-use Rattle.model.specs.Answers.{numbers_of}
+use Rattle.model.specs.Answers.{Answer, Accepted, numbers_of}
 use Rattle.model.specs.Calls.{leaves}
 use Rattle.model.proofs.Laws.Left.{left_made}
 use Rattle.encoding.specs.Parts.{over}
@@ -30,4 +29,4 @@ module _ (image out : List ℕ) where
     where
       go : (a : Answer) → byte_at (leaves a out (over (filed_image image) out)).lent i ≡ byte_at out i
       go (Accepted n) = beyond_over (filed_image image) out i behind
-      go (Refused r p) = refl
+      go (Err why) = refl

@@ -2,8 +2,7 @@
 -- the comparison, which changes no byte, to what is handed back.
 use Rattle.std.specs.Prelude.{ℕ, ◌&&◌, cond, List, leb, length, take}
 use Rattle.model.specs.declared.Refusal.TheVariants.{OutputArea}
-use Rattle.model.specs.declared.Answer.{Answer}
-use Rattle.model.specs.declared.Answer.TheVariants.{Accepted}
+use Rattle.model.specs.Answers.{Answer, Accepted}
 use Rattle.model.specs.Verdict.{◌before◌, refused_at, at_zero_unless, verdict}
 use Rattle.model.specs.Raising.{accepts}
 use Rattle.encoding.specs.Parts.{over}

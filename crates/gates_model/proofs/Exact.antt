@@ -6,9 +6,8 @@ use mathlib.Core.Logic.{◌↔◌, ◌⊎◌, inl, inr}
 use mathlib.Core.Bool.{true, ◌&&◌}
 use mathlib.Core.List.{List}
 use Rattle.model.specs.declared.Refusal.{Refusal}
-use Rattle.model.specs.declared.Answer.TheVariants.{Accepted, Refused}
 use Rattle.model.specs.Image.{byte_at}
-use Rattle.model.specs.Answers.{numbers_of}
+use Rattle.model.specs.Answers.{Accepted, Refused, numbers_of}
 use Rattle.model.specs.Refusals.{AllKept, AnswersBy, in_numbers, Exactly}
 use Rattle.model.proofs.Laws.Equivalences.{less_iff, at_most_iff, equal_iff, and_iff, and_three_iff}
 use Rattle.model.proofs.Laws.Verdict.{refused_is_not_accepted}

@@ -2,7 +2,7 @@
 -- calls are equations with these.
 use Rattle.std.specs.Prelude.{ℕ, ◌*◌, Bool, ◌&&◌, true, List, eqb, length}
 use Rattle.model.specs.declared.Refusal.TheVariants.{Area, GateWire}
-use Rattle.model.specs.declared.Answer.{Answer}
+use Rattle.model.specs.Answers.{Answer}
 use Rattle.model.specs.Indices.{lowest_failing}
 use Rattle.model.specs.Image.{byte_at}
 use Rattle.model.specs.Verdict.{◌before◌, refused_at, at_zero_unless}

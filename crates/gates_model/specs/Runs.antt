@@ -1,11 +1,9 @@
 -- What is promised of two runs: "Two runs of one accepted table, equal in marks and trusted values, and fed inputs equal where marked trusted, stay so
 -- after any number of cycles."
-use Rattle.std.specs.Prelude.{ℕ, zero, suc, ◌≤◌, ◌<◌, ◌≡◌, cond, List, [], ◌∷◌, map, eqb, length}
-use Rattle.model.specs.declared.Answer.{Answer}
-use Rattle.model.specs.declared.Answer.TheVariants.{Accepted, Refused}
+use Rattle.std.specs.Prelude.{ℕ, zero, suc, ◌≤◌, ◌<◌, ◌≡◌, cond, List, [], ◌∷◌, map, eqb, length, Err}
 use Rattle.model.specs.Indices.{tabulate}
 use Rattle.model.specs.Image.{byte_at}
-use Rattle.model.specs.Answers.{numbers_of}
+use Rattle.model.specs.Answers.{Answer, Accepted, numbers_of}
 use Rattle.model.specs.Refusals.{Pass}
 use Rattle.gates_model.specs.Tables.{Table, table_of, mark_at}
 use Rattle.gates_model.specs.Signals.{Signal, IsSound}
@@ -67,7 +65,7 @@ trace_of t (cycles inputs) = was_cycle (trusted_inputs t inputs)
 -- a refused call is struck out: it changes nothing
 abbrev pub kept : {A : Type 0} → Answer → A → List A → List A
 kept (Accepted count) x xs = x ∷ xs
-kept (Refused refusal place) x xs = xs
+kept (Err why) x xs = xs
 
 unfoldable pub remains : List ℕ → List ℕ → List Call → List Trace
 remains table area [] = []

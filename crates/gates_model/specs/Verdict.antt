@@ -1,7 +1,7 @@
 -- When a table is accepted: 25 for the directory, then 26 "at the lowest wire whose record .. holds .. a wire, value or mark out of range".
 use Rattle.std.specs.Prelude.{ℕ, ◌+◌, ◌-◌, Bool, ◌&&◌, cond, List, leb, ltb}
 use Rattle.model.specs.declared.Refusal.TheVariants.{GateDirectory, GateWire}
-use Rattle.model.specs.declared.Answer.{Answer}
+use Rattle.model.specs.Answers.{Answer}
 use Rattle.model.specs.Indices.{lowest_failing}
 use Rattle.model.specs.Verdict.{◌before◌, refused_at, at_zero_unless}
 use Rattle.gates_model.specs.Tables.{Table, table_of, directory_kept, mark_at, flip_flop_at, gate_at, first_flip_flop, first_gate, wires}

@@ -8,12 +8,10 @@ use native.Mathlib.Nat.{mul-le-mul_left}
 use lib.ListN.{length, length-append}
 use Rattle.model.specs.declared.Refusal.{Refusal}
 use Rattle.model.specs.declared.Refusal.TheVariants.{Area, CycleCount, JournalArea, StepsBack}
-use Rattle.model.specs.declared.Answer.{Answer}
-use Rattle.model.specs.declared.Answer.TheVariants.{Accepted, Refused}
 use Rattle.model.specs.Limits.{value_count, cycles_max}
 use Rattle.model.specs.Image.{Design, design_of}
 use Rattle.model.specs.Verdict.{verdict, ◌before◌, refused_at}
-use Rattle.model.specs.Answers.{numbers_of}
+use Rattle.model.specs.Answers.{Answer, Accepted, Refused, numbers_of}
 use Rattle.model.specs.Machine.{cycles, after_cycles}
 use Rattle.model.specs.Calls.{Lent, Left, areas_of, lent_of, cycles_answer, reset_answer, run_answer, run}
 use Rattle.model.specs.Parties.{resets, runs, perform, RightLengths}

@@ -1,12 +1,11 @@
 -- The areas that the two calls leave: an accepted journalled run leaves those of a run, and a step back restores a state that was judged as a run judges it. So the
 -- registers are within their widths, and a journalled run leaves every port.
+use Rattle.std.specs.Prelude.{Err}
 use Prim.Native.Nat.{ℕ, ◌<◌}
 use mathlib.Core.Path.{◌≡◌, refl}
 use mathlib.Core.List.{List}
-use Rattle.model.specs.declared.Answer.{Answer}
-use Rattle.model.specs.declared.Answer.TheVariants.{Accepted, Refused}
 use Rattle.model.specs.Image.{AreBytes, design_of}
-use Rattle.model.specs.Answers.{numbers_of}
+use Rattle.model.specs.Answers.{Answer, Accepted, numbers_of}
 use Rattle.model.specs.Ports.{PortsKept}
 use Rattle.model.specs.Calls.{content_kept, run}
 use Rattle.model.specs.Parties.{runs, perform}
@@ -44,4 +43,4 @@ module _ (image : List ℕ) (lent : LentJournal) where
     where
       go : (a : Answer) → run_journalled_answer image lent n ≡ a → PortsKept (design_of image) lent.areas.registers (run_journalled image lent n).lent.areas.registers
       go (Accepted count) e = rw e (run_keeps_ports image lent.areas bytes n)
-      go (Refused refusal place) e = rw e (λ r port k l. refl)
+      go (Err why) e = rw e (λ r port k l. refl)

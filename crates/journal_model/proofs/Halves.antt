@@ -3,9 +3,8 @@ use Prim.Native.Nat.{ℕ, ◌+◌}
 use mathlib.Core.Path.{◌≡◌, refl, sym, ◌∙◌, ap}
 use mathlib.Core.List.{List, ◌++◌, append_assoc}
 use native.Mathlib.Omega.{arith}
-use Rattle.model.specs.declared.Answer.TheVariants.{Accepted}
 use Rattle.model.specs.Image.{Design, AreBytes, design_of}
-use Rattle.model.specs.Answers.{numbers_of}
+use Rattle.model.specs.Answers.{Accepted, numbers_of}
 use Rattle.model.specs.Machine.{Areas, cycles, after_cycles}
 use Rattle.model.specs.Calls.{Lent, areas_of, lent_of, Left}
 use Rattle.model.proofs.Laws.Cycles.{after_sum}

@@ -10,7 +10,7 @@ use native.Mathlib.Omega.{arith}
 use native.Mathlib.Nat.{mul-suc, mul-add}
 use lib.ListN.{length, get_or, take, drop, length-append, length-drop, take-append-drop}
 use lib.Seq.{length-take-le, take_at, drop_at, drop-append-add, drop-drop, take-add}
-use Rattle.model.specs.declared.Answer.TheVariants.{Accepted}
+use Rattle.model.specs.Answers.{Accepted}
 use Rattle.model.specs.Limits.{value_count, word_length, target_length}
 use Rattle.model.specs.Image.{word32_at, AreBytes, records_of, Design, design_of}
 use Rattle.model.specs.Verdict.{verdict}

@@ -1,4 +1,5 @@
 -- A journalled run writes the count and the states that it saves: those that the journal had, and what stands behind the new ones, keep their bytes.
+use Rattle.std.specs.Prelude.{Err}
 use Prim.Native.Nat.{ℕ, ◌+◌, ◌*◌, ◌-◌, ◌≤◌, ◌<◌}
 use mathlib.Core.Path.{◌≡◌, refl, sym, ◌∙◌, ap}
 use mathlib.Core.Logic.{◌⊎◌, inl, inr}
@@ -6,8 +7,7 @@ use mathlib.Core.List.{List, [], ◌∷◌, ◌++◌}
 use native.Mathlib.Omega.{arith}
 use lib.ListN.{length, drop, length-append, get_or-append}
 use lib.Seq.{get_or-append-add, get_or-take, get_or-drop}
-use Rattle.model.specs.declared.Answer.{Answer}
-use Rattle.model.specs.declared.Answer.TheVariants.{Accepted, Refused}
+use Rattle.model.specs.Answers.{Answer, Accepted}
 use Rattle.model.specs.Image.{Design, byte_at, design_of}
 use Rattle.model.specs.Values.{bytes_of}
 use Rattle.model.specs.Calls.{Lent}
@@ -74,4 +74,4 @@ module _ (image : List ℕ) (lent : LentJournal) (n : ℕ) where
     where
       go : (a : Answer) → run_journalled_answer image lent n ≡ a → byte_at (run_journalled image lent n).lent.journal i ≡ byte_at lent.journal i
       go (Accepted count) e = let r = accepted_runs image lent n (rw e) in rw (runs_leaves image lent n r) (others_after r i h)
-      go (Refused refusal place) e = rw e
+      go (Err why) e = rw e

@@ -3,9 +3,8 @@
 use Prim.Native.Nat.{ℕ, ◌+◌, ◌-◌, ◌≤◌, ◌<◌}
 use mathlib.Core.Path.{◌≡◌}
 use mathlib.Core.List.{List}
-use Rattle.model.specs.declared.Answer.TheVariants.{Accepted}
 use Rattle.model.specs.Image.{byte_at, AreBytes, design_of}
-use Rattle.model.specs.Answers.{numbers_of}
+use Rattle.model.specs.Answers.{Accepted, numbers_of}
 use Rattle.model.specs.Ports.{PortsKept}
 use Rattle.model.specs.Calls.{run}
 use Rattle.model.specs.Refusals.{in_numbers, Exactly, WithinWidths}

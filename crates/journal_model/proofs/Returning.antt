@@ -6,10 +6,9 @@ use native.Mathlib.Omega.{arith}
 use native.Mathlib.Nat.{mul-le-mul_left}
 use lib.ListN.{length, get_or, take, drop}
 use lib.Seq.{get_or-append-add, take-append-add, get_or-take}
-use Rattle.model.specs.declared.Answer.TheVariants.{Accepted}
 use Rattle.model.specs.Limits.{value_count}
 use Rattle.model.specs.Image.{Design, AreBytes, design_of}
-use Rattle.model.specs.Answers.{numbers_of}
+use Rattle.model.specs.Answers.{Accepted, numbers_of}
 use Rattle.model.specs.Machine.{Areas, cycles, after_cycles}
 use Rattle.model.specs.Calls.{Lent, areas_of, lent_of, run, Left}
 use Rattle.model.proofs.Grouping.{ready_run, ready_back, none_left}

@@ -1,8 +1,7 @@
 -- 02, E9: the two calls. For each, one function from everything lent and given to the answer and every byte of the three areas afterwards, refusals included.
 use Rattle.std.specs.Prelude.{ℕ, zero, suc, ◌+◌, ◌-◌, List, ◌++◌, leb, length, get_or}
 use Rattle.model.specs.declared.Refusal.TheVariants.{JournalArea, StepsBack}
-use Rattle.model.specs.declared.Answer.{Answer}
-use Rattle.model.specs.declared.Answer.TheVariants.{Accepted}
+use Rattle.model.specs.Answers.{Answer, Accepted}
 use Rattle.model.specs.Image.{Design, design_of}
 use Rattle.model.specs.Verdict.{◌before◌, refused_at, at_zero_unless}
 use Rattle.model.specs.Machine.{cycles}

@@ -1,15 +1,14 @@
 -- What 02's E9 and E10 say of lists in their own words, from demand 3 for lists of all calls. Of a replay there remain the records at or below the level and the cycles: it counts as its
 -- port writes and single cycles made by hand.
+use Rattle.std.specs.Prelude.{Err}
 use Prim.Native.Nat.{ℕ, zero, suc}
 use mathlib.Core.Path.{◌≡◌, refl, sym, ◌∙◌, ap}
 use mathlib.Core.Bool.{Bool, true, false, cond}
 use mathlib.Core.List.{List, [], ◌∷◌, ◌++◌, map, append-nil}
 use native.Mathlib.Omega.{arith}
 use lib.Dec.{eqb}
-use Rattle.model.specs.declared.Answer.{Answer}
-use Rattle.model.specs.declared.Answer.TheVariants.{Accepted, Refused}
 use Rattle.model.specs.Image.{Design, design_of}
-use Rattle.model.specs.Answers.{numbers_of}
+use Rattle.model.specs.Answers.{Answer, Accepted, numbers_of}
 use Rattle.model.specs.Machine.{Areas, cycle}
 use Rattle.model.specs.Calls.{areas_of}
 use Rattle.model.specs.Parties.{Event, cycled, Remaining, a_write, a_cycle, register_seen, remaining}
@@ -82,7 +81,7 @@ module _ (image : List ℕ) (level : ℕ) where
       → events_of a image (begun image level u) (replays trace n) ≡ parties.events image (begun image level u).areas (by_hand trace 0 n)
   unfolding events_of
   replay_does u trace n (Accepted count) e = refl
-  replay_does u trace n (Refused refusal place) e = absurd (no_number_zero refusal e)
+  replay_does u trace n (Err why) e = absurd (no_number_zero why.refusal e)
 
   replayed_remains : (u : Use (design_of image)) (trace : List TraceRecord) (n : ℕ) → Replayed image level u trace n
       → remains image level u ≡ remains_by_hand (trace_seen (design_of image) level trace) 0 n

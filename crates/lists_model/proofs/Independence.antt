@@ -1,6 +1,7 @@
 -- Demand 3 for lists of all calls: a list shows what the canonical run of what remains of it shows (`Rattle.model.proofs.Independence.Lists`). 01's calls lead it as there. A journal
 -- that was empty has only what journalled runs saved, and each saved state follows the areas that the canonical run saved at its place; so what a step back restores follows what
 -- the canonical run returns to. A replay is its port writes and single cycles made by hand. What is refused leaves all as it is.
+use Rattle.std.specs.Prelude.{Err}
 use Prim.Native.Nat.{ℕ, zero, suc, ◌-◌, ◌≤◌, ◌<◌}
 use mathlib.Core.Path.{◌≡◌, refl, sym, ◌∙◌, ap}
 use mathlib.Core.List.{List, [], ◌∷◌, ◌++◌}
@@ -8,8 +9,7 @@ use native.Mathlib.Omega.{arith}
 use lib.ListN.{length, drop, get_or, take, replicate}
 use lib.Seq.{take-take, get_or-take, length-take-le}
 use Rattle.model.specs.declared.Refusal.{Refusal}
-use Rattle.model.specs.declared.Answer.{Answer}
-use Rattle.model.specs.declared.Answer.TheVariants.{Accepted, Refused}
+use Rattle.model.specs.Answers.{Answer, Accepted, Refused}
 use Rattle.model.specs.Limits.{value_count}
 use Rattle.model.specs.Image.{Design, records_of, design_of}
 use Rattle.model.specs.Verdict.{verdict}
@@ -134,7 +134,7 @@ module _
         × ((n : ℕ) → events_of answer image lent (runs n) ≡ parties.events_of answer image lent.areas (parties.runs n))
     unfolding events_of parties.events_of
     happens (Accepted count) = (refl, λ r v. refl, λ n. refl)
-    happens (Refused refusal place) = (refl, λ r v. refl, λ n. refl)
+    happens (Err why) = (refl, λ r v. refl, λ n. refl)
 
     abbrev d : Design
     d = design_of image
@@ -158,7 +158,7 @@ module _
             }
 
         go : (answer : Answer) → run_journalled_answer image lent n ≡ answer → Claim (runs_journalled n) (perform image lent (runs_journalled n))
-        go (Refused refusal place) e = claim_refused (runs_journalled n) refusal place (rw e)
+        go (Err why) e = claim_refused (runs_journalled n) why.refusal why.place (rw e)
         go (Accepted count) e =
             let ran = accepted_runs image lent n (rw e) in
             claim_left
@@ -189,7 +189,7 @@ module _
     claim_back k = go (step_back_answer image lent k) refl
       where
         go : (answer : Answer) → step_back_answer image lent k ≡ answer → Claim (goes_back k) (perform image lent (goes_back k))
-        go (Refused refusal place) e = claim_refused (goes_back k) refusal place (rw e)
+        go (Err why) e = claim_refused (goes_back k) why.refusal why.place (rw e)
         go (Accepted count) e =
             let back = accepted_goes_back image lent k (rw e) in
             let steps : k ≤ length course.saved = rw as_many back.steps in
@@ -237,7 +237,7 @@ module _
         refused n refusal place e = unfold perform replay in rw e
 
         go : (n : ℕ) (answer : Answer) → replay_answer image lent.areas trace n ≡ answer → Claim (replays trace n) (perform image lent (replays trace n))
-        go n (Refused refusal place) e = claim_refused (replays trace n) refusal place (refused n refusal place e)
+        go n (Err why) e = claim_refused (replays trace n) why.refusal why.place (refused n why.refusal why.place e)
         go zero (Accepted count) e = claim_none_replayed trace count e
         go (suc n) (Accepted count) e = claim_some_replayed trace n count e
 

@@ -1,9 +1,9 @@
 -- A list of 01's calls does and leaves, among lists of all calls, what it does by itself: the journal stays.
+use Rattle.std.specs.Prelude.{Err}
 use Prim.Native.Nat.{ℕ}
 use mathlib.Core.Path.{◌≡◌, refl, ◌∙◌, ap}
 use mathlib.Core.List.{List, [], ◌∷◌, map}
-use Rattle.model.specs.declared.Answer.{Answer}
-use Rattle.model.specs.declared.Answer.TheVariants.{Accepted, Refused}
+use Rattle.model.specs.Answers.{Answer, Accepted}
 use Rattle.model.specs.Calls.{Left}
 use Rattle.model.specs.Parties.{Event}
 use Rattle.model.specs.Parties as parties
@@ -19,7 +19,7 @@ module _ (image : List ℕ) where
 
   listed_does : (answer : Answer) (lent : LentJournal) (call : parties.Call) → events_of answer image lent (listed call) ≡ parties.events_of answer image lent.areas call
   unfolding events_of parties.events_of
-  listed_does (Refused refusal place) lent call = refl
+  listed_does (Err why) lent call = refl
   listed_does (Accepted count) lent parties.resets = refl
   listed_does (Accepted count) lent (parties.writes r v) = refl
   listed_does (Accepted count) lent (parties.runs n) = refl

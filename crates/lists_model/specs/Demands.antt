@@ -1,9 +1,8 @@
 -- Demand 3 for lists of all calls, across two designs (02, E14); and what 02's E9 and E10 say of it in their own words. 01's own, of its three calls, is `Independent` of
 -- `Rattle.model.specs.Parties`.
 use Rattle.std.specs.Prelude.{ℕ, ◌<◌, ◌≡◌, List, [], ◌∷◌, length}
-use Rattle.model.specs.declared.Answer.TheVariants.{Accepted}
 use Rattle.model.specs.Image.{design_of}
-use Rattle.model.specs.Answers.{numbers_of}
+use Rattle.model.specs.Answers.{Accepted, numbers_of}
 use Rattle.model.specs.Verdict.{verdict}
 use Rattle.model.specs.Neighbours.{common}
 use Rattle.replay_model.specs.declared.TraceRecord.{TraceRecord}

@@ -1,8 +1,7 @@
 -- 01, 'What a party sees', with the calls that 02, E9 and E10 add: lists of the six calls that change areas. The words of a view, and of what remains of a list, are 01's
 -- (`Rattle.model.specs.Parties`); here stand the calls, what each does, and the uses of the box that demand 3 is about.
-use Rattle.std.specs.Prelude.{ℕ, ◌≡◌, List, [], ◌∷◌, ◌++◌, map, length, replicate}
-use Rattle.model.specs.declared.Answer.{Answer}
-use Rattle.model.specs.declared.Answer.TheVariants.{Accepted, Refused}
+use Rattle.std.specs.Prelude.{ℕ, ◌≡◌, List, [], ◌∷◌, ◌++◌, map, length, replicate, Err}
+use Rattle.model.specs.Answers.{Answer, Accepted}
 use Rattle.model.specs.Image.{Design, design_of}
 use Rattle.model.specs.Values.{words_of}
 use Rattle.model.specs.Machine.{cycles}
@@ -44,7 +43,7 @@ perform image lent (replays trace n) = left_in (with_journal lent.journal) (repl
 -- What an accepted call does, for the comparison. A journalled run of n counts as n journalled cycles and going back by k as k steps back, so that either may be cut; a replay counts
 -- as the port writes and cycles that it makes. A refused call does nothing.
 unfoldable pub events_of : Answer → List ℕ → LentJournal → Call → List Event
-events_of (Refused refusal place) image lent call = []
+events_of (Err why) image lent call = []
 events_of (Accepted count) image lent resets = parties.events_of (Accepted count) image lent.areas parties.resets
 events_of (Accepted count) image lent (writes r v) = parties.events_of (Accepted count) image lent.areas (parties.writes r v)
 events_of (Accepted count) image lent (runs n) = parties.events_of (Accepted count) image lent.areas (parties.runs n)

@@ -1,5 +1,6 @@
 -- Runs may be cut: a run of n and then one of m leave what a run of n + m leaves. A refused run depends on its areas alone, as long as the counts are
 -- allowed; an accepted one leaves areas that the next one accepts, and bytes that read back as the values it wrote. A run of 0 leaves every byte.
+use Rattle.std.specs.Prelude.{Option, Some, None}
 use Prim.Native.Nat.{ℕ, zero, suc, ◌+◌, ◌≤◌, ◌<◌}
 use mathlib.Core.Path.{◌≡◌, refl, ◌∙◌, ap}
 use mathlib.Core.Logic.{◌⊎◌, inl, inr}
@@ -9,18 +10,15 @@ use native.Mathlib.Omega.{arith}
 use lib.ListN.{length, get_or, length-take, length-drop, length-append, take-append-drop}
 use lib.Seq.{take-append_seam, drop-append_seam}
 use borrow.Author.Tests.{eqb-true}
-use Rattle.model.specs.declared.Found.{Found}
-use Rattle.model.specs.declared.Found.TheVariants.{At, Nowhere}
 use Rattle.model.specs.declared.Refusal.{Refusal}
 use Rattle.model.specs.declared.Refusal.TheVariants.{Area}
-use Rattle.model.specs.declared.Answer.TheVariants.{Accepted, Refused}
 use Rattle.model.specs.Limits.{cycles_max}
 use Rattle.model.specs.Indices.{lowest_failing}
 use Rattle.model.specs.Image.{Design, AreBytes, design_of}
 use Rattle.model.specs.Rules.{Keeps}
 use Rattle.model.specs.Values.{modulus, words_of, bytes_of}
 use Rattle.model.specs.Verdict.{verdict, refused_at, ◌before◌}
-use Rattle.model.specs.Answers.{Numbers, numbers_of}
+use Rattle.model.specs.Answers.{Accepted, Refused, Numbers, numbers_of}
 use Rattle.model.specs.Bindings.{binding_sound}
 use Rattle.model.specs.Machine.{Areas, target_sound, cycle, cycles, after_last, after_cycles}
 use Rattle.model.specs.Calls.{Lent, register_area_kept, target_area_kept, length_answer, content_kept, contents_answer, targets_in, bindings_in, targets_answer, bindings_answer, areas_of, lent_of, run_answer, run}
@@ -68,13 +66,13 @@ module _ (image : List ℕ) (lent : Lent) where
       d = design_of image
 
       by_bindings : verdict image ≡ Accepted 0 → (register_area_kept d lent.registers && target_area_kept d lent.targets) ≡ true
-          → lowest_failing (content_kept d lent.registers) (length d.registers) ≡ Nowhere
-          → lowest_failing (target_sound d (targets_in d lent.targets)) (length d.states) ≡ Nowhere
-          → (f : Found) → lowest_failing (binding_sound d (targets_in d lent.targets) (bindings_in d lent.targets)) (length d.states) ≡ f
+          → lowest_failing (content_kept d lent.registers) (length d.registers) ≡ None
+          → lowest_failing (target_sound d (targets_in d lent.targets)) (length d.states) ≡ None
+          → (f : Option ℕ) → lowest_failing (binding_sound d (targets_in d lent.targets) (bindings_in d lent.targets)) (length d.states) ≡ f
           → Ready ⊎ Refuses
-      by_bindings accepted kept fit sound (At s) e =
+      by_bindings accepted kept fit sound (Some s) e =
           inr (record { refusal = Area; place = s; refused = λ n. unfold run run_answer length_answer contents_answer targets_answer bindings_answer refused_at ◌before◌ in rw (accepted, kept, fit, sound, e) })
-      by_bindings accepted kept fit sound Nowhere e =
+      by_bindings accepted kept fit sound None e =
           let registers = and_first (register_area_kept d lent.registers) (target_area_kept d lent.targets) kept in
           let targets = and_second (register_area_kept d lent.registers) (target_area_kept d lent.targets) kept in
           inl (
@@ -88,19 +86,19 @@ module _ (image : List ℕ) (lent : Lent) where
           )
 
       by_targets : verdict image ≡ Accepted 0 → (register_area_kept d lent.registers && target_area_kept d lent.targets) ≡ true
-          → lowest_failing (content_kept d lent.registers) (length d.registers) ≡ Nowhere
-          → (f : Found) → lowest_failing (target_sound d (targets_in d lent.targets)) (length d.states) ≡ f
+          → lowest_failing (content_kept d lent.registers) (length d.registers) ≡ None
+          → (f : Option ℕ) → lowest_failing (target_sound d (targets_in d lent.targets)) (length d.states) ≡ f
           → Ready ⊎ Refuses
-      by_targets accepted kept fit (At s) e =
+      by_targets accepted kept fit (Some s) e =
           inr (record { refusal = Area; place = s; refused = λ n. unfold run run_answer length_answer contents_answer targets_answer refused_at ◌before◌ in rw (accepted, kept, fit, e) })
-      by_targets accepted kept fit Nowhere e = by_bindings accepted kept fit e (lowest_failing (binding_sound d (targets_in d lent.targets) (bindings_in d lent.targets)) (length d.states)) refl
+      by_targets accepted kept fit None e = by_bindings accepted kept fit e (lowest_failing (binding_sound d (targets_in d lent.targets) (bindings_in d lent.targets)) (length d.states)) refl
 
       by_contents : verdict image ≡ Accepted 0 → (register_area_kept d lent.registers && target_area_kept d lent.targets) ≡ true
-          → (f : Found) → lowest_failing (content_kept d lent.registers) (length d.registers) ≡ f
+          → (f : Option ℕ) → lowest_failing (content_kept d lent.registers) (length d.registers) ≡ f
           → Ready ⊎ Refuses
-      by_contents accepted kept (At r) e =
+      by_contents accepted kept (Some r) e =
           inr (record { refusal = Area; place = r; refused = λ n. unfold run run_answer length_answer contents_answer refused_at ◌before◌ in rw (accepted, kept, e) })
-      by_contents accepted kept Nowhere e = by_targets accepted kept e (lowest_failing (target_sound d (targets_in d lent.targets)) (length d.states)) refl
+      by_contents accepted kept None e = by_targets accepted kept e (lowest_failing (target_sound d (targets_in d lent.targets)) (length d.states)) refl
 
       by_lengths : verdict image ≡ Accepted 0 → (b : Bool) → (register_area_kept d lent.registers && target_area_kept d lent.targets) ≡ b → Ready ⊎ Refuses
       by_lengths accepted true e = by_contents accepted e (lowest_failing (content_kept d lent.registers) (length d.registers)) refl

@@ -10,6 +10,7 @@ pub mod Indices
 pub mod Words
 pub mod Images
 pub mod Found
+pub mod Chains
 pub mod States
 pub mod Gotos
 pub mod Spares

@@ -1,9 +1,9 @@
 -- What the table of cases is written with: names that open the definitions of specs/ (each stands for all that its `unfolding` line names), and
 -- short ways to put a case.
+use Rattle.std.specs.Prelude.{Option}
 use Prim.Native.Nat.{ℕ, ◌*◌}
 use mathlib.Core.List.{List, [], ◌∷◌, ◌++◌, map}
 use lib.ListN.{length, replicate}
-use Rattle.model.specs.declared.Found.{Found}
 use Rattle.model.specs.Indices.{all_below, some_below, lowest, lowest_failing, lowest_of, occurrences, tabulate_from, tabulate, join_below, up_to, recursively}
 use Rattle.model.specs.Image.{Section, offset, size, section_kept, offsets_kept, directory_kept, records_of, section_of, design_of}
 use Rattle.model.specs.Lattice.{flows_to, row_inside, reflexive, antisymmetric, transitive, least_full, least_above, joined, label_kept, all_flow_to}
@@ -83,7 +83,7 @@ abbrev pub areas : List ℕ → List ℕ → Areas
 areas registers targets = areas_bound registers targets (none_bound targets)
 
 -- where the rows stop being a lattice
-abbrev pub fault_of_rows : List ℕ → Found
+abbrev pub fault_of_rows : List ℕ → Option ℕ
 fault_of_rows rows = lowest_failing (label_kept rows) (length rows)
 
 abbrev pub walks : List Event → List (List ℕ)

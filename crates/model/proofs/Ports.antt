@@ -1,5 +1,6 @@
 -- A run leaves every port as it was: no assignment of a body names one and no parameter is bound to one (refusal 16), so each command leaves its value, each cycle and each run; and the
 -- bytes of a register are those of its value.
+use Rattle.std.specs.Prelude.{Err}
 use Prim.Native.Nat.{ℕ, zero, suc, ◌*◌, ◌+◌, ◌<◌}
 use mathlib.Core.Path.{◌≡◌, refl, sym, ◌∙◌, ap}
 use mathlib.Core.Logic.{◌⊎◌, inl, inr}
@@ -9,8 +10,7 @@ use lib.Seq.{get_or-set_other}
 use Rattle.model.specs.declared.Ending.TheVariants.{Goto, Fall}
 use Rattle.model.specs.declared.Outcome.{Outcome}
 use Rattle.model.specs.declared.Outcome.TheVariants.{Continued, Transferred}
-use Rattle.model.specs.declared.Answer.{Answer}
-use Rattle.model.specs.declared.Answer.TheVariants.{Accepted, Refused}
+use Rattle.model.specs.Answers.{Answer, Accepted}
 use Rattle.model.specs.Limits.{word_length}
 use Rattle.model.specs.Image.{Design, AreBytes, byte_at, register_at, design_of}
 use Rattle.model.specs.Trees.{Cmd, skip, assign, sequence, fall, goto, branch, body_of}
@@ -93,5 +93,5 @@ module _ (image : List ℕ) (lent : Lent) (bytes : AreBytes lent.registers) wher
     where
       go : Ready image lent ⊎ Refuses image lent → (a : Answer) → run_answer image lent n ≡ a → PortsKept (design_of image) lent.registers (run image lent n).lent.registers
       go (inl ready) (Accepted count) e = rw e (cycles_keep_ports ready n)
-      go (inl ready) (Refused refusal place) e = rw e (λ r port k l. refl)
+      go (inl ready) (Err why) e = rw e (λ r port k l. refl)
       go (inr refuses) a e = rw (refuses.refused n) (λ r port k l. refl)

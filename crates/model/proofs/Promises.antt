@@ -6,10 +6,9 @@ use mathlib.Core.List.{List}
 use Prim.Native.Nat.{ℕ, ◌+◌, ◌-◌, ◌*◌, ◌^◌, ◌≤◌, ◌<◌}
 use lib.ListN.{length}
 use Rattle.model.specs.declared.Refusal.{Refusal}
-use Rattle.model.specs.declared.Answer.TheVariants.{Accepted}
 use Rattle.model.specs.Limits.{cycles_max, word_length, target_length}
 use Rattle.model.specs.Image.{AreBytes, design_of}
-use Rattle.model.specs.Answers.{number_of, numbers_of}
+use Rattle.model.specs.Answers.{Accepted, number_of, numbers_of}
 use Rattle.model.specs.Rules.{Keeps}
 use Rattle.model.specs.Ports.{PortsKept}
 use Rattle.model.specs.Calls.{Lent, check, registers_length, targets_length, write_port, run}

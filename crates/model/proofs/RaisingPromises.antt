@@ -6,10 +6,9 @@ use mathlib.Core.Logic.{◌↔◌}
 use mathlib.Core.Bool.{true}
 use mathlib.Core.List.{List}
 use lib.ListN.{length}
-use Rattle.model.specs.declared.Answer.TheVariants.{Accepted}
 use Rattle.model.specs.Image.{design_of, state_at}
 use Rattle.model.specs.Parameters.{has_parameters}
-use Rattle.model.specs.Answers.{numbers_of}
+use Rattle.model.specs.Answers.{Accepted, numbers_of}
 use Rattle.model.specs.Raising.{AcceptedRaising, LeastRaising, accepts, raised_once, raised_labels, raised_image, raise}
 use Rattle.model.specs.Refusals.{raise_table, in_numbers, Exactly}
 use Rattle.model.specs.Verdict.{structure, verdict}

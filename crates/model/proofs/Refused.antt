@@ -1,4 +1,5 @@
 -- Refusals are exact: each stage of a call's answer decides its pass of the table, and the stages stand in the table's order.
+use Rattle.std.specs.Prelude.{Option}
 use Prim.Native.Nat.{ℕ, ◌+◌, ◌*◌, ◌≤◌, ◌<◌}
 use mathlib.Core.Path.{◌≡◌, refl, sym, ◌∙◌}
 use mathlib.Core.Logic.Iff
@@ -6,15 +7,12 @@ use mathlib.Core.Logic.{◌↔◌, ◌⊎◌, inl, inr}
 use mathlib.Core.Bool.{true, not, ◌&&◌}
 use mathlib.Core.List.{List, [], ◌∷◌, append-nil}
 use lib.ListN.{length, get_or}
-use Rattle.model.specs.declared.Found.{Found}
 use Rattle.model.specs.declared.Refusal.{Refusal}
-use Rattle.model.specs.declared.Answer.{Answer}
-use Rattle.model.specs.declared.Answer.TheVariants.{Accepted, Refused}
 use Rattle.model.specs.Limits.{commands_max, word_length, binding_length, target_length}
 use Rattle.model.specs.Image.{Commands, count, node_of, Design, register_at, state_at, design_of}
 use Rattle.model.specs.Machine.{target_sound}
 use Rattle.model.specs.States.{has_child}
-use Rattle.model.specs.Answers.{numbers_of}
+use Rattle.model.specs.Answers.{Answer, Accepted, Refused, numbers_of}
 use Rattle.model.specs.Verdict.{◌before◌, refused_at, design_structure, structure, verdict}
 use Rattle.model.specs.Parameters.{all_of, own_parameters}
 use Rattle.model.specs.Bindings.{byte_sound, bound_sound, binding_sound}
@@ -49,7 +47,7 @@ pub mod Scopes
 pub mod Flows
 
 -- a stage that searches, put before those behind it
-pub stage : {refusal : Refusal} {Kept : ℕ → Type 0} {f : Found} {b : Answer} {count : ℕ} {more : List Pass} → Finds f Kept → Decides b count more → Decides (refused_at refusal f before b) count ((refusal asks Kept ∷ []) ∷ more)
+pub stage : {refusal : Refusal} {Kept : ℕ → Type 0} {f : Option ℕ} {b : Answer} {count : ℕ} {more : List Pass} → Finds f Kept → Decides b count more → Decides (refused_at refusal f before b) count ((refusal asks Kept ∷ []) ∷ more)
 stage found next = decides_before (decides_one found) (λ kept. next)
 
 -- ---- the image checks

@@ -1,5 +1,6 @@
 -- What an accepted call leaves is within the widths: a reset writes reset values, which are (refusal 3); a port write and a run judge the contents that they
 -- find, a port write its value too, and an assignment cuts. So in a list that starts with a reset the contents are never at fault.
+use Rattle.std.specs.Prelude.{Some, None}
 use Prim.Native.Nat.{ℕ}
 use mathlib.Core.Path.{◌≡◌, refl, sym, ◌∙◌, ap}
 use mathlib.Core.Logic.{◌⊎◌, inl, inr}
@@ -7,15 +8,12 @@ use mathlib.Core.Bool.{Bool, true, false, cond}
 use mathlib.Core.List.{List, [], ◌∷◌}
 use lib.Dec.{eqb}
 use lib.ListN.{length, set, length-set}
-use Rattle.model.specs.declared.Found.TheVariants.{At, Nowhere}
 use Rattle.model.specs.declared.Refusal.TheVariants.{Area, PortValue}
-use Rattle.model.specs.declared.Answer.{Answer}
-use Rattle.model.specs.declared.Answer.TheVariants.{Accepted}
 use Rattle.model.specs.Image.{Design, design_of}
 use Rattle.model.specs.Rules.{Keeps, StructureKeeps}
 use Rattle.model.specs.Values.{fits, words_of, bytes_of}
 use Rattle.model.specs.Verdict.{verdict, ◌before◌}
-use Rattle.model.specs.Answers.{numbers_of}
+use Rattle.model.specs.Answers.{Answer, Accepted, numbers_of}
 use Rattle.model.specs.Machine.{reset_areas, after_cycles}
 use Rattle.model.specs.Calls.{Lent, Left, content_kept, contents_answer, value_answer, areas_of, lent_of, reset_answer, reset, run_answer, run, write_port_answer, write_port}
 use Rattle.model.specs.Parties.{Call, resets, writes, runs, perform, at_end, given_unseen, with_unseen, start, Beginning}
@@ -48,7 +46,7 @@ keeps_first image later e =
     let first = first_accepts (verdict image) later e in
     (verdict_exact image).0 (first.1 ∙ ap Accepted (accepted_count image first.1))
 
-found_kept : (b : Bool) (r : ℕ) → cond b Nowhere (At r) ≡ Nowhere → b ≡ true
+found_kept : (b : Bool) (r : ℕ) → cond b None (Some r) ≡ None → b ≡ true
 found_kept true r e = refl
 found_kept false r e = absurd (at_is_not_nowhere r e)
 

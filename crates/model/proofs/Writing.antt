@@ -1,5 +1,6 @@
 -- A port write changes nothing but the four bytes of its register, and these only where it is accepted: an area of the right length is the bytes of its
 -- values, and the write sets one of them.
+use Rattle.std.specs.Prelude.{Some, None, Err}
 use Prim.Native.Nat.{ℕ, ◌+◌, ◌*◌, ◌≤◌, ◌<◌}
 use mathlib.Core.Path.{◌≡◌, refl}
 use mathlib.Core.Logic.{◌⊎◌}
@@ -8,15 +9,12 @@ use mathlib.Core.List.{List, [], ◌∷◌}
 use native.Mathlib.Omega.{arith}
 use lib.ListN.{length, set, length-set}
 use borrow.Author.Tests.{eqb-true, ltb-true}
-use Rattle.model.specs.declared.Found.TheVariants.{At, Nowhere}
 use Rattle.model.specs.declared.Refusal.TheVariants.{NoPort, Area}
-use Rattle.model.specs.declared.Answer.{Answer}
-use Rattle.model.specs.declared.Answer.TheVariants.{Accepted, Refused}
 use Rattle.model.specs.Limits.{word_length}
 use Rattle.model.specs.Image.{byte_at, AreBytes, design_of}
 use Rattle.model.specs.States.{is_port}
 use Rattle.model.specs.Verdict.{verdict}
-use Rattle.model.specs.Answers.{Numbers, numbers_of}
+use Rattle.model.specs.Answers.{Answer, Accepted, Numbers, numbers_of}
 use Rattle.model.specs.Values.{words_of, bytes_of}
 use Rattle.model.specs.Calls.{register_area_answer, is_writable, port_answer, write_port_answer, write_port}
 use Rattle.model.proofs.Laws.Booleans.{and_first}
@@ -57,7 +55,7 @@ module _ (image registers : List ℕ) (r v : ℕ) {c : ℕ} (accepted : write_po
       let judged = later_accepts _ _ (later_accepts _ _ (later_accepts (verdict image) _ accepted)) in
       ltb-true _ _ (and_first _ (is_port (design_of image) r) (writable (is_writable (design_of image) r) (found_nothing NoPort _ (first_accepts _ _ judged).1)))
     where
-      writable : (b : Bool) → cond b Nowhere (At r) ≡ Nowhere → b ≡ true
+      writable : (b : Bool) → cond b None (Some r) ≡ None → b ≡ true
       writable true e = refl
       writable false e = absurd (at_is_not_nowhere r e)
 
@@ -71,7 +69,7 @@ changes_only image registers bytes r v = go (write_port_answer image registers r
 
     go : (a : Answer) → write_port_answer image registers r v ≡ a
         → ChangesOnly r v registers (numbers_of (write_port image registers r v).answer) (write_port image registers r v).lent
-    go (Refused q p) e = rw e (nothing_changed r v registers _ (no_number_zero q))
+    go (Err why) e = rw e (nothing_changed r v registers _ (no_number_zero why.refusal))
     go (Accepted c) e =
         let there = register_there image registers r v e in
         let size = length-words_of (length (design_of image).registers) registers in

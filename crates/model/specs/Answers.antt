@@ -1,9 +1,8 @@
 -- The number and the values that document 01 gives to each case of an answer. The promises about answers go through these definitions.
-use Rattle.std.specs.Prelude.{ℕ}
+use Rattle.std.specs.Prelude.{ℕ, Result, Ok, Err}
 use Rattle.model.specs.declared.Refusal.{Refusal}
 use Rattle.model.specs.declared.Refusal.TheVariants.{Directory, LabelRow, RegisterRecord, StateRecord, NodeRecord, NodeUse, Depth, Shape, ChildLabel, AssignFlow, GotoFlow, FallFlow, NoPort, Area, CycleCount, PortAssigned, PortValue, NoRaising, Parameter, RaiseParameters, JournalArea, StepsBack, TraceCycle, OutputArea, GateDirectory, GateWire}
-use Rattle.model.specs.declared.Answer.{Answer}
-use Rattle.model.specs.declared.Answer.TheVariants.{Accepted, Refused}
+use Rattle.model.specs.declared.RefusedAt.{RefusedAt}
 
 -- 01, 'When the box says no': the table's first column
 abbrev pub number_of : Refusal → ℕ
@@ -42,6 +41,16 @@ number_of OutputArea = 24
 number_of GateDirectory = 25
 number_of GateWire = 26
 
+-- what a call answers: an acceptance with a count, or a refusal with its place
+abbrev pub Answer : Type 0
+Answer = Result ℕ RefusedAt
+
+pattern abbrev pub Accepted : ℕ → Answer
+Accepted count = Ok count
+
+abbrev pub Refused : Refusal → ℕ → Answer
+Refused refusal place = Err (record { refusal = refusal; place = place })
+
 -- what the host is given
 pub record Numbers : Type 0 where
   pub number : ℕ
@@ -51,4 +60,4 @@ pub record Numbers : Type 0 where
 -- "An acceptance is number 0, place 0." "On a refusal every count answered .. is 0."
 abbrev pub numbers_of : Answer → Numbers
 numbers_of (Accepted count) = record { number = 0; place = 0; count = count }
-numbers_of (Refused refusal place) = record { number = number_of refusal; place = place; count = 0 }
+numbers_of (Err why) = record { number = number_of why.refusal; place = why.place; count = 0 }

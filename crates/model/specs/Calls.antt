@@ -1,10 +1,8 @@
 -- 01, 'A cycle' and 'When the box says no': the four calls. For each, one function from everything lent and given to the answer and every byte of the
 -- areas afterwards, refusals included. The contracts of the calls are equations with these.
-use Rattle.std.specs.Prelude.{ℕ, ◌*◌, Bool, ◌&&◌, cond, List, ◌++◌, leb, ltb, eqb, length, get_or, set, take, drop}
-use Rattle.model.specs.declared.Found.TheVariants.{At, Nowhere}
+use Rattle.std.specs.Prelude.{ℕ, ◌*◌, Bool, ◌&&◌, cond, List, ◌++◌, leb, ltb, eqb, length, get_or, set, take, drop, Some, None, Err}
 use Rattle.model.specs.declared.Refusal.TheVariants.{NoPort, Area, CycleCount, PortValue}
-use Rattle.model.specs.declared.Answer.{Answer}
-use Rattle.model.specs.declared.Answer.TheVariants.{Accepted, Refused}
+use Rattle.model.specs.Answers.{Answer, Accepted}
 use Rattle.model.specs.Limits.{cycles_max, word_length, target_length}
 use Rattle.model.specs.Indices.{lowest_failing}
 use Rattle.model.specs.Image.{Design, design_of}
@@ -34,7 +32,7 @@ left_as answer lent = record { answer = answer; lent = lent }
 -- On an acceptance what was lent is as the call makes it. On a refusal "No lent byte changes."
 abbrev pub leaves : {A : Type 0} → Answer → A → A → Left A
 leaves (Accepted count) lent made = record { answer = Accepted count; lent = made }
-leaves (Refused refusal place) lent made = record { answer = Refused refusal place; lent = lent }
+leaves (Err why) lent made = record { answer = Err why; lent = lent }
 
 module _ (d : Design) where
   -- "registers, 4 bytes each, and targets, one byte per state"; 02, E8: and behind them two bytes per state
@@ -78,11 +76,11 @@ module _ (d : Design) where
   is_writable r = ltb r (length d.registers) && is_port d r
 
   unfoldable pub port_answer : ℕ → Answer
-  port_answer r = refused_at NoPort (cond (is_writable r) Nowhere (At r))
+  port_answer r = refused_at NoPort (cond (is_writable r) None (Some r))
 
   -- 02, E2: "It refuses with 17 a port value too large for its port, after 13."
   unfoldable pub value_answer : ℕ → ℕ → Answer
-  value_answer r v = refused_at PortValue (cond (fits d.registers r v) Nowhere (At r))
+  value_answer r v = refused_at PortValue (cond (fits d.registers r v) None (Some r))
 
   -- the values of lent areas, and the bytes of values
   unfoldable pub areas_of : Lent → Areas

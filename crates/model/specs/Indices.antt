@@ -1,8 +1,6 @@
 -- Tests over the indices below a count, the lowest index that passes one, a list by its indices, and recursion from an index to lower ones.
 -- The rules of 01 speak of "the lowest offending label, register, state or node", and parts have lower numbers than their owner.
-use Rattle.std.specs.Prelude.{ℕ, zero, suc, min, Bool, true, false, ◌&&◌, ◌||◌, not, cond, List, [], ◌∷◌, ◌++◌, ltb, eqb, length, get_or}
-use Rattle.model.specs.declared.Found.{Found}
-use Rattle.model.specs.declared.Found.TheVariants.{At, Nowhere}
+use Rattle.std.specs.Prelude.{ℕ, zero, suc, min, Bool, true, false, ◌&&◌, ◌||◌, not, cond, List, [], ◌∷◌, ◌++◌, ltb, eqb, length, get_or, Option, Some, None}
 
 -- every index below n passes
 unfoldable pub all_below : (ℕ → Bool) → ℕ → Bool
@@ -15,35 +13,35 @@ some_below test zero = false
 some_below test (suc n) = some_below test n || test n
 
 -- what was found earlier, else n where it passes
-abbrev pub or_at : Found → Bool → ℕ → Found
-or_at (At i) passes n = At i
-or_at Nowhere true n = At n
-or_at Nowhere false n = Nowhere
+abbrev pub or_at : Option ℕ → Bool → ℕ → Option ℕ
+or_at (Some i) passes n = Some i
+or_at None true n = Some n
+or_at None false n = None
 
 -- the lowest index below n that passes
-unfoldable pub lowest : (ℕ → Bool) → ℕ → Found
-lowest test zero = Nowhere
+unfoldable pub lowest : (ℕ → Bool) → ℕ → Option ℕ
+lowest test zero = None
 lowest test (suc n) = or_at (lowest test n) (test n) n
 
 -- the lowest index below n at which a rule fails
-unfoldable pub lowest_failing : (ℕ → Bool) → ℕ → Found
+unfoldable pub lowest_failing : (ℕ → Bool) → ℕ → Option ℕ
 lowest_failing rule n = lowest (λ i. not (rule i)) n
 
 -- how many indices a pass has behind it, of so many, where it found this
-abbrev pub passed : Found → ℕ → ℕ
-passed (At n) count = n
-passed Nowhere count = count
+abbrev pub passed : Option ℕ → ℕ → ℕ
+passed (Some n) count = n
+passed None count = count
 
 -- the lower of two finds
-abbrev pub lower : Found → Found → Found
-lower Nowhere other = other
-lower (At i) Nowhere = At i
-lower (At i) (At j) = At (min i j)
+abbrev pub lower : Option ℕ → Option ℕ → Option ℕ
+lower None other = other
+lower (Some i) None = Some i
+lower (Some i) (Some j) = Some (min i j)
 
 -- the lowest number of a list
-unfoldable pub lowest_of : List ℕ → Found
-lowest_of [] = Nowhere
-lowest_of (x ∷ xs) = lower (At x) (lowest_of xs)
+unfoldable pub lowest_of : List ℕ → Option ℕ
+lowest_of [] = None
+lowest_of (x ∷ xs) = lower (Some x) (lowest_of xs)
 
 -- how many entries of a list are n
 unfoldable pub occurrences : ℕ → List ℕ → ℕ

@@ -1,14 +1,12 @@
 -- 01, 'The lease design': the bytes that the cycle lister prints.
-use Rattle.std.specs.Prelude.{ℕ, suc, ◌+◌, ◌/◌, ◌%◌, true, false, List, [], ◌∷◌, ◌++◌, ltb, length, drop}
+use Rattle.std.specs.Prelude.{ℕ, suc, ◌+◌, ◌/◌, ◌%◌, true, false, List, [], ◌∷◌, ◌++◌, ltb, length, drop, Err}
 use Prim.Native.Char.{code}
 use Prim.Native.String.{String}
 use Rattle.model.specs.declared.Refusal.{Refusal}
 use Rattle.model.specs.declared.Refusal.TheVariants.{Directory}
-use Rattle.model.specs.declared.Answer.{Answer}
-use Rattle.model.specs.declared.Answer.TheVariants.{Accepted, Refused}
 use Rattle.model.specs.Indices.{recursively}
 use Rattle.model.specs.Image.{design_of, word16_at}
-use Rattle.model.specs.Answers.{number_of}
+use Rattle.model.specs.Answers.{Answer, Accepted, number_of}
 use Rattle.model.specs.Verdict.{verdict}
 use Rattle.model.specs.Machine.{Cycle, cycles, reset_areas}
 
@@ -56,7 +54,7 @@ refusal_line refusal place = bytes_of_text "refused;" ++ decimal (number_of refu
 -- the header and so many cycles "from reset", by the verdict of the image
 unfoldable pub listed : Answer → ℕ → List ℕ → List ℕ
 listed (Accepted count) n image = header ++ lines 1 (cycles (design_of image) n (reset_areas (design_of image)))
-listed (Refused refusal place) n image = refusal_line refusal place
+listed (Err why) n image = refusal_line why.refusal why.place
 
 -- "reads from standard input a 16-bit cycle count, then an image"; "input under two bytes gives "refused;1;0""
 unfoldable pub listing : List ℕ → List ℕ

@@ -1,8 +1,7 @@
 -- 01, 'What a party sees': lists of calls, what remains of them at a level, the view, and demand 3 as one statement about whole lists.
 -- The calls are made by the very definitions that the contracts of the calls cite.
-use Rattle.std.specs.Prelude.{ℕ, ◌*◌, ◌<◌, ◌^◌, ◌≡◌, Bool, cond, List, [], ◌∷◌, ◌++◌, map, length, get_or}
-use Rattle.model.specs.declared.Answer.{Answer}
-use Rattle.model.specs.declared.Answer.TheVariants.{Accepted, Refused}
+use Rattle.std.specs.Prelude.{ℕ, ◌*◌, ◌<◌, ◌^◌, ◌≡◌, Bool, cond, List, [], ◌∷◌, ◌++◌, map, length, get_or, Err}
+use Rattle.model.specs.Answers.{Answer, Accepted}
 use Rattle.model.specs.Limits.{word_length, target_length}
 use Rattle.model.specs.Indices.{join_below, tabulate}
 use Rattle.model.specs.Image.{Design, register_at, design_of}
@@ -38,7 +37,7 @@ pub data Event : Type 0 where
   stepped_back : Event
 
 unfoldable pub events_of : Answer → List ℕ → Lent → Call → List Event
-events_of (Refused refusal place) image lent call = []
+events_of (Err why) image lent call = []
 events_of (Accepted count) image lent resets = was_reset ∷ []
 events_of (Accepted count) image lent (writes r v) = was_written r v ∷ []
 events_of (Accepted count) image lent (runs n) = map cycled (cycles (design_of image) n (areas_of (design_of image) lent))

@@ -1,8 +1,7 @@
 -- 02, E6, 'Raise the labels for me': what a raising of an image is, how the least one is computed, and the call.
-use Rattle.std.specs.Prelude.{ℕ, zero, suc, ◌+◌, ◌*◌, ◌<◌, ◌≡◌, Bool, true, false, ◌&&◌, not, List, [], ◌∷◌, ◌++◌, map, eqb, length, get_or, set}
+use Rattle.std.specs.Prelude.{ℕ, zero, suc, ◌+◌, ◌*◌, ◌<◌, ◌≡◌, Bool, true, false, ◌&&◌, not, List, [], ◌∷◌, ◌++◌, map, eqb, length, get_or, set, Err}
 use Rattle.model.specs.declared.Refusal.TheVariants.{Area, NoRaising, RaiseParameters}
-use Rattle.model.specs.declared.Answer.{Answer}
-use Rattle.model.specs.declared.Answer.TheVariants.{Accepted, Refused}
+use Rattle.model.specs.Answers.{Answer, Accepted}
 use Rattle.model.specs.Limits.{register_length}
 use Rattle.model.specs.Indices.{all_below, lowest}
 use Rattle.model.specs.Image.{Registers, byte_at, offset, Design, design_of, register_at}
@@ -94,7 +93,7 @@ raised_image image = put_labels (offset image Registers) (raised_labels (design_
 -- ---- the call
 abbrev pub accepts : Answer → Bool
 accepts (Accepted count) = true
-accepts (Refused refusal place) = false
+accepts (Err why) = false
 
 -- The image is only read; what is lent to be written is a second area.
 module _ (image out : List ℕ) where

@@ -1,6 +1,5 @@
 -- 02, E8: refusal 19 as it judges nodes, by the state in whose body they stand: "at the lowest state, else the lowest node".
-use Rattle.std.specs.Prelude.{ℕ, ◌+◌, ◌-◌, ◌*◌, Bool, ◌&&◌, ◌||◌, cond, List, [], ◌++◌, leb, ltb, eqb, length}
-use Rattle.model.specs.declared.Found.{Found}
+use Rattle.std.specs.Prelude.{ℕ, ◌+◌, ◌-◌, ◌*◌, Bool, ◌&&◌, ◌||◌, cond, List, [], ◌++◌, leb, ltb, eqb, length, Option}
 use Rattle.model.specs.Limits.{expression_place, parameter_register, binding_length}
 use Rattle.model.specs.Indices.{lowest_of, join_below}
 use Rattle.model.specs.Image.{Design, state_at}
@@ -47,5 +46,5 @@ module _ (d : Design) (s : ℕ) where
   state_scope_faults = scope_faults (body_of d s)
 
 -- refusal 19, at the lowest node
-unfoldable pub scope_fault : Design → Found
+unfoldable pub scope_fault : Design → Option ℕ
 scope_fault d = lowest_of (join_below (state_scope_faults d) (length d.states))

@@ -1,7 +1,6 @@
 -- 01, 'Shape and flow', first paragraph: which commands transfer, and refusal 8 as the list of the nodes at which a shape rule fails.
-use Rattle.std.specs.Prelude.{ℕ, Bool, true, false, ◌&&◌, not, List, [], ◌∷◌, ◌++◌, length}
+use Rattle.std.specs.Prelude.{ℕ, Bool, true, false, ◌&&◌, not, List, [], ◌∷◌, ◌++◌, length, Option}
 use Rattle.std.specs.Bool.{beq}
-use Rattle.model.specs.declared.Found.{Found}
 use Rattle.model.specs.Indices.{lowest_of, join_below}
 use Rattle.model.specs.Image.{Design, state_at}
 use Rattle.model.specs.States.{has_child, sibling_or_self}
@@ -40,5 +39,5 @@ module _ (d : Design) (s : ℕ) where
   state_shape_faults = charged_unless (transfers (body_of d s)) (state_at d s).command ++ shape_faults (body_of d s)
 
 -- refusal 8, at the lowest node
-unfoldable pub shape_fault : Design → Found
+unfoldable pub shape_fault : Design → Option ℕ
 shape_fault d = lowest_of (join_below (state_shape_faults d) (length d.states))

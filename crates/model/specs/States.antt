@@ -1,16 +1,14 @@
 -- 01, the last paragraph of 'The image': the tree of states. And refusals 3 and 4, which judge a register or a state by its record.
-use Rattle.std.specs.Prelude.{ℕ, zero, suc, ◌+◌, ◌^◌, Bool, false, ◌&&◌, ◌||◌, not, leb, ltb, eqb, length}
-use Rattle.model.specs.declared.Found.{Found}
-use Rattle.model.specs.declared.Found.TheVariants.{At, Nowhere}
+use Rattle.std.specs.Prelude.{ℕ, zero, suc, ◌+◌, ◌^◌, Bool, false, ◌&&◌, ◌||◌, not, leb, ltb, eqb, length, Option, Some, None}
 use Rattle.model.specs.Indices.{lowest, some_below, recursively}
 use Rattle.model.specs.Image.{Design, register_at, state_at}
 use Rattle.model.specs.Lattice.{state_label}
 use Rattle.model.specs.Limits.{width_max, parameter_label, binding_length}
 
 -- what was found, else s
-abbrev pub found_or : ℕ → Found → ℕ
-found_or s (At q) = q
-found_or s Nowhere = s
+abbrev pub found_or : ℕ → Option ℕ → ℕ
+found_or s (Some q) = q
+found_or s None = s
 
 module _ (d : Design) where
   abbrev pub parent : ℕ → ℕ

@@ -1,11 +1,8 @@
 -- 01, 'When the box says no': the image checks, each with its place, in the order of the table; 02, E1, puts 16 between 8 and 9, and E8 puts 19 behind 16.
-use Rattle.std.specs.Prelude.{ℕ, ◌+◌, Bool, true, false, List, length}
-use Rattle.model.specs.declared.Found.{Found}
-use Rattle.model.specs.declared.Found.TheVariants.{At, Nowhere}
+use Rattle.std.specs.Prelude.{ℕ, ◌+◌, Bool, true, false, List, length, Option, Some, None, Err}
 use Rattle.model.specs.declared.Refusal.{Refusal}
 use Rattle.model.specs.declared.Refusal.TheVariants.{Directory, LabelRow, RegisterRecord, StateRecord, NodeRecord, NodeUse, Depth, Shape, ChildLabel, PortAssigned, Parameter}
-use Rattle.model.specs.declared.Answer.{Answer}
-use Rattle.model.specs.declared.Answer.TheVariants.{Accepted, Refused}
+use Rattle.model.specs.Answers.{Answer, Accepted, Refused}
 use Rattle.model.specs.Limits.{expression_place}
 use Rattle.model.specs.Indices.{lowest_failing}
 use Rattle.model.specs.Image.{Design, design_of, directory_kept}
@@ -23,27 +20,27 @@ use Rattle.model.specs.Flow.{flow_answer}
 -- "The lowest number that applies comes first": the first answer where it refuses, else the second
 infixr 20 ◌before◌
 unfoldable pub ◌before◌ : Answer → Answer → Answer
-Refused refusal place before later = Refused refusal place
+Err why before later = Err why
 Accepted count before later = later
 
 -- the refusal at the place that was found
-unfoldable pub refused_at : Refusal → Found → Answer
-refused_at refusal (At place) = Refused refusal place
-refused_at refusal Nowhere = Accepted 0
+unfoldable pub refused_at : Refusal → Option ℕ → Answer
+refused_at refusal (Some place) = Refused refusal place
+refused_at refusal None = Accepted 0
 
 -- place 0 where a rule fails that no label, register, state or node breaks: "else 0"
-abbrev pub at_zero_unless : Bool → Found
-at_zero_unless true = Nowhere
-at_zero_unless false = At 0
+abbrev pub at_zero_unless : Bool → Option ℕ
+at_zero_unless true = None
+at_zero_unless false = Some 0
 
 -- "an expression's place is 1,024 plus its number": the commands come first
-abbrev pub commands_first : Found → Found → Found
-commands_first (At n) expression = At n
-commands_first Nowhere (At n) = At (expression_place + n)
-commands_first Nowhere Nowhere = Nowhere
+abbrev pub commands_first : Option ℕ → Option ℕ → Option ℕ
+commands_first (Some n) expression = Some n
+commands_first None (Some n) = Some (expression_place + n)
+commands_first None None = None
 
 -- the lowest node at which the rule of its family fails
-unfoldable pub lowest_node : Design → (ℕ → Bool) → (ℕ → Bool) → Found
+unfoldable pub lowest_node : Design → (ℕ → Bool) → (ℕ → Bool) → Option ℕ
 lowest_node d command expression =
     commands_first (lowest_failing command (length d.commands)) (lowest_failing expression (length d.expressions))
 

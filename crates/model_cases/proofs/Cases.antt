@@ -1,16 +1,15 @@
 -- The table of proved cases: document 01's P1 to P10, its examples and document 02's, and the small points that are decided. Each holds because both sides compute to the same.
+use Rattle.std.specs.Prelude.{Some, None}
 use Prim.Native.Nat.{ℕ, ◌+◌}
 use mathlib.Core.Path.{◌≡◌, refl, ap}
 use mathlib.Core.List.{List, [], ◌∷◌, ◌++◌, map}
 use lib.ListN.{length, replicate, get_or, drop}
-use Rattle.model.specs.declared.Found.TheVariants.{At, Nowhere}
 use Rattle.model.specs.declared.Refusal.TheVariants.{Depth, Shape, Area, CycleCount}
-use Rattle.model.specs.declared.Answer.TheVariants.{Accepted, Refused}
 use Rattle.model.specs.Image.{Labels, Registers, States, Commands, Expressions, design_of}
 use Rattle.model.specs.States.{default_target}
 use Rattle.model.specs.Kinds.{add, subtract, bitwise_and, bitwise_or, bitwise_xor, equal, less}
 use Rattle.model.specs.Trees.{constant, register, binary, skip, assign, sequence, fall, goto, expr_of, expr_depth, cmd_depth}
-use Rattle.model.specs.Answers.{numbers_of}
+use Rattle.model.specs.Answers.{Accepted, Refused, numbers_of}
 use Rattle.model.specs.Verdict.{verdict}
 use Rattle.model.specs.Values.{apply}
 use Rattle.model.specs.Machine.{gone_to, cycle, after_cycles}
@@ -57,15 +56,15 @@ p6_refused : verdict (deep 64) ≡ Refused Depth (1024 + 128)
 p6_refused = unfold checks in refl
 
 -- "(P7) one label, row 1, is a lattice"
-p7_rows : fault_of_rows (1 ∷ []) ≡ Nowhere
+p7_rows : fault_of_rows (1 ∷ []) ≡ None
 p7_rows = unfold checks in refl
 
 -- "(P8) rows 15, 10, 12, 8 are a lattice"
-p8_rows : fault_of_rows (15 ∷ 10 ∷ 12 ∷ 8 ∷ []) ≡ Nowhere
+p8_rows : fault_of_rows (15 ∷ 10 ∷ 12 ∷ 8 ∷ []) ≡ None
 p8_rows = unfold checks in refl
 
 -- "(P9) rows 7, 2, 4 are not": labels 1 and 2 have no common label above
-p9_rows : fault_of_rows (7 ∷ 2 ∷ 4 ∷ []) ≡ At 1
+p9_rows : fault_of_rows (7 ∷ 2 ∷ 4 ∷ []) ≡ Some 1
 p9_rows = unfold checks in refl
 
 -- "(P10) goto 0 from state 1 is refused by 8"
@@ -80,9 +79,9 @@ pub proved_cases
     × (apply subtract 0 1 ≡ 4294967295)
     × ((expr_depth (expr_of (design_of (deep 63)) 126) ≡ 64) × (verdict (deep 63) ≡ Accepted 0))
     × (verdict (deep 64) ≡ Refused Depth (1024 + 128))
-    × (fault_of_rows (1 ∷ []) ≡ Nowhere)
-    × (fault_of_rows (15 ∷ 10 ∷ 12 ∷ 8 ∷ []) ≡ Nowhere)
-    × (fault_of_rows (7 ∷ 2 ∷ 4 ∷ []) ≡ At 1)
+    × (fault_of_rows (1 ∷ []) ≡ None)
+    × (fault_of_rows (15 ∷ 10 ∷ 12 ∷ 8 ∷ []) ≡ None)
+    × (fault_of_rows (7 ∷ 2 ∷ 4 ∷ []) ≡ Some 1)
     × (verdict goto_root ≡ Refused Shape 1)
 proved_cases = (p1_listing, p2_walks, p3_targets, p4_subtract, (p5_depth, p5_accepted), p6_refused, p7_rows, p8_rows, p9_rows, p10_refused)
 
@@ -141,21 +140,21 @@ refusal_02_rows_1_2 : judged (of_rows (1 ∷ 2 ∷ [])) ≡ refused 2 0
 refusal_02_rows_1_2 = unfold checks in refl
 
 -- decided, the lowest i over all rules: 0 and 1 have no common label above
-rows_3_0 : fault_of_rows (3 ∷ 0 ∷ []) ≡ At 0
+rows_3_0 : fault_of_rows (3 ∷ 0 ∷ []) ≡ Some 0
 rows_3_0 = unfold checks in refl
 
 -- decided, a bit at or above the label count is charged to its own row
-rows_3_6 : fault_of_rows (3 ∷ 6 ∷ []) ≡ At 1
+rows_3_6 : fault_of_rows (3 ∷ 6 ∷ []) ≡ Some 1
 rows_3_6 = unfold checks in refl
 
 -- decided, that a least common label is the only one is antisymmetry's business
-rows_7_6_6 : fault_of_rows (7 ∷ 6 ∷ 6 ∷ []) ≡ At 1
+rows_7_6_6 : fault_of_rows (7 ∷ 6 ∷ 6 ∷ []) ≡ Some 1
 rows_7_6_6 = unfold checks in refl
 
 -- lattices: chains of two, three and four labels, and the pentagon
 rows_of_lattices
     : map fault_of_rows ((3 ∷ 2 ∷ []) ∷ (7 ∷ 6 ∷ 4 ∷ []) ∷ (15 ∷ 14 ∷ 12 ∷ 8 ∷ []) ∷ (31 ∷ 22 ∷ 20 ∷ 24 ∷ 16 ∷ []) ∷ [])
-    ≡ Nowhere ∷ Nowhere ∷ Nowhere ∷ Nowhere ∷ []
+    ≡ None ∷ None ∷ None ∷ None ∷ []
 rows_of_lattices = unfold checks in refl
 
 -- 3: "kind 2", of register 1

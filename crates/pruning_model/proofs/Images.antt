@@ -6,7 +6,7 @@ use mathlib.Core.Bool.{true}
 use mathlib.Core.List.{List}
 use native.Mathlib.Omega.{arith}
 use lib.ListN.{length}
-use Rattle.model.specs.declared.Answer.TheVariants.{Accepted}
+use Rattle.model.specs.Answers.{Accepted}
 use Rattle.model.specs.Image.{AreBytes, Design, design_of}
 use Rattle.model.specs.Rules.{Keeps}
 use Rattle.model.specs.Verdict.{verdict}

@@ -1,8 +1,7 @@
 -- 02, E11: the call. One function from everything lent to the answer and every byte of the output area afterwards, refusals included.
 use Rattle.std.specs.Prelude.{ℕ, List, leb, length}
 use Rattle.model.specs.declared.Refusal.TheVariants.{OutputArea}
-use Rattle.model.specs.declared.Answer.{Answer}
-use Rattle.model.specs.declared.Answer.TheVariants.{Accepted}
+use Rattle.model.specs.Answers.{Answer, Accepted}
 use Rattle.model.specs.Verdict.{◌before◌, refused_at, at_zero_unless, verdict}
 use Rattle.encoding.specs.Parts.{over}
 use Rattle.pruning_model.specs.Pruned.{pruned_image}

@@ -2,7 +2,7 @@
 -- lists of calls, as 01 has them: each call answers alike, and each cycle leaves the same registers and walks the same states. "What can never run": a dropped state has the new number
 -- of the next state that stays, where there is one; so it is said as well that every state that runs is reached, and that no two reached states have one number.
 use Rattle.std.specs.Prelude.{ℕ, ◌≡◌, List}
-use Rattle.model.specs.declared.Answer.TheVariants.{Accepted}
+use Rattle.model.specs.Answers.{Accepted}
 use Rattle.model.specs.Image.{AreBytes, design_of}
 use Rattle.model.specs.Verdict.{verdict}
 use Rattle.renumbering.specs.Runs.{SameRuns}

@@ -9,11 +9,10 @@ use native.Mathlib.Omega.{arith}
 use lib.ListN.{length, length-set}
 use Rattle.model.specs.declared.Refusal.{Refusal}
 use Rattle.model.specs.declared.Refusal.TheVariants.{NoPort, PortValue, TraceCycle}
-use Rattle.model.specs.declared.Answer.TheVariants.{Accepted, Refused}
 use Rattle.model.specs.Limits.{cycles_max}
 use Rattle.model.specs.Image.{Design, design_of}
 use Rattle.model.specs.Verdict.{verdict}
-use Rattle.model.specs.Answers.{Numbers, numbers_of}
+use Rattle.model.specs.Answers.{Accepted, Refused, Numbers, numbers_of}
 use Rattle.model.specs.Values.{fits}
 use Rattle.model.specs.Machine.{Areas, cycle, cycles, after_last, after_cycles}
 use Rattle.model.specs.Calls.{Lent, is_writable, areas_of, lent_of, run}

@@ -1,4 +1,5 @@
 -- Laws for the code: a trace in which 23 finds nothing never falls, and the records of a cycle are none, or one more behind others.
+use Rattle.std.specs.Prelude.{None}
 use Prim.Native.Nat.{ℕ, ◌<◌}
 use mathlib.Core.Path.{◌≡◌, refl}
 use mathlib.Core.Bool.{Bool, false}
@@ -8,7 +9,6 @@ use lib.ListN.{length, set}
 use Rattle.model.proofs.Laws.Booleans.{false_unless_true}
 use Rattle.model.proofs.Laws.Equivalences.{equal_iff}
 use Rattle.model.proofs.Laws.Indices.{failing_none}
-use Rattle.model.specs.declared.Found.TheVariants.{Nowhere}
 use Rattle.model.specs.Indices.{lowest_failing}
 use Rattle.replay_model.specs.declared.TraceRecord.{TraceRecord}
 use Rattle.replay_model.specs.Traces.{record_at, kept, records_of_cycle, applied}
@@ -16,7 +16,7 @@ use Rattle.replay_model.specs.Calls.{cycle_kept}
 use Rattle.replay_model.proofs.Laws.{kept_append, Each, of_none, of_more, each_make, Rising, rising_kept, cycle_iff, applied_append}
 
 -- a trace in which 23 finds nothing
-pub rising_found : {trace : List TraceRecord} {n : ℕ} → lowest_failing (cycle_kept trace n) (length trace) ≡ Nowhere → Rising n 0 trace
+pub rising_found : {trace : List TraceRecord} {n : ℕ} → lowest_failing (cycle_kept trace n) (length trace) ≡ None → Rising n 0 trace
 rising_found {trace} {n} e = rising_kept trace n (λ i l. (cycle_iff trace n i).0 (failing_none (cycle_kept trace n) (length trace) e i l))
 
 -- ---- where no record is of a cycle

@@ -1,5 +1,6 @@
 -- The areas that a replay leaves: they are good, so every register is within its width; records write the ports that they name, and cycles leave every port, so any other
 -- port keeps its bytes. Without records a replay is a run, and without cycles it leaves all as it is.
+use Rattle.std.specs.Prelude.{Err}
 use Prim.Native.Nat.{ℕ, zero, suc, ◌+◌, ◌*◌, ◌≤◌, ◌<◌}
 use mathlib.Core.Path.{◌≡◌, refl, ◌∙◌, ap}
 use mathlib.Core.Logic.{◌⊎◌, inl, inr}
@@ -7,13 +8,11 @@ use mathlib.Core.List.{List, []}
 use native.Mathlib.Omega.{arith}
 use native.Mathlib.Decide.{dec_lt}
 use lib.ListN.{length, set}
-use Rattle.model.specs.declared.Answer.{Answer}
-use Rattle.model.specs.declared.Answer.TheVariants.{Accepted, Refused}
 use Rattle.model.specs.Limits.{word_length}
 use Rattle.model.specs.Indices.{lowest, lowest_failing}
 use Rattle.model.specs.Image.{Design, AreBytes, byte_at, register_at, design_of}
 use Rattle.model.specs.Verdict.{verdict, refused_at, ◌before◌}
-use Rattle.model.specs.Answers.{numbers_of}
+use Rattle.model.specs.Answers.{Answer, Accepted, numbers_of}
 use Rattle.model.specs.Values.{bytes_of}
 use Rattle.model.specs.Machine.{Areas, cycle, cycles, after_last, after_cycles}
 use Rattle.model.specs.Calls.{Lent, Left, content_kept, areas_of, lent_of, run_answer, run}
@@ -97,7 +96,7 @@ other_ports_kept image lent bytes trace n g port unnamed k l = go (replay_answer
     d = design_of image
 
     go : (a : Answer) → replay_answer image lent trace n ≡ a → byte_at (replay image lent trace n).lent.registers (word_length * g + k) ≡ byte_at lent.registers (word_length * g + k)
-    go (Refused refusal place) e = rw e
+    go (Err why) e = rw e
     go (Accepted count) e =
         let r = accepted_replays image lent trace n (rw e) in
         rw e
@@ -110,7 +109,7 @@ unfolding replay replayed after_last
 none_left image lent bytes trace = go (replay_answer image lent trace 0) refl
   where
     go : (a : Answer) → replay_answer image lent trace 0 ≡ a → (replay image lent trace 0).lent ≡ lent
-    go (Refused refusal place) e = rw e
+    go (Err why) e = rw e
     go (Accepted count) e = let r = accepted_replays image lent trace 0 (rw e) in rw e (ready_back image lent r.ready bytes)
 
 -- ---- without records
@@ -130,5 +129,5 @@ unfolding replay run after_cycles ◌before◌
 as_run image lent n = go (run_answer image lent n) refl
   where
     go : (a : Answer) → run_answer image lent n ≡ a → AsRun (replay image lent [] n) (run image lent n)
-    go (Refused refusal place) e = rw (no_records image lent n, e) (record { number = refl; place = refl; count = refl; same = refl })
+    go (Err why) e = rw (no_records image lent n, e) (record { number = refl; place = refl; count = refl; same = refl })
     go (Accepted count) e = rw (no_records image lent n, e, replayed_none (design_of image) 0 n (areas_of (design_of image) lent)) (record { number = refl; place = refl; count = refl; same = refl })

@@ -4,10 +4,9 @@ use Prim.Native.Nat.{ℕ, zero, suc}
 use mathlib.Core.Path.{◌≡◌, refl, sym, ◌∙◌, ap}
 use mathlib.Core.List.{List, [], ◌∷◌, ◌++◌, map, append-nil, append_assoc}
 use lib.ListN.{length, take-append-drop}
-use Rattle.model.specs.declared.Answer.TheVariants.{Accepted}
 use Rattle.model.specs.Image.{Design, AreBytes, design_of}
 use Rattle.model.specs.Verdict.{verdict}
-use Rattle.model.specs.Answers.{numbers_of}
+use Rattle.model.specs.Answers.{Accepted, numbers_of}
 use Rattle.model.specs.Machine.{Areas, Cycle, cycle, cycles, after_last, after_cycles}
 use Rattle.model.specs.Calls.{Lent, Left, areas_of, lent_of}
 use Rattle.model.specs.Parties.{Call, writes, runs, perform, Event, was_written, cycled, events_of, events, at_end, cycles_of}

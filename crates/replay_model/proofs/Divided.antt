@@ -4,9 +4,8 @@ use Prim.Native.Nat.{ℕ, ◌+◌, ◌-◌}
 use mathlib.Core.Path.{◌≡◌, refl, sym, ap}
 use mathlib.Core.List.{List}
 use native.Mathlib.Omega.{arith}
-use Rattle.model.specs.declared.Answer.TheVariants.{Accepted}
 use Rattle.model.specs.Image.{Design, design_of}
-use Rattle.model.specs.Answers.{numbers_of}
+use Rattle.model.specs.Answers.{Accepted, numbers_of}
 use Rattle.model.specs.Machine.{Areas, after_last}
 use Rattle.model.specs.Calls.{Lent, Left, areas_of, lent_of}
 use Rattle.replay_model.specs.declared.TraceRecord.{TraceRecord}

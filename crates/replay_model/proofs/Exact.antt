@@ -1,4 +1,5 @@
 -- A replay refuses exactly: it judges as a run does, then the cycles of its trace, then the records in one pass; each stage decides its pass of the table.
+use Rattle.std.specs.Prelude.{Option, Some, None}
 use Prim.Native.Nat.{ℕ, ◌<◌, ◌^◌}
 use mathlib.Core.Path.{◌≡◌, refl, sym, ◌∙◌, ap}
 use mathlib.Core.Logic.Iff
@@ -6,11 +7,9 @@ use mathlib.Core.Logic.{◌↔◌, inl, inr}
 use mathlib.Core.Bool.{Bool, true, false, ◌&&◌, cond}
 use mathlib.Core.List.{List, [], ◌∷◌}
 use lib.ListN.{length}
-use Rattle.model.specs.declared.Found.{Found}
-use Rattle.model.specs.declared.Found.TheVariants.{At, Nowhere}
 use Rattle.model.specs.declared.Refusal.{Refusal}
 use Rattle.model.specs.declared.Refusal.TheVariants.{NoPort, PortValue}
-use Rattle.model.specs.declared.Answer.TheVariants.{Accepted, Refused}
+use Rattle.model.specs.Answers.{Accepted, Refused}
 use Rattle.model.specs.Indices.{lowest_failing}
 use Rattle.model.specs.Image.{Design, design_of, register_at}
 use Rattle.model.specs.Calls.{Lent, is_writable}
@@ -48,7 +47,7 @@ module _ (d : Design) (trace : List TraceRecord) where
   unfolding value_kept
   record_iff i = and_iff (register_iff i) less_iff
 
-  abbrev found : Found
+  abbrev found : Option ℕ
   found = lowest_failing (λ i. register_kept d trace i && value_kept d trace i) (length trace)
 
   record_finds : Finds found (each (length trace) (λ i. Names i × Fits i))
@@ -61,7 +60,7 @@ module _ (d : Design) (trace : List TraceRecord) where
   abbrev refusal_at : ℕ → Refusal
   refusal_at i = cond (register_kept d trace i) PortValue NoPort
 
-  answer_at : (i : ℕ) → record_answer d trace (At i) ≡ Refused (refusal_at i) i
+  answer_at : (i : ℕ) → record_answer d trace (Some i) ≡ Refused (refusal_at i) i
   unfolding record_answer
   answer_at i = go (register_kept d trace i)
     where
@@ -69,7 +68,7 @@ module _ (d : Design) (trace : List TraceRecord) where
       go true = refl
       go false = refl
 
-  broken_here : (i : ℕ) → found ≡ At i → BrokenAt record_pass (refusal_at i) i
+  broken_here : (i : ℕ) → found ≡ Some i → BrokenAt record_pass (refusal_at i) i
   broken_here i e = go (register_kept d trace i) refl
     where
       go : (b : Bool) → register_kept d trace i ≡ b → BrokenAt record_pass (cond b PortValue NoPort) i
@@ -93,7 +92,7 @@ module _ (d : Design) (trace : List TraceRecord) where
   not_kept i r (inr (inl h)) kept = h.1 kept.1.0
   not_kept i r (inr (inr h)) kept = h
 
-  first_found : (r : Refusal) (place : ℕ) → FirstBroken (record_pass ∷ []) r place → found ≡ At place
+  first_found : (r : Refusal) (place : ℕ) → FirstBroken (record_pass ∷ []) r place → found ≡ Some place
   first_found r place (inl h) =
       finds_at record_finds place (λ kept. not_kept place r h.0 ((both_kept place).0 kept)) (λ k l. (both_kept k).1 (h.1 k l))
   first_found r place (inr h) = absurd h.1
@@ -106,8 +105,8 @@ module _ (d : Design) (trace : List TraceRecord) where
   unfolding records_answer
   records_decide = go found refl
     where
-      go : (f : Found) → found ≡ f → Decides (record_answer d trace found) 0 (record_pass ∷ [])
-      go Nowhere e =
+      go : (f : Option ℕ) → found ≡ f → Decides (record_answer d trace found) 0 (record_pass ∷ [])
+      go None e =
           let accepts : record_answer d trace found ≡ Accepted 0 = unfold record_answer in rw e in
           let kept : AllKept (record_pass ∷ []) = (λ place. (both_kept place).0 (record_finds.nowhere e place), tt) in
           record {
@@ -115,7 +114,7 @@ module _ (d : Design) (trace : List TraceRecord) where
             accepts = (λ h. kept, λ h. accepts);
             refuses = λ r place. (λ h. absurd (refused_is_not_accepted r place 0 (sym h ∙ accepts)), λ h. absurd (at_is_not_nowhere place (sym (first_found r place h) ∙ e)));
           }
-      go (At i) e =
+      go (Some i) e =
           let refuses : record_answer d trace found ≡ Refused (refusal_at i) i = rw e (answer_at i) in
           record {
             either = inr (refusal_at i, i, refuses);

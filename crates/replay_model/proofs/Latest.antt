@@ -9,9 +9,8 @@ use native.Mathlib.Omega.{arith}
 use lib.Dec.{eqb}
 use lib.ListN.{length, set}
 use lib.Seq.{set-set, set_comm}
-use Rattle.model.specs.declared.Answer.TheVariants.{Accepted}
 use Rattle.model.specs.Image.{design_of}
-use Rattle.model.specs.Answers.{numbers_of}
+use Rattle.model.specs.Answers.{Accepted, numbers_of}
 use Rattle.model.specs.Calls.{Lent, areas_of}
 use Rattle.model.proofs.Laws.Booleans.{decide, true_or_false, or_first, or_second, or_neither, false_unless_true}
 use Rattle.model.proofs.Laws.Equivalences.{equal_iff}

@@ -4,9 +4,8 @@ use Prim.Native.Nat.{ℕ, ◌+◌}
 use mathlib.Core.Path.{◌≡◌}
 use mathlib.Core.List.{List, []}
 use lib.ListN.{length}
-use Rattle.model.specs.declared.Answer.TheVariants.{Accepted}
 use Rattle.model.specs.Image.{AreBytes, design_of}
-use Rattle.model.specs.Answers.{numbers_of}
+use Rattle.model.specs.Answers.{Accepted, numbers_of}
 use Rattle.model.specs.Calls.{Lent, areas_of, run}
 use Rattle.model.specs.Refusals.{in_numbers, Exactly, WithinWidths}
 use Rattle.replay_model.specs.declared.TraceRecord.{TraceRecord}

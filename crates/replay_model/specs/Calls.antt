@@ -1,10 +1,7 @@
 -- 02, E10: the call. One function from everything lent and given to the answer and every byte of the two areas afterwards, refusals included; a trace is only read.
-use Rattle.std.specs.Prelude.{ℕ, ◌-◌, Bool, ◌&&◌, cond, List, leb, ltb, length}
-use Rattle.model.specs.declared.Found.{Found}
-use Rattle.model.specs.declared.Found.TheVariants.{At, Nowhere}
+use Rattle.std.specs.Prelude.{ℕ, ◌-◌, Bool, ◌&&◌, cond, List, leb, ltb, length, Option, Some, None}
 use Rattle.model.specs.declared.Refusal.TheVariants.{NoPort, PortValue, TraceCycle}
-use Rattle.model.specs.declared.Answer.{Answer}
-use Rattle.model.specs.declared.Answer.TheVariants.{Accepted, Refused}
+use Rattle.model.specs.Answers.{Answer, Accepted, Refused}
 use Rattle.model.specs.Indices.{lowest_failing}
 use Rattle.model.specs.Image.{Design, design_of}
 use Rattle.model.specs.Verdict.{◌before◌, refused_at}
@@ -30,9 +27,9 @@ module _ (d : Design) (trace : List TraceRecord) where
   value_kept i = fits d.registers (record_at trace i).register (record_at trace i).value
 
   -- which of the two a record breaks: 17 is judged where there is a port
-  unfoldable pub record_answer : Found → Answer
-  record_answer Nowhere = Accepted 0
-  record_answer (At i) = cond (register_kept i) (Refused PortValue i) (Refused NoPort i)
+  unfoldable pub record_answer : Option ℕ → Answer
+  record_answer None = Accepted 0
+  record_answer (Some i) = cond (register_kept i) (Refused PortValue i) (Refused NoPort i)
 
   unfoldable pub records_answer : Answer
   records_answer = record_answer (lowest_failing (λ i. register_kept i && value_kept i) (length trace))

@@ -6,7 +6,7 @@ use mathlib.Core.List.{List, [], ◌∷◌, map}
 use native.Mathlib.Omega.{arith}
 use lib.ListN.{length}
 use Rattle.model.specs.declared.Refusal.TheVariants.{GateWire}
-use Rattle.model.specs.declared.Answer.TheVariants.{Accepted, Refused}
+use Rattle.model.specs.Answers.{Accepted, Refused}
 use Rattle.model.specs.Image.{byte_at}
 use Rattle.gates_model.specs.Tables.{Table, table_of, mark_at}
 use Rattle.gates_model.specs.Signals.{IsSound}

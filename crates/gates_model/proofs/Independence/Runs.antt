@@ -1,5 +1,6 @@
 -- Any number of cycles, and lists of calls: a refused call changes nothing and is struck out, so two matching lists go step by step through accepted calls of one kind, and each
 -- of these keeps agreement.
+use Rattle.std.specs.Prelude.{Err}
 use Prim.Native.Nat.{ℕ, zero, suc, ◌<◌}
 use mathlib.Core.Path.{◌≡◌, refl, sym, ◌∙◌, ap}
 use mathlib.Core.Bool.{cond}
@@ -9,8 +10,7 @@ use lib.Dec.{eqb}
 use lib.ListN.{length, get_or}
 use borrow.Author.Tests.{eq-eqb}
 use Rattle.model.specs.declared.Refusal.{Refusal}
-use Rattle.model.specs.declared.Answer.{Answer}
-use Rattle.model.specs.declared.Answer.TheVariants.{Accepted, Refused}
+use Rattle.model.specs.Answers.{Answer, Accepted, Refused}
 use Rattle.model.specs.Image.{byte_at}
 use Rattle.model.proofs.Laws.Indices.{get_d_tabulate}
 use Rattle.gates_model.specs.Tables.{Table, table_of, mark_at}
@@ -100,7 +100,7 @@ module _ (table : List ℕ) where
     where
       go : (a : Answer) → (perform table area call).answer ≡ a → (after area call ≡ area → remains table area others ≡ [] → Ends area others) → kept (perform table area call).answer (trace_of (table_of table) call) (remains table (after area call) others) ≡ [] → Ends area (call ∷ others)
       go (Accepted count) p rest h = absurd (cons-ne-nil _ _ (rw p at h))
-      go (Refused refusal place) p rest h =
+      go (Err why) p rest h =
           let same = call_keeps table area call (sym (call_answer table area call) ∙ p) in
           let ends = rest same (rw (p, same) at h) in
           record { areas = rw (p, same) ends.areas; end = rw same ends.end }
@@ -143,7 +143,7 @@ module _ (table : List ℕ) where
             areas = rw p refl;
             end = refl;
           }
-      go (Refused refusal place) p found h =
+      go (Err why) p found h =
           let same = call_keeps table area call (sym (call_answer table area call) ∙ p) in
           struck_out area call others x xs p same (found (rw (p, same) at h))
 

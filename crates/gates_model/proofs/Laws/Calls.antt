@@ -3,8 +3,7 @@ use Prim.Native.Nat.{ℕ}
 use mathlib.Core.Path.{◌≡◌, refl, ◌∙◌, ap}
 use mathlib.Core.List.{List}
 use Rattle.model.specs.declared.Refusal.{Refusal}
-use Rattle.model.specs.declared.Answer.{Answer}
-use Rattle.model.specs.declared.Answer.TheVariants.{Accepted, Refused}
+use Rattle.model.specs.Answers.{Answer, Accepted, Refused}
 use Rattle.gates_model.specs.Tables.{table_of}
 use Rattle.gates_model.specs.Cycle.{cycled, started}
 use Rattle.gates_model.specs.Calls.{gates_reset, gates_reset_answer, gates_cycle, gates_cycle_answer}

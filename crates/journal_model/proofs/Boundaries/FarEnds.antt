@@ -4,7 +4,7 @@ use mathlib.Core.Path.{◌≡◌, refl}
 use mathlib.Core.List.{List, [], ◌∷◌, ◌++◌, map}
 use lib.ListN.{length, replicate, take}
 use Rattle.model.specs.declared.Refusal.TheVariants.{JournalArea, StepsBack}
-use Rattle.model.specs.declared.Answer.TheVariants.{Accepted, Refused}
+use Rattle.model.specs.Answers.{Accepted, Refused}
 use Rattle.model.specs.Image.{Design}
 use Rattle.journal_model.specs.Journals.{all_saved_bytes, journal_front, journal_with, recounted, saved_in}
 use Rattle.journal_model.specs.Calls.{room_answer, steps_answer, saved_back}

@@ -5,9 +5,8 @@ use mathlib.Core.Bool.{true, false}
 use mathlib.Core.List.{List, [], ◌∷◌, map}
 use lib.ListN.{replicate}
 use Rattle.model.specs.declared.Refusal.TheVariants.{JournalArea}
-use Rattle.model.specs.declared.Answer.TheVariants.{Refused}
 use Rattle.model.specs.Image.{design_of}
-use Rattle.model.specs.Answers.{Numbers, numbers_of}
+use Rattle.model.specs.Answers.{Refused, Numbers, numbers_of}
 use Rattle.model.specs.Calls.{Lent}
 use Rattle.model.proofs.Opened.{accepted, refused, lent, short_lent, unsound_lent}
 use Rattle.model.proofs.Designs.{lease, one_group, two_groups, smallest, high_to_low}

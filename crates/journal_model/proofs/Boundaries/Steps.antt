@@ -4,7 +4,7 @@ use mathlib.Core.Path.{◌≡◌, refl}
 use mathlib.Core.List.{List, [], ◌∷◌, ◌++◌, map}
 use lib.ListN.{replicate}
 use Rattle.model.specs.declared.Refusal.TheVariants.{StepsBack}
-use Rattle.model.specs.declared.Answer.TheVariants.{Accepted, Refused}
+use Rattle.model.specs.Answers.{Accepted, Refused}
 use Rattle.model.specs.Answers.{Numbers, numbers_of}
 use Rattle.model.specs.Calls.{Lent}
 use Rattle.model.proofs.Opened.{accepted, refused, lent_bound, any_lent, short_lent, long_lent, long_targets}

@@ -1,4 +1,5 @@
 -- The label rule holds at every label exactly where the rows are a lattice: each of its six tests says its own law of the lattice.
+use Rattle.std.specs.Prelude.{None}
 use Prim.Native.Nat.{ℕ, ◌<◌}
 use mathlib.Core.Path.{◌≡◌, refl}
 use mathlib.Core.Logic.Iff
@@ -7,7 +8,6 @@ use mathlib.Core.Bool.{true}
 use mathlib.Core.List.{List}
 use native.Mathlib.Omega.{arith}
 use lib.ListN.{length}
-use Rattle.model.specs.declared.Found.TheVariants.{Nowhere}
 use Rattle.model.specs.Indices.{lowest_failing}
 use Rattle.model.specs.Lattice.{row_inside, reflexive, antisymmetric, transitive, least_full, least_above, joined, label_kept}
 use Rattle.model.specs.Rules.{FlowsTo, LeastAbove, LabelKeeps, IsLattice}
@@ -55,7 +55,7 @@ module _ (rows : List ℕ) (i : ℕ) where
       )
 
 -- the rules of all labels; "row 0 full" is a rule of label 0, which is there if any label is
-pub lattice_iff : (rows : List ℕ) → (lowest_failing (label_kept rows) (length rows) ≡ Nowhere) ↔ IsLattice rows
+pub lattice_iff : (rows : List ℕ) → (lowest_failing (label_kept rows) (length rows) ≡ None) ↔ IsLattice rows
 lattice_iff rows =
     Iff.trans
     (failing_iff (label_iff rows)) (

@@ -1,11 +1,11 @@
 -- No node is charged with a fault of scope exactly where every body is scoped: a node is charged where its own rule fails.
+use Rattle.std.specs.Prelude.{None}
 use Prim.Native.Nat.{ℕ, ◌<◌}
 use mathlib.Core.Path.{◌≡◌, refl}
 use mathlib.Core.Logic.Iff
 use mathlib.Core.Logic.{◌↔◌}
 use mathlib.Core.List.{[]}
 use lib.ListN.{length}
-use Rattle.model.specs.declared.Found.TheVariants.{Nowhere}
 use Rattle.model.specs.Image.{Design}
 use Rattle.model.specs.Trees.{Expr, constant, register, binary, Cmd, skip, assign, sequence, fall, goto, branch, body_of}
 use Rattle.model.specs.Scopes.{read_faults, scope_faults, state_scope_faults, scope_fault}
@@ -36,6 +36,6 @@ module _ (d : Design) where
     unfolding state_scope_faults
     state_scope_iff = scoped_iff (body_of d s)
 
-  pub scope_iff : (scope_fault d ≡ Nowhere) ↔ ((s : ℕ) → s < length d.states → Scoped d s (body_of d s))
+  pub scope_iff : (scope_fault d ≡ None) ↔ ((s : ℕ) → s < length d.states → Scoped d s (body_of d s))
   unfolding scope_fault
   scope_iff = Iff.trans lowest_of_iff (join_iff state_scope_iff)

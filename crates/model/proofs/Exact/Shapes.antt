@@ -1,4 +1,5 @@
 -- No node is charged with a fault of shape exactly where every body transfers and is shaped: a node is charged where its own rule fails.
+use Rattle.std.specs.Prelude.{None}
 use Prim.Native.Nat.{ℕ, ◌<◌}
 use mathlib.Core.Path.{◌≡◌, refl}
 use mathlib.Core.Logic.Iff
@@ -6,7 +7,6 @@ use mathlib.Core.Logic.{◌↔◌}
 use mathlib.Core.Bool.{Bool, true}
 use mathlib.Core.List.{List, [], ◌++◌}
 use lib.ListN.{length}
-use Rattle.model.specs.declared.Found.TheVariants.{Nowhere}
 use Rattle.model.specs.Image.{Design}
 use Rattle.model.specs.Trees.{Cmd, skip, assign, sequence, fall, goto, branch, body_of}
 use Rattle.model.specs.Shape.{transfers, charged_unless, shape_faults, state_shape_faults, shape_fault}
@@ -42,6 +42,6 @@ module _ (d : Design) where
     state_shape_iff = append-iff (charged_iff _ Iff.rfl) (shaped_iff (body_of d s))
 
   pub shape_iff :
-      (shape_fault d ≡ Nowhere) ↔ ((s : ℕ) → s < length d.states → (transfers (body_of d s) ≡ true) × Shaped d s (body_of d s))
+      (shape_fault d ≡ None) ↔ ((s : ℕ) → s < length d.states → (transfers (body_of d s) ≡ true) × Shaped d s (body_of d s))
   unfolding shape_fault
   shape_iff = Iff.trans lowest_of_iff (join_iff state_shape_iff)

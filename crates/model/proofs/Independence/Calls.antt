@@ -10,7 +10,7 @@ use lib.Seq.{take-append_seam, drop-append_seam}
 use Rattle.model.specs.Bindings.{binding_sound}
 use borrow.Author.Tests.{eq-eqb}
 use Rattle.model.specs.declared.Refusal.TheVariants.{NoPort, CycleCount, PortValue}
-use Rattle.model.specs.declared.Answer.TheVariants.{Accepted, Refused}
+use Rattle.model.specs.Answers.{Accepted, Refused}
 use Rattle.model.specs.Limits.{value_count, word_length, cycles_max}
 use Rattle.model.specs.Image.{Design, design_of}
 use Rattle.model.specs.Verdict.{verdict, refused_at, ◌before◌}

@@ -11,7 +11,7 @@ use lib.ListN.{length, get_or, set, take, drop, length-set, length-append, take-
 use native.Mathlib.Omega.{arith}
 use Rattle.model.specs.Limits.{binding_length}
 use Rattle.model.specs.declared.Refusal.{Refusal}
-use Rattle.model.specs.declared.Answer.TheVariants.{Accepted, Refused}
+use Rattle.model.specs.Answers.{Accepted, Refused}
 use Rattle.model.specs.Limits.{word_length, cycles_max}
 use Rattle.model.specs.Image.{Design, register_at, design_of}
 use Rattle.model.specs.Rules.{StructureKeeps}

@@ -5,7 +5,7 @@ use mathlib.Core.Path.{◌≡◌, refl, ap}
 use mathlib.Core.List.{List}
 use native.Mathlib.Omega.{arith}
 use lib.ListN.{length, drop}
-use Rattle.model.specs.declared.Answer.TheVariants.{Accepted}
+use Rattle.model.specs.Answers.{Accepted}
 use Rattle.model.specs.Limits.{state_length}
 use Rattle.model.specs.Image.{Labels, Registers, States, count, offset, state_of, section_of, design_of}
 use Rattle.model.specs.Rules.{DirectoryKeeps, Keeps}

@@ -1,44 +1,42 @@
 -- Which rule is broken first: an answer that decides one pass, put before one that decides others, decides them all in this order.
+use Rattle.std.specs.Prelude.{Option, Some, None}
 use Prim.Native.Nat.{ℕ, ◌<◌}
 use mathlib.Core.Path.{◌≡◌, refl, sym, ◌∙◌, ap}
 use mathlib.Core.Logic.Iff
 use mathlib.Core.Logic.{◌↔◌, ◌⊎◌, inl, inr, ⊎_elim}
 use mathlib.Core.List.{List, [], ◌∷◌, ◌++◌}
 use native.Mathlib.Omega.{arith}
-use Rattle.model.specs.declared.Found.{Found}
-use Rattle.model.specs.declared.Found.TheVariants.{At, Nowhere}
 use Rattle.model.specs.declared.Refusal.{Refusal}
-use Rattle.model.specs.declared.Answer.{Answer}
-use Rattle.model.specs.declared.Answer.TheVariants.{Accepted, Refused}
+use Rattle.model.specs.Answers.{Answer, Accepted, Refused}
 use Rattle.model.specs.Verdict.{◌before◌, refused_at}
 use Rattle.model.specs.Refusals.{◌asks◌, Pass, KeptAt, BrokenAt, AllKept, FirstBroken}
 use Rattle.model.proofs.Laws.Verdict.{refused_is_not_accepted, same_refusal}
 
 -- ---- what a search finds, against a rule of places
 -- nothing where the rule is kept everywhere; else the lowest place at which it is broken
-pub record Finds (f : Found) (Kept : ℕ → Type 0) : Type 0 where
-  pub nowhere : f ≡ Nowhere → (place : ℕ) → Kept place
-  pub broken : (place : ℕ) → f ≡ At place → Kept place → ⊥
-  pub lower : (place : ℕ) → f ≡ At place → (k : ℕ) → k < place → Kept k
+pub record Finds (f : Option ℕ) (Kept : ℕ → Type 0) : Type 0 where
+  pub nowhere : f ≡ None → (place : ℕ) → Kept place
+  pub broken : (place : ℕ) → f ≡ Some place → Kept place → ⊥
+  pub lower : (place : ℕ) → f ≡ Some place → (k : ℕ) → k < place → Kept k
 
 -- of three numbers compared, those left are equal
 not_apart : (i j : ℕ) → (i < j → ⊥) → (j < i → ⊥) → i ≡ j
 not_apart i j h k = omega arith
 
-module _ {f : Found} {Kept : ℕ → Type 0} (found : Finds f Kept) where
-  pub finds_nowhere : ((place : ℕ) → Kept place) → f ≡ Nowhere
+module _ {f : Option ℕ} {Kept : ℕ → Type 0} (found : Finds f Kept) where
+  pub finds_nowhere : ((place : ℕ) → Kept place) → f ≡ None
   finds_nowhere kept = go f refl
     where
-      go : (g : Found) → f ≡ g → f ≡ Nowhere
-      go (At i) e = absurd (found.broken i e (kept i))
-      go Nowhere e = e
+      go : (g : Option ℕ) → f ≡ g → f ≡ None
+      go (Some i) e = absurd (found.broken i e (kept i))
+      go None e = e
 
-  pub finds_at : (place : ℕ) → (Kept place → ⊥) → ((k : ℕ) → k < place → Kept k) → f ≡ At place
+  pub finds_at : (place : ℕ) → (Kept place → ⊥) → ((k : ℕ) → k < place → Kept k) → f ≡ Some place
   finds_at place broken lower = go f refl
     where
-      go : (g : Found) → f ≡ g → f ≡ At place
-      go (At i) e = e ∙ ap At (not_apart i place (λ l. found.broken i e (lower i l)) (λ l. broken (found.lower i e place l)))
-      go Nowhere e = absurd (broken (found.nowhere e place))
+      go : (g : Option ℕ) → f ≡ g → f ≡ Some place
+      go (Some i) e = e ∙ ap Some (not_apart i place (λ l. found.broken i e (lower i l)) (λ l. broken (found.lower i e place l)))
+      go None e = absurd (broken (found.nowhere e place))
 
 -- ---- an answer against passes of rules
 -- the answer accepts with the count where every rule is kept, and else refuses by the first that is broken
@@ -48,9 +46,9 @@ pub record Decides (a : Answer) (count : ℕ) (passes : List Pass) : Type 0 wher
   pub refuses : (refusal : Refusal) (place : ℕ) → (a ≡ Refused refusal place) ↔ FirstBroken passes refusal place
 
 -- a rule whose search finds the lowest place
-pub decides_one : {refusal : Refusal} {Kept : ℕ → Type 0} {f : Found} → Finds f Kept → Decides (refused_at refusal f) 0 ((refusal asks Kept ∷ []) ∷ [])
+pub decides_one : {refusal : Refusal} {Kept : ℕ → Type 0} {f : Option ℕ} → Finds f Kept → Decides (refused_at refusal f) 0 ((refusal asks Kept ∷ []) ∷ [])
 unfolding refused_at
-decides_one {refusal} {Kept} {f = Nowhere} found =
+decides_one {refusal} {Kept} {f = None} found =
     record {
       either = inl refl;
       accepts = (λ e. (λ place. (found.nowhere refl place, tt), tt), λ kept. refl);
@@ -61,7 +59,7 @@ decides_one {refusal} {Kept} {f = Nowhere} found =
             (λ (h : ((lower : ℕ) → KeptAt (refusal asks Kept ∷ []) lower) × ⊥). absurd h.1),
       );
     }
-decides_one {refusal} {Kept} {f = At i} found =
+decides_one {refusal} {Kept} {f = Some i} found =
     record {
       either = inr (refusal, i, refl);
       accepts = (λ e. absurd (refused_is_not_accepted refusal i 0 e), λ kept. absurd (found.broken i refl (kept.0 i).0));

@@ -1,4 +1,5 @@
 -- Every place that shape or scopes charge in the tree of a command is that of a node of the design: the tree has no other.
+use Rattle.std.specs.Prelude.{Option, Some, None}
 use Prim.Native.Nat.{ℕ, zero, suc, min, ◌+◌, ◌≤◌, ◌<◌}
 use mathlib.Core.Path.{◌≡◌}
 use mathlib.Core.Bool.{Bool, true, false, not, beq}
@@ -6,8 +7,6 @@ use mathlib.Core.List.{List, [], ◌∷◌, ◌++◌}
 use native.Mathlib.Omega.{arith}
 use native.Mathlib.Decide.{dec_lt}
 use lib.ListN.{length, get_or-eq_default}
-use Rattle.model.specs.declared.Found.{Found}
-use Rattle.model.specs.declared.Found.TheVariants.{At, Nowhere}
 use Rattle.model.specs.Limits.{commands_max, expressions_max, expression_place}
 use Rattle.model.specs.Indices.{lower, lowest_of, join_below}
 use Rattle.model.specs.Image.{Design, Node, no_node, state_at, command_at, expression_at}
@@ -37,18 +36,18 @@ module _ {A : Type 0} {P : A → Type 0} where
 abbrev pub Below : ℕ → List ℕ → Type 0
 Below b xs = Each (λ x. x < b) xs
 
-abbrev pub FoundBelow : ℕ → Found → Type 0
-FoundBelow b f = (p : ℕ) → f ≡ At p → p < b
+abbrev pub FoundBelow : ℕ → Option ℕ → Type 0
+FoundBelow b f = (p : ℕ) → f ≡ Some p → p < b
 
-pub found_at : (b n : ℕ) → n < b → FoundBelow b (At n)
+pub found_at : (b n : ℕ) → n < b → FoundBelow b (Some n)
 found_at b n l p e = let same : n ≡ p = cc in omega arith
 
-pub found_nowhere : (b : ℕ) → FoundBelow b Nowhere
+pub found_nowhere : (b : ℕ) → FoundBelow b None
 found_nowhere b p e = let z : ◌≡◌ {A = ℕ} 0 1 = cc in absurd (omega arith)
 
-lower_below : (b i : ℕ) (f : Found) → i < b → FoundBelow b (lower (At i) f)
-lower_below b i Nowhere l = found_at b i l
-lower_below b i (At j) l = found_at b (min i j) (omega arith)
+lower_below : (b i : ℕ) (f : Option ℕ) → i < b → FoundBelow b (lower (Some i) f)
+lower_below b i None l = found_at b i l
+lower_below b i (Some j) l = found_at b (min i j) (omega arith)
 
 -- the lowest of places
 pub lowest_below : (b : ℕ) {xs : List ℕ} → Below b xs → FoundBelow b (lowest_of xs)

@@ -1,5 +1,6 @@
 -- What the searches of the verdict find: a pass over indices, a test that is charged to one place, a pass over both families of nodes, and the lowest of
 -- charged numbers each find the lowest place at which the rule is broken.
+use Rattle.std.specs.Prelude.{Option, Some, None}
 use Prim.Native.Nat.{ℕ, min, ◌+◌, ◌≤◌, ◌<◌}
 use mathlib.Core.Path.{◌≡◌, refl, sym, ap}
 use mathlib.Core.Logic.{◌↔◌, ◌⊎◌, inl, inr, ⊎_elim}
@@ -9,8 +10,6 @@ use mathlib.Core.List.{List, [], ◌∷◌, Memᴰ, cons-ne-nil}
 use native.Mathlib.Omega.{arith}
 use native.Mathlib.Decide.{dec_lt}
 use lib.ListN.{length}
-use Rattle.model.specs.declared.Found.{Found}
-use Rattle.model.specs.declared.Found.TheVariants.{At, Nowhere}
 use Rattle.model.specs.Limits.{commands_max, expression_place}
 use Rattle.model.specs.Indices.{lowest_failing, lower, lowest_of}
 use Rattle.model.specs.Image.{Design}
@@ -21,7 +20,7 @@ use Rattle.model.proofs.Laws.Indices.{lowest_at, failing_none}
 use Rattle.model.proofs.Laws.Found.{at_is_not_nowhere, lowest_of_iff}
 use Rattle.model.proofs.Laws.Broken.{Finds}
 
-same_place : {i j : ℕ} → At i ≡ At j → i ≡ j
+same_place : {i j : ℕ} → Some i ≡ Some j → i ≡ j
 same_place e = cc
 
 -- a rule of each index below n, whose test says it there
@@ -38,7 +37,7 @@ pub finds_each : {rule : ℕ → Bool} {n : ℕ} {P : ℕ → Type 0} → ((k : 
 finds_each f = finds_below (λ k l. f k)
 
 -- a test that is charged to one place
-pub finds_charged : {b : Bool} {P : Type 0} (r : ℕ) → ((b ≡ true) ↔ P) → Finds (cond b Nowhere (At r)) (at r P)
+pub finds_charged : {b : Bool} {P : Type 0} (r : ℕ) → ((b ≡ true) ↔ P) → Finds (cond b None (Some r)) (at r P)
 finds_charged {b = true} r f =
     record { nowhere = λ e place same. f.0 refl; broken = λ i e. absurd (at_is_not_nowhere i (sym e)); lower = λ i e. absurd (at_is_not_nowhere i (sym e)) }
 finds_charged {b = false} r f =
@@ -54,21 +53,21 @@ finds_zero {b = false} f = finds_charged 0 f
 
 -- ---- both families of nodes: a command's place is below every expression's
 module _ (d : Design) (few : length d.commands ≤ commands_max) {P Q : ℕ → Type 0} where
-  nodes_find : (f g : Found) → Finds f (each (length d.commands) P) → Finds g (each (length d.expressions) Q) → ((i : ℕ) → f ≡ At i → i < length d.commands) → Finds (commands_first f g) (each_node d P Q)
-  nodes_find (At i) g p q inside =
+  nodes_find : (f g : Option ℕ) → Finds f (each (length d.commands) P) → Finds g (each (length d.expressions) Q) → ((i : ℕ) → f ≡ Some i → i < length d.commands) → Finds (commands_first f g) (each_node d P Q)
+  nodes_find (Some i) g p q inside =
       let l = inside i refl in
       record {
         nowhere = λ e. absurd (at_is_not_nowhere i e);
         broken = λ j e kept. let same = same_place e in p.broken i refl (λ below. rw same (kept.command (rw (← same) below)));
         lower = λ j e k under. let same = same_place e in record { command = p.lower i refl k (omega arith); expression = λ x is below. absurd (omega arith) };
       }
-  nodes_find Nowhere (At i) p q inside =
+  nodes_find None (Some i) p q inside =
       record {
         nowhere = λ e. absurd (at_is_not_nowhere (expression_place + i) e);
         broken = λ j e kept. q.broken i refl (λ below. kept.expression i (sym (same_place e)) below);
         lower = λ j e k under. let same = same_place e in record { command = p.nowhere refl k; expression = λ x is below. q.lower i refl x (omega arith) below };
       }
-  nodes_find Nowhere Nowhere p q inside =
+  nodes_find None None p q inside =
       record {
         nowhere = λ e k. record { command = p.nowhere refl k; expression = λ x is. q.nowhere refl x };
         broken = λ j e. absurd (at_is_not_nowhere j (sym e));
@@ -86,11 +85,11 @@ module _ (d : Design) (few : length d.commands ≤ commands_max) {P Q : ℕ → 
       (λ i e. (lowest_at (λ k. not (command k)) (length d.commands) i e).below)
 
 -- ---- the lowest of a list
-lesser : (x k i : ℕ) → min x k ≡ i → (i ≡ x) ⊎ (At k ≡ At i)
+lesser : (x k i : ℕ) → min x k ≡ i → (i ≡ x) ⊎ (Some k ≡ Some i)
 lesser x k i e = go (dec_lt k x)
   where
-    go : Dec (k < x) → (i ≡ x) ⊎ (At k ≡ At i)
-    go (yes l) = inr (ap At (omega arith))
+    go : Dec (k < x) → (i ≡ x) ⊎ (Some k ≡ Some i)
+    go (yes l) = inr (ap Some (omega arith))
     go (no l) = inl (omega arith)
 
 none_in_nil : (xs : List ℕ) (k : ℕ) → xs ≡ [] → Memᴰ k xs → ⊥
@@ -98,26 +97,26 @@ none_in_nil [] k e h = Memᴰ.not-nil h
 none_in_nil (x ∷ xs) k e h = cons-ne-nil _ _ e
 
 -- it is a number of the list, and no number of the list is lower
-pub lowest_among : (xs : List ℕ) (i : ℕ) → lowest_of xs ≡ At i → Memᴰ i xs × ((k : ℕ) → Memᴰ k xs → i ≤ k)
+pub lowest_among : (xs : List ℕ) (i : ℕ) → lowest_of xs ≡ Some i → Memᴰ i xs × ((k : ℕ) → Memᴰ k xs → i ≤ k)
 unfolding lowest_of
 lowest_among [] i e = absurd (at_is_not_nowhere i (sym e))
 lowest_among (x ∷ xs) i e = go (lowest_of xs) refl (λ j h. lowest_among xs j h) e
   where
     go :
-        (f : Found)
+        (f : Option ℕ)
         → lowest_of xs ≡ f
-        → ((j : ℕ) → lowest_of xs ≡ At j → Memᴰ j xs × ((k : ℕ) → Memᴰ k xs → j ≤ k))
-        → lower (At x) f ≡ At i
+        → ((j : ℕ) → lowest_of xs ≡ Some j → Memᴰ j xs × ((k : ℕ) → Memᴰ k xs → j ≤ k))
+        → lower (Some x) f ≡ Some i
         → Memᴰ i (x ∷ xs) × ((k : ℕ) → Memᴰ k (x ∷ xs) → i ≤ k)
-    go Nowhere h rest e =
+    go None h rest e =
         let same = same_place e in (
           Memᴰ.head (sym same),
           λ k among. ⊎_elim (λ (here : k ≡ x). omega arith) (λ (there : Memᴰ k xs). absurd (none_in_nil xs k (lowest_of_iff.0 h) there)) (Memᴰ.cases_cons among),
         )
-    go (At j) h rest e =
+    go (Some j) h rest e =
         let same = same_place e in
         let found = rest j h in (
-          ⊎_elim (λ (here : i ≡ x). Memᴰ.head here) (λ (there : At j ≡ At i). Memᴰ.tail (rw (← same_place there) found.0)) (lesser x j i same),
+          ⊎_elim (λ (here : i ≡ x). Memᴰ.head here) (λ (there : Some j ≡ Some i). Memᴰ.tail (rw (← same_place there) found.0)) (lesser x j i same),
           λ k among. ⊎_elim (λ (here : k ≡ x). omega arith) (λ (there : Memᴰ k xs). let least = found.1 k there in omega arith) (Memᴰ.cases_cons among),
         )
 

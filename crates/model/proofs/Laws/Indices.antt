@@ -1,4 +1,5 @@
 -- Laws of the tests over indices, the lowest index, lists by their indices and recursion over numbers (`specs/Indices.antt`).
+use Rattle.std.specs.Prelude.{Option, Some, None}
 use Prim.Native.Nat.{ℕ, zero, suc, ◌+◌, ◌≤◌, ◌<◌}
 use mathlib.Core.Path.{◌≡◌, refl, sym, ◌∙◌, ap, fun_ext}
 use mathlib.Core.Logic.{◌⊎◌, inl, inr, ⊎_elim}
@@ -11,8 +12,6 @@ use lib.Dec.{ltb}
 use lib.ListN.{length, get_or, get_or-eq_default}
 use lib.Seq.{ext_get_or}
 use borrow.Author.Tests.{lt-ltb, le-ltb, ltb-true}
-use Rattle.model.specs.declared.Found.{Found}
-use Rattle.model.specs.declared.Found.TheVariants.{At, Nowhere}
 use Rattle.model.specs.Indices.{all_below, some_below, or_at, lowest, lowest_failing, tabulate_from, tabulate, filled_to, join_below, up_to, recursively}
 use Rattle.model.proofs.Laws.Booleans.{cond_true, cond_false, and_first, and_second, and_both, or_cases, or_first, or_second, not_false, true_not, true_or_false}
 
@@ -67,23 +66,23 @@ some_make test (suc n) k l t =
     (below_suc l)
 
 -- ---- the lowest index
-at_is_nowhere : (i : ℕ) → At i ≡ Nowhere → ⊥
+at_is_nowhere : (i : ℕ) → Some i ≡ None → ⊥
 at_is_nowhere i e = let z : ◌≡◌ {A = ℕ} 0 1 = cc in omega arith
 
-or_at_nowhere : (f : Found) (b : Bool) (n : ℕ) → or_at f b n ≡ Nowhere → (f ≡ Nowhere) × (b ≡ false)
-or_at_nowhere (At i) b n e = absurd (at_is_nowhere i e)
-or_at_nowhere Nowhere true n e = absurd (at_is_nowhere n e)
-or_at_nowhere Nowhere false n e = (refl, refl)
+or_at_nowhere : (f : Option ℕ) (b : Bool) (n : ℕ) → or_at f b n ≡ None → (f ≡ None) × (b ≡ false)
+or_at_nowhere (Some i) b n e = absurd (at_is_nowhere i e)
+or_at_nowhere None true n e = absurd (at_is_nowhere n e)
+or_at_nowhere None false n e = (refl, refl)
 
 -- nothing was found: no index passes
-pub lowest_none : (test : ℕ → Bool) (n : ℕ) → lowest test n ≡ Nowhere → (k : ℕ) → k < n → test k ≡ false
+pub lowest_none : (test : ℕ → Bool) (n : ℕ) → lowest test n ≡ None → (k : ℕ) → k < n → test k ≡ false
 unfolding lowest
 lowest_none test zero e k l = absurd (nothing_below_zero l)
 lowest_none test (suc n) e k l =
     let both = or_at_nowhere (lowest test n) (test n) n e in
     extend n (lowest_none test n both.0) both.1 k l
 
-pub lowest_nowhere : (test : ℕ → Bool) (n : ℕ) → ((k : ℕ) → k < n → test k ≡ false) → lowest test n ≡ Nowhere
+pub lowest_nowhere : (test : ℕ → Bool) (n : ℕ) → ((k : ℕ) → k < n → test k ≡ false) → lowest test n ≡ None
 unfolding lowest
 lowest_nowhere test zero h = refl
 lowest_nowhere test (suc n) h = rw (lowest_nowhere test n (λ k l. h k (below_more l)), h n (last n))
@@ -94,40 +93,40 @@ pub record LowestIs (test : ℕ → Bool) (n i : ℕ) : Type 0 where
   pub passes : test i ≡ true
   pub none_lower : (k : ℕ) → k < i → test k ≡ false
 
-lowest_step : (test : ℕ → Bool) (n i : ℕ) (f : Found) (b : Bool) → lowest test n ≡ f → test n ≡ b → ((j : ℕ) → f ≡ At j → LowestIs test n j) → or_at f b n ≡ At i → LowestIs test (suc n) i
-lowest_step test n i (At j) b p q earlier e =
+lowest_step : (test : ℕ → Bool) (n i : ℕ) (f : Option ℕ) (b : Bool) → lowest test n ≡ f → test n ≡ b → ((j : ℕ) → f ≡ Some j → LowestIs test n j) → or_at f b n ≡ Some i → LowestIs test (suc n) i
+lowest_step test n i (Some j) b p q earlier e =
     let same : j ≡ i = cc in
     let found = earlier i (rw same refl) in
     record { below = below_more found.below; passes = found.passes; none_lower = found.none_lower }
-lowest_step test n i Nowhere true p q earlier e =
+lowest_step test n i None true p q earlier e =
     let same : n ≡ i = cc in
     record { below = rw (← same) (last n); passes = rw (← same) q; none_lower = rw (← same) (lowest_none test n p) }
-lowest_step test n i Nowhere false p q earlier e = absurd (at_is_nowhere i (sym e))
+lowest_step test n i None false p q earlier e = absurd (at_is_nowhere i (sym e))
 
-pub lowest_at : (test : ℕ → Bool) (n i : ℕ) → lowest test n ≡ At i → LowestIs test n i
+pub lowest_at : (test : ℕ → Bool) (n i : ℕ) → lowest test n ≡ Some i → LowestIs test n i
 unfolding lowest
 lowest_at test zero i e = absurd (at_is_nowhere i (sym e))
 lowest_at test (suc n) i e = lowest_step test n i (lowest test n) (test n) refl refl (λ j h. lowest_at test n j h) e
 
 -- some index passes: one is found
-pub lowest_found : (test : ℕ → Bool) (n k : ℕ) → k < n → test k ≡ true → (i : ℕ) × (lowest test n ≡ At i)
+pub lowest_found : (test : ℕ → Bool) (n k : ℕ) → k < n → test k ≡ true → (i : ℕ) × (lowest test n ≡ Some i)
 lowest_found test n k l t = go (lowest test n) refl
   where
-    go : (f : Found) → lowest test n ≡ f → (i : ℕ) × (lowest test n ≡ At i)
-    go (At i) e = (i, e)
-    go Nowhere e = absurd (true_or_false (test k) t (lowest_none test n e k l))
+    go : (f : Option ℕ) → lowest test n ≡ f → (i : ℕ) × (lowest test n ≡ Some i)
+    go (Some i) e = (i, e)
+    go None e = absurd (true_or_false (test k) t (lowest_none test n e k l))
 
 -- a rule fails nowhere: it holds at every index, and the other way round
-pub failing_none : (rule : ℕ → Bool) (n : ℕ) → lowest_failing rule n ≡ Nowhere → (k : ℕ) → k < n → rule k ≡ true
+pub failing_none : (rule : ℕ → Bool) (n : ℕ) → lowest_failing rule n ≡ None → (k : ℕ) → k < n → rule k ≡ true
 unfolding lowest_failing
 failing_none rule n e k l = not_false (rule k) (lowest_none (λ i. not (rule i)) n e k l)
 
-pub failing_nowhere : (rule : ℕ → Bool) (n : ℕ) → ((k : ℕ) → k < n → rule k ≡ true) → lowest_failing rule n ≡ Nowhere
+pub failing_nowhere : (rule : ℕ → Bool) (n : ℕ) → ((k : ℕ) → k < n → rule k ≡ true) → lowest_failing rule n ≡ None
 unfolding lowest_failing
 failing_nowhere rule n h = lowest_nowhere (λ i. not (rule i)) n (λ k l. true_not (rule k) (h k l))
 
 -- what a rule's lowest failure is below the count
-pub lowest_failing_below : (rule : ℕ → Bool) (n i : ℕ) → lowest_failing rule n ≡ At i → i < n
+pub lowest_failing_below : (rule : ℕ → Bool) (n i : ℕ) → lowest_failing rule n ≡ Some i → i < n
 unfolding lowest_failing
 lowest_failing_below rule n i e = (lowest_at (λ k. not (rule k)) n i e).below
 

@@ -1,5 +1,6 @@
 -- The numbers that a host is told say which answer it is: a table of refusals by their numbers, with any refusal where a number is none's, gives each back, and none has
 -- number 0.
+use Rattle.std.specs.Prelude.{Err}
 use Prim.Native.Nat.{ℕ}
 use mathlib.Core.Path.{◌≡◌, refl, sym, ◌∙◌, ap}
 use mathlib.Core.Logic.{◌↔◌}
@@ -8,9 +9,7 @@ use native.Mathlib.Omega.{arith}
 use lib.ListN.{get_or}
 use Rattle.model.specs.declared.Refusal.{Refusal}
 use Rattle.model.specs.declared.Refusal.TheVariants.{Directory, LabelRow, RegisterRecord, StateRecord, NodeRecord, NodeUse, Depth, Shape, ChildLabel, AssignFlow, GotoFlow, FallFlow, NoPort, Area, CycleCount, PortAssigned, PortValue, NoRaising, Parameter, RaiseParameters, JournalArea, StepsBack, TraceCycle, OutputArea, GateDirectory, GateWire}
-use Rattle.model.specs.declared.Answer.{Answer}
-use Rattle.model.specs.declared.Answer.TheVariants.{Accepted, Refused}
-use Rattle.model.specs.Answers.{Numbers, number_of, numbers_of}
+use Rattle.model.specs.Answers.{Answer, Accepted, Refused, Numbers, number_of, numbers_of}
 
 abbrev numbered : ℕ → Refusal
 numbered n =
@@ -84,11 +83,11 @@ no_number_zero r e = let one : number_of r ≡ 1 = ap number_of (sym (numbered_b
 
 pub told_accepted : (a : Answer) (n : ℕ) → (numbers_of a ≡ record { number = 0; place = 0; count = n }) ↔ (a ≡ Accepted n)
 told_accepted (Accepted m) n = (λ e. ap Accepted (ap (λ (x : Numbers). x.count) e), λ e. ap numbers_of e)
-told_accepted (Refused r p) n = (λ e. absurd (no_number_zero r (ap (λ (x : Numbers). x.number) e)), λ e. ap numbers_of e)
+told_accepted (Err why) n = (λ e. absurd (no_number_zero why.refusal (ap (λ (x : Numbers). x.number) e)), λ e. ap numbers_of e)
 
 pub told_refused : (a : Answer) (r : Refusal) (p : ℕ) → (numbers_of a ≡ record { number = number_of r; place = p; count = 0 }) ↔ (a ≡ Refused r p)
 told_refused (Accepted m) r p = (λ e. absurd (no_number_zero r (sym (ap (λ (x : Numbers). x.number) e))), λ e. ap numbers_of e)
-told_refused (Refused q i) r p = (
-  λ e. let same = same_number q r (ap (λ (x : Numbers). x.number) e) in let here = ap (λ (x : Numbers). x.place) e in cc,
+told_refused (Err why) r p = (
+  λ e. let same = same_number why.refusal r (ap (λ (x : Numbers). x.number) e) in let here = ap (λ (x : Numbers). x.place) e in rw (← same, ← here) refl,
   λ e. ap numbers_of e,
 )

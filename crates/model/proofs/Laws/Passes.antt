@@ -1,11 +1,10 @@
 -- Laws of a pass that looks for the lowest index at which a rule fails: what is known before an index, and what the pass answers.
+use Rattle.std.specs.Prelude.{Option, Some, None}
 use Prim.Native.Nat.{ℕ, ◌+◌, ◌≤◌, ◌<◌}
 use mathlib.Core.Path.{◌≡◌, refl, sym, ◌∙◌, ap}
 use mathlib.Core.Bool.{Bool, true, false, not}
 use native.Mathlib.Omega.{arith}
 use native.Mathlib.Numerals.{add-one}
-use Rattle.model.specs.declared.Found.{Found}
-use Rattle.model.specs.declared.Found.TheVariants.{At, Nowhere}
 use Rattle.model.specs.Indices.{lowest_failing, all_below, some_below}
 use Rattle.model.proofs.Laws.Booleans.{not_true, not_false, true_or_false, false_unless_true}
 use Rattle.model.proofs.Laws.Indices.{failing_none, failing_nowhere, nothing_below_zero, extend, lowest_at, all_at, all_make, some_at, some_make}
@@ -26,25 +25,25 @@ module _ {rule : ℕ → Bool} where
   pub passed_more : {i : ℕ} {b : Bool} → Passed rule i → b ≡ rule i → not b ≡ false → Passed rule (i + 1)
   passed_more {i} {b} p e h = record { holds = λ k l. extend i p.holds (sym e ∙ not_false b h) k (rw (add-one i) at l) }
 
-  lowest_is : (n i : ℕ) → i < n → rule i ≡ false → Passed rule i → (f : Found) → lowest_failing rule n ≡ f → At i ≡ f
+  lowest_is : (n i : ℕ) → i < n → rule i ≡ false → Passed rule i → (f : Option ℕ) → lowest_failing rule n ≡ f → Some i ≡ f
   unfolding lowest_failing
-  lowest_is n i l h p (At j) e =
+  lowest_is n i l h p (Some j) e =
       let found = lowest_at (λ k. not (rule k)) n j e in
       ap
-      At
+      Some
       (same_index
       i
       j
       (λ k. true_or_false (rule i) (not_false (rule i) (found.none_lower i k)) h)
       (λ k. true_or_false (rule j) (p.holds j k) (not_true (rule j) found.passes)))
-  lowest_is n i l h p Nowhere e = absurd (true_or_false (rule i) (failing_none rule n e i l) h)
+  lowest_is n i l h p None e = absurd (true_or_false (rule i) (failing_none rule n e i l) h)
 
   -- the first index at which the rule fails is the lowest
-  pub passed_fails : {m n i : ℕ} {b : Bool} → Passed rule i → i < m → m ≡ n → b ≡ rule i → not b ≡ true → At i ≡ lowest_failing rule n
+  pub passed_fails : {m n i : ℕ} {b : Bool} → Passed rule i → i < m → m ≡ n → b ≡ rule i → not b ≡ true → Some i ≡ lowest_failing rule n
   passed_fails {m} {n} {i} {b} p l q e h = lowest_is n i (omega arith) (sym e ∙ not_true b h) p (lowest_failing rule n) refl
 
   -- a pass to the end finds nothing
-  pub passed_all : {m n i : ℕ} → Passed rule i → m ≤ i → m ≡ n → Nowhere ≡ lowest_failing rule n
+  pub passed_all : {m n i : ℕ} → Passed rule i → m ≤ i → m ≡ n → None ≡ lowest_failing rule n
   passed_all {m} {n} {i} p l q = sym (failing_nowhere rule n (λ k h. p.holds k (omega arith)))
 
   -- a test of every index holds

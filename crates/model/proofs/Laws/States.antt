@@ -1,4 +1,5 @@
 -- Laws of the tree of states and of the target table (`specs/States.antt`, `specs/Machine.antt`): children, default children, sound targets.
+use Rattle.std.specs.Prelude.{Option, Some, None}
 use Prim.Native.Nat.{ℕ, ◌≤◌, ◌<◌}
 use mathlib.Core.Path.{◌≡◌, refl}
 use mathlib.Core.Logic.{◌⊎◌, inl, inr, ◌≢◌}
@@ -8,8 +9,6 @@ use native.Mathlib.Omega.{arith}
 use lib.Dec.{ltb, eqb}
 use lib.ListN.{length, get_or}
 use borrow.Author.Tests.{ltb-true, lt-ltb, eqb-true, eq-eqb, eqb-false, ne_eqb}
-use Rattle.model.specs.declared.Found.{Found}
-use Rattle.model.specs.declared.Found.TheVariants.{At, Nowhere}
 use Rattle.model.specs.Indices.{lowest, some_below}
 use Rattle.model.specs.Image.{Design}
 use Rattle.model.specs.States.{found_or, parent, is_child, has_child, default_target, sibling_or_self}
@@ -57,10 +56,10 @@ module _ (d : Design) where
   sibling_no_root s t h = eqb-false s 0 (not_true (eqb s 0) (and_first (not (eqb s 0)) (is_child d (parent d s) t) h))
 
   -- ---- default children
-  default_found : (s : ℕ) (f : Found) → lowest (is_child d s) (length d.states) ≡ f → (is_child d s (found_or s f) ≡ true) ⊎ ((has_child d s ≡ false) × (found_or s f ≡ s))
+  default_found : (s : ℕ) (f : Option ℕ) → lowest (is_child d s) (length d.states) ≡ f → (is_child d s (found_or s f) ≡ true) ⊎ ((has_child d s ≡ false) × (found_or s f ≡ s))
   unfolding has_child
-  default_found s (At q) e = inl (lowest_at (is_child d s) (length d.states) q e).passes
-  default_found s Nowhere e =
+  default_found s (Some q) e = inl (lowest_at (is_child d s) (length d.states) q e).passes
+  default_found s None e =
       inr
       (none (decide (some_below (is_child d s) (length d.states))), refl)
     where
@@ -87,12 +86,12 @@ module _ (d : Design) where
   unfolding default_target
   default_least s r child = go (lowest (is_child d s) (length d.states)) refl
     where
-      go : (f : Found) → lowest (is_child d s) (length d.states) ≡ f → found_or s f ≤ r
-      go (At j) e =
+      go : (f : Option ℕ) → lowest (is_child d s) (length d.states) ≡ f → found_or s f ≤ r
+      go (Some j) e =
           let found = lowest_at (is_child d s) (length d.states) j e in
           let least : (r < j → ⊥) = (λ l. true_or_false (is_child d s r) child (found.none_lower r l)) in
           omega arith
-      go Nowhere e = absurd (true_or_false (is_child d s r) child (lowest_none (is_child d s) (length d.states) e r (child_of s r child).state))
+      go None e = absurd (true_or_false (is_child d s r) child (lowest_none (is_child d s) (length d.states) e r (child_of s r child).state))
 
   -- the lowest of the children is the default child
   pub default_is : (s q : ℕ) → is_child d s q ≡ true → ((r : ℕ) → is_child d s r ≡ true → q ≤ r) → default_target d s ≡ q

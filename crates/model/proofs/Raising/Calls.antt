@@ -1,5 +1,6 @@
 -- The call answers by its table: its last rule asks for an accepted raising, and the raised image of an image without parameters is accepted exactly where there is
 -- one. What it leaves follows.
+use Rattle.std.specs.Prelude.{Option, Some, None}
 use Prim.Native.Nat.{ℕ}
 use mathlib.Core.Path.{◌≡◌, refl, sym, ◌∙◌, ap}
 use mathlib.Core.Logic.Iff
@@ -11,11 +12,7 @@ use lib.ListN.{length}
 use lib.Dec.{eqb}
 use Rattle.model.specs.declared.Refusal.{Refusal}
 use Rattle.model.specs.declared.Refusal.TheVariants.{Area, NoRaising, RaiseParameters}
-use Rattle.model.specs.declared.Found.{Found}
-use Rattle.model.specs.declared.Found.TheVariants.{At, Nowhere}
-use Rattle.model.specs.declared.Answer.{Answer}
-use Rattle.model.specs.declared.Answer.TheVariants.{Accepted, Refused}
-use Rattle.model.specs.Answers.{numbers_of}
+use Rattle.model.specs.Answers.{Answer, Accepted, Refused, numbers_of}
 use Rattle.model.specs.Image.{design_of}
 use Rattle.model.specs.Parameters.{has_parameters}
 use Rattle.model.specs.Raising.{LeastRaising, accepts, raised_image, raise_answer, raise}
@@ -24,7 +21,7 @@ use Rattle.model.specs.Verdict.{◌before◌, refused_at, at_zero_unless, struct
 use Rattle.model.proofs.Laws.Equivalences.{equal_iff}
 use Rattle.model.proofs.Laws.Plain.{Plain, plain_iff}
 use Rattle.model.proofs.Laws.Found.{zero_unless_iff}
-use Rattle.model.proofs.Laws.Verdict.{first_accepts, later_accepts, found_nothing}
+use Rattle.model.proofs.Laws.Verdict.{first_accepts, later_accepts, found_nothing, same_refusal}
 use Rattle.model.proofs.Laws.Numbers.{no_number_zero, told_refused}
 use Rattle.model.proofs.Laws.Left.{left_answer}
 use Rattle.model.proofs.Laws.Broken.{Decides, decides_one, decides_before}
@@ -60,11 +57,11 @@ module _ (image out : List ℕ) where
   unfolding raise_answer ◌before◌ refused_at
   raise_refuses_parameters structured = rw (raise_answer_lem, structured) (by (has_parameters (design_of image)) (at_zero_unless (eqb (length out) (length image))) (at_zero_unless (accepts (verdict (raised_image image)))))
     where
-      by : (has : Bool) (f g : Found) → ((refused_at RaiseParameters (at_zero_unless (not has)) before refused_at Area f before refused_at NoRaising g) ≡ Refused RaiseParameters 0) ↔ (has ≡ true)
+      by : (has : Bool) (f g : Option ℕ) → ((refused_at RaiseParameters (at_zero_unless (not has)) before refused_at Area f before refused_at NoRaising g) ≡ Refused RaiseParameters 0) ↔ (has ≡ true)
       by true f g = (λ e. refl, λ e. refl)
-      by false (At i) g = (λ e. let z : ◌≡◌ {A = ℕ} 0 1 = cc in absurd (omega arith), λ e. absurd (false≢true e))
-      by false Nowhere (At i) = (λ e. let z : ◌≡◌ {A = ℕ} 0 1 = cc in absurd (omega arith), λ e. absurd (false≢true e))
-      by false Nowhere Nowhere = (λ e. let z : ◌≡◌ {A = ℕ} 0 1 = cc in absurd (omega arith), λ e. absurd (false≢true e))
+      by false (Some i) g = (λ e. let other = (same_refusal e).0 in let z : ◌≡◌ {A = ℕ} 0 1 = cc in absurd (omega arith), λ e. absurd (false≢true e))
+      by false None (Some i) = (λ e. let other = (same_refusal e).0 in let z : ◌≡◌ {A = ℕ} 0 1 = cc in absurd (omega arith), λ e. absurd (false≢true e))
+      by false None None = (λ e. let z : ◌≡◌ {A = ℕ} 0 1 = cc in absurd (omega arith), λ e. absurd (false≢true e))
 
   pub raise_parameters : structure image ≡ Accepted 0 → (numbers_of (raise image out).answer ≡ record { number = 20; place = 0; count = 0 }) ↔ (has_parameters (design_of image) ≡ true)
   raise_parameters structured = Iff.trans (told_refused (raise image out).answer RaiseParameters 0) (raise_refuses_parameters structured)

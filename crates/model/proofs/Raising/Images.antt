@@ -4,7 +4,7 @@ use Prim.Native.Nat.{ℕ}
 use mathlib.Core.Path.{◌≡◌}
 use mathlib.Core.List.{List}
 use lib.ListN.{length}
-use Rattle.model.specs.declared.Answer.TheVariants.{Accepted}
+use Rattle.model.specs.Answers.{Accepted}
 use Rattle.model.specs.Image.{Labels, Registers, offset, design_of}
 use Rattle.model.specs.Flow.{flow_answer}
 use Rattle.model.specs.Labelling.{relabelled}

@@ -1,4 +1,5 @@
 -- The raised image is the least accepted raising, where there is one: passes at rest under an accepted raising flow, and stay at or below every one.
+use Rattle.std.specs.Prelude.{Err}
 use Prim.Native.Nat.{ℕ, ◌+◌, ◌*◌, ◌<◌}
 use mathlib.Core.Path.{◌≡◌, refl, ◌∙◌, ap}
 use mathlib.Core.Logic.Iff
@@ -8,8 +9,7 @@ use mathlib.Core.List.{List, [], ◌∷◌}
 use native.Mathlib.Omega.{arith}
 use native.Mathlib.Decide.{dec_lt, ℕ_discrete}
 use lib.ListN.{length, get_or, get_or-eq_default}
-use Rattle.model.specs.declared.Answer.{Answer}
-use Rattle.model.specs.declared.Answer.TheVariants.{Accepted, Refused}
+use Rattle.model.specs.Answers.{Answer, Accepted}
 use Rattle.model.specs.Limits.{register_length}
 use Rattle.model.specs.Image.{Registers, byte_at, offset, Design, design_of, register_at}
 use Rattle.model.specs.Lattice.{register_label, state_label}
@@ -36,7 +36,7 @@ use Rattle.model.proofs.Raising.Settled.{raised_settled}
 -- ---- acceptance as a test
 accepts_iff : (a : Answer) → CountsNothing a → (accepts a ≡ true) ↔ (a ≡ Accepted 0)
 accepts_iff (Accepted n) nothing = (λ e. ap Accepted (nothing n refl), λ e. refl)
-accepts_iff (Refused r p) nothing = (λ e. absurd (false≢true e), λ e. absurd (refused_is_not_accepted r p 0 e))
+accepts_iff (Err why) nothing = (λ e. absurd (false≢true e), λ e. absurd (refused_is_not_accepted why.refusal why.place 0 e))
 
 pub accepts_exact : (image : List ℕ) → (accepts (verdict image) ≡ true) ↔ Keeps image
 accepts_exact image = Iff.trans (accepts_iff (verdict image) (λ n e. accepted_count image e)) (verdict_exact image)

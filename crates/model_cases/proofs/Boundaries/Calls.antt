@@ -3,7 +3,7 @@ use mathlib.Core.Path.{◌≡◌, refl}
 use mathlib.Core.List.{[], ◌∷◌, ◌++◌, map}
 use lib.ListN.{replicate}
 use Rattle.model.specs.declared.Refusal.TheVariants.{AssignFlow, Area, CycleCount}
-use Rattle.model.specs.declared.Answer.TheVariants.{Accepted, Refused}
+use Rattle.model.specs.Answers.{Accepted, Refused}
 use Rattle.model.specs.Answers.{numbers_of}
 use Rattle.model.specs.Calls.{Lent, check, registers_length, targets_length, run_answer}
 use Rattle.model.specs.Parties.{resets, writes, runs, perform}

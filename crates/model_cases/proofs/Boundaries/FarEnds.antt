@@ -1,12 +1,12 @@
 -- Cases at the far ends of numbers, of records and of the image checks: high indices, top bits and bytes, the largest register, state, label and node, and which of
 -- two faults of one pass is told.
+use Rattle.std.specs.Prelude.{Some}
 use Prim.Native.Nat.{ℕ, zero, suc, ◌+◌, ◌-◌}
 use mathlib.Core.Path.{◌≡◌, refl}
 use mathlib.Core.Bool.{true, false, not}
 use mathlib.Core.List.{List, [], ◌∷◌, ◌++◌, map}
 use lib.Dec.{ltb, eqb}
 use lib.ListN.{length, replicate, get_or}
-use Rattle.model.specs.declared.Found.TheVariants.{At}
 use Rattle.model.specs.Indices.{all_below, some_below, lowest, lowest_failing, lowest_of, occurrences, tabulate_from, tabulate, filled_to, join_below, recursively}
 use Rattle.model.specs.Image.{Register, State, Node, Design, no_node, word16_at, word32_at, row_of, register_of, state_of, node_of, constant_of, count, offset, Registers, Commands, Expressions}
 use Rattle.model.specs.Lattice.{flows_to, row_inside, reflexive, antisymmetric, transitive, least_full, joined}
@@ -27,7 +27,7 @@ shows_last_of_2048
 shows_last_of_2048 = unfold checks in refl
 
 shows_lowest_of_2048
-    : lowest (λ i. ltb 2046 i) 2048 ∷ lowest_failing (λ i. ltb i 1023) 1024 ∷ lowest_of (3071 ∷ 1023 ∷ 1280 ∷ []) ∷ [] ≡ At 2047 ∷ At 1023 ∷ At 1023 ∷ []
+    : lowest (λ i. ltb 2046 i) 2048 ∷ lowest_failing (λ i. ltb i 1023) 1024 ∷ lowest_of (3071 ∷ 1023 ∷ 1280 ∷ []) ∷ [] ≡ Some 2047 ∷ Some 1023 ∷ Some 1023 ∷ []
 shows_lowest_of_2048 = unfold checks in refl
 
 -- more than 255 of one, and entries from 128 on

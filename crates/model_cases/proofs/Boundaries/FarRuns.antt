@@ -5,7 +5,7 @@ use mathlib.Core.Bool.{true, false}
 use mathlib.Core.List.{List, [], ◌∷◌, ◌++◌, map}
 use lib.ListN.{length, replicate, get_or}
 use Rattle.model.specs.declared.Refusal.TheVariants.{Area, CycleCount, NoPort}
-use Rattle.model.specs.declared.Answer.TheVariants.{Accepted, Refused}
+use Rattle.model.specs.Answers.{Accepted, Refused}
 use Rattle.model.specs.Image.{Register, State, Node, Design}
 use Rattle.model.specs.Kinds.{Operation, add, subtract, bitwise_and, bitwise_or, bitwise_xor, equal, less, signed_less, arithmetic_shift, signed_division}
 use Rattle.model.specs.Trees.{constant, register, assign, branch}

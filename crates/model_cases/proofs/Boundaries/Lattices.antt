@@ -1,12 +1,12 @@
 -- Cases at the boundaries of the lattice of labels: refusal 2, its rules each alone, and its place.
+use Rattle.std.specs.Prelude.{Some}
 use mathlib.Core.Path.{◌≡◌, refl}
 use mathlib.Core.List.{[], ◌∷◌, map}
-use Rattle.model.specs.declared.Found.TheVariants.{At}
 use Rattle.model.proofs.Opened.{checks, refused, accepted, judged, fault_of_rows}
 use Rattle.model.proofs.Designs.{of_rows, one_state, register_record, goes_to}
 
 -- "row 0 full": the rows are a lattice whose least label is another one
-shows_rows : map fault_of_rows ((1 ∷ 3 ∷ []) ∷ (3 ∷ 2 ∷ 7 ∷ []) ∷ []) ≡ At 0 ∷ At 0 ∷ []
+shows_rows : map fault_of_rows ((1 ∷ 3 ∷ []) ∷ (3 ∷ 2 ∷ 7 ∷ []) ∷ []) ≡ Some 0 ∷ Some 0 ∷ []
 shows_rows = unfold checks in refl
 
 -- "no bit at or above the label count", next to the count and far above it

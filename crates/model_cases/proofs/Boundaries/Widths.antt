@@ -5,10 +5,9 @@ use mathlib.Core.Path.{◌≡◌, refl}
 use mathlib.Core.List.{List, [], ◌∷◌, ◌++◌, map}
 use lib.ListN.{length, replicate}
 use Rattle.model.specs.declared.Refusal.TheVariants.{Area}
-use Rattle.model.specs.declared.Answer.TheVariants.{Refused}
 use Rattle.model.specs.Limits.{largest_image}
 use Rattle.model.specs.Image.{register_at, design_of}
-use Rattle.model.specs.Answers.{Numbers, numbers_of}
+use Rattle.model.specs.Answers.{Refused, Numbers, numbers_of}
 use Rattle.model.specs.Machine.{cycle}
 use Rattle.model.specs.Calls.{Lent, run_answer}
 use Rattle.model.specs.Parties.{Call, Beginning, resets, writes, runs, perform}

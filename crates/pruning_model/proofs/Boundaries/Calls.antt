@@ -3,13 +3,12 @@ use Prim.Native.Nat.{ℕ}
 use mathlib.Core.Path.{◌≡◌, refl}
 use mathlib.Core.List.{List, [], ◌∷◌, ◌++◌, map}
 use lib.ListN.{length, replicate}
-use Rattle.model.specs.declared.Answer.{Answer}
 use Rattle.model.specs.Parties.{resets, writes, runs}
 use Rattle.model.specs.Calls.{reset}
 use Rattle.model.proofs.Opened.{accepted, refused, lent_bound}
 use Rattle.model.proofs.Designs.{kind_two, lease}
 use Rattle.renumbering.specs.Runs.{answers}
-use Rattle.model.specs.Answers.{numbers_of}
+use Rattle.model.specs.Answers.{Answer, numbers_of}
 use Rattle.pruning_model.specs.Calls.{prune}
 use Rattle.pruning_model.proofs.Opened.{pruning, told}
 use Rattle.pruning_model.proofs.Boundaries.Images.{mixed, mixed_pruned}
