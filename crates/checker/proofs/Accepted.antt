@@ -2,8 +2,7 @@
 use Prim.Native.Nat.{ℕ}
 use mathlib.Core.Path.{◌≡◌, sym, ◌∙◌, ap}
 use mathlib.Core.List.{List}
-use Rattle.model.specs.declared.Answer.{Answer}
-use Rattle.model.specs.declared.Answer.TheVariants.{Accepted}
+use Rattle.model.specs.Answers.{Answer, Accepted}
 use Rattle.model.specs.Image.{Design as Table, design_of}
 use Rattle.model.specs.Rules.{DirectoryKeeps, StructureKeeps, Keeps}
 use Rattle.model.specs.Verdict.{structure, verdict}

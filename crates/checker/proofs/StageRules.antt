@@ -1,5 +1,6 @@
 -- The verdict from a pass on: what the pass found, before what follows; and what is known once a pass has found nothing.
-use Prim.Native.Nat.{ℕ, ◌+◌, ◌*◌, ◌≤◌, ◌<◌}
+use Rattle.std.specs.Prelude.{Option, Some, None, Err}
+use Prim.Native.Nat.{ℕ, ◌*◌, ◌≤◌, ◌<◌}
 use mathlib.Core.Path.{◌≡◌, refl, sym, ◌∙◌, ap}
 use mathlib.Core.Bool.{Bool, true, false, not, ◌&&◌}
 use mathlib.Core.List.{List}
@@ -7,14 +8,10 @@ use native.Mathlib.Omega.{arith}
 use lib.Dec.{leb}
 use lib.ListN.{length}
 use borrow.Author.Tests.{leb-true}
-use mir.Syntax.{w64}
-use mir.Val.{Fits}
-use Rattle.model.specs.declared.Found.{Found}
-use Rattle.model.specs.declared.Found.TheVariants.{At, Nowhere}
 use Rattle.model.specs.declared.Refusal.{Refusal}
+use Rattle.model.specs.declared.RefusedAt.{RefusedAt}
 use Rattle.model.specs.declared.Refusal.TheVariants.{Directory}
-use Rattle.model.specs.declared.Answer.{Answer}
-use Rattle.model.specs.declared.Answer.TheVariants.{Accepted, Refused}
+use Rattle.model.specs.Answers.{Answer, Accepted, Refused}
 use Rattle.model.specs.Indices.{lowest_failing, passed, join_below}
 use Rattle.model.specs.Limits.{expressions_max}
 use Rattle.model.specs.Image.{Design as Table, directory_kept, design_of}
@@ -27,6 +24,7 @@ use Rattle.model.specs.Rules.{DirectoryKeeps}
 use Rattle.model.specs.Verdict.{◌before◌, refused_at, commands_first, lowest_node, design_structure, structure, verdict}
 use Rattle.model.proofs.Laws.Booleans.{and_first, and_second, not_true, not_false}
 use Rattle.model.proofs.Laws.Indices.{failing_none, lowest_failing_below}
+use Rattle.model.proofs.Laws.Verdict.{found_nothing}
 use Rattle.model.specs.Parameters.{parameters_kept}
 use Rattle.model.proofs.Exact.Directories.{directory_iff}
 use Rattle.model.proofs.Exact.Labels.{lattice_iff}
@@ -49,62 +47,59 @@ use Rattle.checker.specs.Nodes.{node_tables, nodes_left}
 use Rattle.checker.specs.Stages.{few_nodes, from_children, from_scopes, from_parameters, from_ports, from_shape, from_depths, from_uses, from_nodes, from_states, from_registers, from_labels}
 
 -- ---- a pass, and all that follow
-pub stage_refuses : (r : Refusal) (g : Found) (rest : Answer) {f : Found} {p : ℕ} → f ≡ g → f ≡ At p → Refused r p ≡ (refused_at r g before rest)
-unfolding refused_at ◌before◌
-stage_refuses r g rest e h = rw (← e, h)
+module _ (r : Refusal) (g : Option ℕ) (rest : Answer) {f : Option ℕ} {pass : Answer} (found : f ≡ g) (is : pass ≡ refused_at r f) where
+  pub stage_refuses : {why : RefusedAt} → pass ≡ Err why → Err why ≡ (refused_at r g before rest)
+  unfolding ◌before◌
+  stage_refuses h = rw (← found, ← is, h)
 
-pub stage_passes : (r : Refusal) (g : Found) (rest : Answer) {f : Found} {a : Answer} → f ≡ g → f ≡ Nowhere → a ≡ rest → a ≡ (refused_at r g before rest)
-unfolding refused_at ◌before◌
-stage_passes r g rest e h k = k ∙ rw (← e, h)
+  pub stage_passes : {a : Answer} {n : ℕ} → pass ≡ Accepted n → a ≡ rest → a ≡ (refused_at r g before rest)
+  unfolding ◌before◌
+  stage_passes h k = k ∙ rw (← found, ← is, h)
+
+-- the last one
+pub last_stage : (r : Refusal) (g : Option ℕ) {f : Option ℕ} {pass : Answer} → f ≡ g → pass ≡ refused_at r f → pass ≡ refused_at r g
+last_stage r g found is = is ∙ ap (refused_at r) found
+
+-- a pass that refuses nothing has found nothing
+pub none_found : (r : Refusal) (f : Option ℕ) {pass : Answer} {n : ℕ} → pass ≡ refused_at r f → pass ≡ Accepted n → f ≡ None
+none_found r f is h = found_nothing r f (sym is ∙ h)
 
 -- ---- both families of nodes
-pub first_command : {a : Found} (b : Found) {n : ℕ} → a ≡ At n → At n ≡ commands_first a b
-first_command b h = rw h
-
-pub first_expression : {a b : Found} {n : ℕ} → a ≡ Nowhere → b ≡ At n → At (1024 + n) ≡ commands_first a b
-first_expression h k = rw (h, k)
-
-pub first_nothing : {a b : Found} → a ≡ Nowhere → b ≡ Nowhere → Nowhere ≡ commands_first a b
-first_nothing h k = rw (h, k)
-
-pub both_families : (d : Table) (c e : ℕ → Bool) {f g r : Found} → f ≡ lowest_failing c (length d.commands) → g ≡ lowest_failing e (length d.expressions) → r ≡ commands_first f g → r ≡ lowest_node d c e
+pub both_families : (d : Table) (c e : ℕ → Bool) {f g r : Option ℕ} → f ≡ lowest_failing c (length d.commands) → g ≡ lowest_failing e (length d.expressions) → r ≡ commands_first f g → r ≡ lowest_node d c e
 unfolding lowest_node
 both_families d c e p q k = k ∙ rw (p, q)
 
 -- an expression's number is small enough for its place
-module _ {image : List ℕ} {x : Design} (rule : ℕ → Bool) {f : Found} {n : ℕ} (d : Describes image x) where
-  pub expression_few : f ≡ lowest_failing rule x.expressions → f ≡ At n → n < expressions_max
+module _ {image : List ℕ} {x : Design} (rule : ℕ → Bool) {f : Option ℕ} {n : ℕ} (d : Describes image x) where
+  pub expression_few : f ≡ lowest_failing rule x.expressions → f ≡ Some n → n < expressions_max
   expression_few p h =
       let below = lowest_failing_below rule x.expressions n (sym p ∙ h) in
       let most = expressions_most d in
       omega arith
 
-  pub expression_small : f ≡ lowest_failing rule (length (design_of image).expressions) → f ≡ At n → n < expressions_max
+  pub expression_small : f ≡ lowest_failing rule (length (design_of image).expressions) → f ≡ Some n → n < expressions_max
   expression_small p h = expression_few (p ∙ ap (lowest_failing rule) (sym (expressions_count d))) h
 
-pub place_fits : {f : Found} {n : ℕ} → ((m : ℕ) → f ≡ At m → m < expressions_max) → f ≡ At n → Fits w64 (1024 + n)
-place_fits {n = n} h e = let small = h n e in record { fits = omega arith }
-
 -- ---- what is known once a pass has found nothing
-pub known_lattice : {d : Table} {f : Found} → f ≡ Nowhere → f ≡ lowest_failing (label_kept d.rows) (length d.rows) → LatticeKept d
+pub known_lattice : {d : Table} {f : Option ℕ} → f ≡ None → f ≡ lowest_failing (label_kept d.rows) (length d.rows) → LatticeKept d
 known_lattice {d} h p = record { lattice = (lattice_iff d.rows).0 (sym p ∙ h) }
 
-pub known_registers : {d : Table} {f : Found} → f ≡ lowest_failing (register_kept d) (length d.registers) → f ≡ Nowhere → RegistersKept d
+pub known_registers : {d : Table} {f : Option ℕ} → f ≡ lowest_failing (register_kept d) (length d.registers) → f ≡ None → RegistersKept d
 known_registers {d} p h = record { kept = failing_none (register_kept d) (length d.registers) (sym p ∙ h) }
 
-pub known_states : {d : Table} {f : Found} → f ≡ lowest_failing (state_kept d) (length d.states) → f ≡ Nowhere → StatesKept d
+pub known_states : {d : Table} {f : Option ℕ} → f ≡ lowest_failing (state_kept d) (length d.states) → f ≡ None → StatesKept d
 known_states {d} p h = record { kept = failing_none (state_kept d) (length d.states) (sym p ∙ h) }
 
-node_none : (f g : Found) → commands_first f g ≡ Nowhere → (f ≡ Nowhere) × (g ≡ Nowhere)
-node_none (At n) g e = absurd (let z : ◌≡◌ {A = ℕ} 0 1 = cc in omega arith)
-node_none Nowhere (At n) e = absurd (let z : ◌≡◌ {A = ℕ} 0 1 = cc in omega arith)
-node_none Nowhere Nowhere e = (refl, refl)
+node_none : (f g : Option ℕ) → commands_first f g ≡ None → (f ≡ None) × (g ≡ None)
+node_none (Some n) g e = absurd (let z : ◌≡◌ {A = ℕ} 0 1 = cc in omega arith)
+node_none None (Some n) e = absurd (let z : ◌≡◌ {A = ℕ} 0 1 = cc in omega arith)
+node_none None None e = (refl, refl)
 
 -- ---- both loops over the nodes, and what is known and told where they found nothing
 nodes_told :
     {image c t u s v w p a q b : List ℕ} {x : Design}
-    → CommandsPassed (design_of image) Nowhere t u s v p a
-    → ExpressionsPassed (design_of image) Nowhere v w q b
+    → CommandsPassed (design_of image) None t u s v p a
+    → ExpressionsPassed (design_of image) None v w q b
     → t ≡ count_uses c (join_below (command_of (design_of image)) (length (design_of image).states))
     → NodesFresh x c s p q
     → Describes image x
@@ -119,7 +114,7 @@ nodes_told {image} {c} {s = s} commands expressions bodies fresh describes =
     }
 
 pub nodes_passed :
-    {image c t u s v w p a q b : List ℕ} {x : Design} {f g r : Found}
+    {image c t u s v w p a q b : List ℕ} {x : Design} {f g r : Option ℕ}
     → r ≡ commands_first f g
     → ExpressionsPassed (design_of image) g v w q b
     → CommandsPassed (design_of image) f t u s v p a
@@ -136,7 +131,7 @@ nodes_passed {image} {f = f} {g = g} first expressions commands fresh bodies des
 
 -- what they leave in their tables
 pub nodes_left_lem :
-    {d : Table} {t u s v w p a q b : List ℕ} {f g : Found} (c : List ℕ)
+    {d : Table} {t u s v w p a q b : List ℕ} {f g : Option ℕ} (c : List ℕ)
     → ExpressionsPassed d g v w q b
     → CommandsPassed d f t u s v p a
     → t ≡ count_uses c (join_below (command_of d) (length d.states))
@@ -157,11 +152,11 @@ nodes_left_lem {d} {s = s} c expressions commands bodies =
     )
     refl
 
-both_none : (d : Table) {f : Found} → f ≡ Nowhere → f ≡ lowest_node d (command_kept d) (expression_kept d) → (lowest_failing (command_kept d) (length d.commands) ≡ Nowhere) × (lowest_failing (expression_kept d) (length d.expressions) ≡ Nowhere)
+both_none : (d : Table) {f : Option ℕ} → f ≡ None → f ≡ lowest_node d (command_kept d) (expression_kept d) → (lowest_failing (command_kept d) (length d.commands) ≡ None) × (lowest_failing (expression_kept d) (length d.expressions) ≡ None)
 unfolding lowest_node
 both_none d h p = node_none (lowest_failing (command_kept d) (length d.commands)) (lowest_failing (expression_kept d) (length d.expressions)) (sym p ∙ h)
 
-pub known_nodes : {image : List ℕ} {x : Design} {f : Found} → f ≡ Nowhere → f ≡ lowest_node (design_of image) (command_kept (design_of image)) (expression_kept (design_of image)) → Describes image x → LatticeKept (design_of image) → RegistersKept (design_of image) → StatesKept (design_of image) → RecordsKept image x
+pub known_nodes : {image : List ℕ} {x : Design} {f : Option ℕ} → f ≡ None → f ≡ lowest_node (design_of image) (command_kept (design_of image)) (expression_kept (design_of image)) → Describes image x → LatticeKept (design_of image) → RegistersKept (design_of image) → StatesKept (design_of image) → RecordsKept image x
 known_nodes {image} h p describes lattice registers states =
     let d = design_of image in
     let none = both_none d h p in
@@ -174,7 +169,7 @@ known_nodes {image} h p describes lattice registers states =
       expressions = record { kept = failing_none (expression_kept d) (length d.expressions) none.1 };
     }
 
-pub known_told : {image u w a b : List ℕ} {x : Design} {f : Found} → f ≡ Nowhere → NodesPassed image x f u w a b → NodesTold image x u w a b
+pub known_told : {image u w a b : List ℕ} {x : Design} {f : Option ℕ} → f ≡ None → NodesPassed image x f u w a b → NodesTold image x u w a b
 known_told h passed = passed.told h
 
 -- a design whose nodes are few
@@ -190,14 +185,14 @@ pub shape_known : {image : List ℕ} {x : Design} → RecordsKept image x → Sh
 shape_known known = record { describes = known.describes; states = known.states; commands = known.commands }
 
 -- what is told for refusal 9
-pub falls_told : {d : Table} {f : Found} {old falls : List ℕ} → f ≡ Nowhere → ShapesPassed d f old falls → FallsTold d falls
+pub falls_told : {d : Table} {f : Option ℕ} {old falls : List ℕ} → f ≡ None → ShapesPassed d f old falls → FallsTold d falls
 falls_told h passed = passed.falls
 
 -- what is known and told once refusal 19 has found no state
-pub known_parameters : {d : Table} {f : Found} {old table : List ℕ} → f ≡ Nowhere → ParametersPassed d f old table → ParametersKept d
+pub known_parameters : {d : Table} {f : Option ℕ} {old table : List ℕ} → f ≡ None → ParametersPassed d f old table → ParametersKept d
 known_parameters {d} h passed = record { kept = failing_none (parameters_kept d) (length d.states) (sym passed.is ∙ h) }
 
-pub scopes_told : {d : Table} {f : Found} {old table : List ℕ} → f ≡ Nowhere → ParametersPassed d f old table → Scopes d table
+pub scopes_told : {d : Table} {f : Option ℕ} {old table : List ℕ} → f ≡ None → ParametersPassed d f old table → Scopes d table
 scopes_told h passed = passed.scopes h
 
 -- a plain design goes on to refusal 9
@@ -208,15 +203,6 @@ plain_passes known e h k = k ∙ rw (plain_ports known e h, plain_parameters kno
 -- a fresh table of scopes has an entry for each state
 pub scopes_fit : {image : List ℕ} {x : Design} → Describes image x → 3 * x.states ≤ 192
 scopes_fit d = let few = states_few d in omega arith
-
--- the last pass
-pub searched_refuses : (r : Refusal) (g : Found) {f : Found} {p : ℕ} → f ≡ g → f ≡ At p → Refused r p ≡ refused_at r g
-unfolding refused_at
-searched_refuses r g e h = rw (← e, h)
-
-pub searched_passes : (r : Refusal) (g : Found) {f : Found} → f ≡ g → f ≡ Nowhere → Accepted 0 ≡ refused_at r g
-unfolding refused_at
-searched_passes r g e h = rw (← e, h)
 
 -- ---- the whole
 pub directory_refuses : (image : List ℕ) {b : Bool} → b ≡ directory_kept image → not b ≡ true → Refused Directory 0 ≡ structure image
@@ -231,7 +217,7 @@ pub directory_keeps : (image : List ℕ) {b : Bool} → b ≡ directory_kept ima
 directory_keeps image {b} e h = (directory_iff image).0 (sym e ∙ not_false b h)
 
 -- the structure, and then the flow
-pub structure_refuses : (image : List ℕ) {a : Answer} {r : Refusal} {p : ℕ} → a ≡ structure image → a ≡ Refused r p → Refused r p ≡ verdict image
+pub structure_refuses : (image : List ℕ) {a : Answer} {why : RefusedAt} → a ≡ structure image → a ≡ Err why → Err why ≡ verdict image
 unfolding verdict ◌before◌
 structure_refuses image e h = rw (← e, h)
 

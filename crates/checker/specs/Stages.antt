@@ -1,7 +1,7 @@
 -- The image checks up to refusal 9, from each pass on, in the order of the table: each is the pass's refusal, if it has one, before all that follow.
 use Rattle.std.specs.Prelude.{ℕ, List, length}
 use Rattle.model.specs.declared.Refusal.TheVariants.{LabelRow, RegisterRecord, StateRecord, NodeRecord, NodeUse, Depth, Shape, ChildLabel, PortAssigned, Parameter}
-use Rattle.model.specs.declared.Answer.{Answer}
+use Rattle.model.specs.Answers.{Answer}
 use Rattle.model.specs.Indices.{lowest_failing}
 use Rattle.model.specs.Image.{Design}
 use Rattle.model.specs.Lattice.{label_kept}

@@ -1,15 +1,16 @@
 -- What a command's shape comes to, from what its parts come to: the laws that the recursion over parts cites, one for each kind of command.
+use Rattle.std.specs.Prelude.{Option}
+use Rattle.std.specs.Int.{from_bool}
 use Prim.Native.Nat.{ℕ, zero, suc, min, ◌+◌, ◌*◌, ◌/◌, ◌%◌, ◌≤◌, ◌<◌}
 use mathlib.Core.Logic.{◌⊎◌, inl, inr, ⊎_elim}
 use mathlib.Core.Path.{◌≡◌, refl, sym, ◌∙◌, ap}
-use mathlib.Core.Bool.{Bool, true, false, ◌&&◌, ◌||◌, not, beq}
+use mathlib.Core.Bool.{Bool, true, false, ◌&&◌, not, beq}
 use mathlib.Core.List.{List, ◌++◌}
 use native.Mathlib.Omega.{arith}
 use native.Mathlib.Decide.{ℕ_discrete}
 use lib.Dec.{eqb}
 use borrow.Author.Tests.{lt-ltb, eq-eqb, ne_eqb}
 use lib.ListN.{length, get_or, set}
-use Rattle.model.specs.declared.Found.{Found}
 use Rattle.model.specs.Indices.{lowest_of, join_below}
 use Rattle.model.specs.Limits.{commands_max}
 use Rattle.model.specs.Image.{Design as Table, Node, design_of, state_at, command_at}
@@ -26,13 +27,15 @@ use Rattle.model.proofs.Laws.Trees.{cmd_skip, cmd_assign, cmd_sequence, cmd_fall
 use native.Mathlib.Numerals.{add-one}
 use Rattle.design.specs.declared.Design.{Design}
 use Rattle.design.specs.Records.{node_in, state_in}
+use Rattle.design.specs.Describes.{Describes}
 use Rattle.design.specs.Kept.{StatesKept}
 use Rattle.design.specs.Resets.{Defaults, Filled}
 use Rattle.design.proofs.ResetRules.{filled_none, filled_within, filled_whole, alone, not_alone}
 use Rattle.design.proofs.Laws.{states_count, commands_count, commands_few}
-use Rattle.design.proofs.FieldRules.{parent_is, body_is, body_below, command_at_lem, command_place_inside, command_below, command_kind_of, item_is, a_is, b_is, c_is, command_holds_lem, named_state, sequence_a_below, sequence_b_below, branch_b_below, branch_c_below, lower_command}
+use Rattle.design.proofs.ResetRules.{parent_is}
+use Rattle.design.proofs.FieldRules.{body_is, body_below, command_at_lem, command_place_inside, command_below, command_kind_of, item_is, a_is, b_is, c_is, command_holds_lem, named_state, sequence_a_below, sequence_b_below, branch_b_below, branch_c_below, lower_command}
 use Rattle.checker_bodies.specs.Places.{place_unless, place_of, found_among}
-use Rattle.checker_bodies.specs.Shapes.{judged_of, judgement_of, number_of, body_number_of, falls_in, judgement_most, sequenced_as, branched_as, Judging, Going, ShapeKnown, with_falls, ShapesPassed}
+use Rattle.checker_bodies.specs.Shapes.{judged_of, judgement_of, number_of, body_number_of, falls_in, judgement_most, sequenced_as, branched_as, Judging, ShapeKnown, with_falls, ShapesPassed}
 use Rattle.checker_bodies.proofs.PlaceRules.{place_found, place_append, lowest_small, place_charged}
 
 -- ---- siblings
@@ -41,59 +44,29 @@ and_known true true c e = rw e
 and_known true false c e = refl
 and_known false b c e = refl
 
-module _ {image : List ℕ} {place s t : ℕ} (here : Going image place s t) where
+module _ {image : List ℕ} {x : Design} {s t : ℕ} (d : Describes image x) (state : s < x.states) (target : t < x.states) where
   pub sibling_rule :
       {p q : ℕ}
-      → p ≡ (state_in image place t).parent
-      → q ≡ (state_in image place s).parent
+      → p ≡ (state_in image x.states_at t).parent
+      → q ≡ (state_in image x.states_at s).parent
       → (not (eqb s 0) && not (eqb t 0) && eqb p q) ≡ sibling_or_self (design_of image) s t
   unfolding sibling_or_self is_child
   sibling_rule {p = y} {q = z} p q =
-      let d = design_of image in
-      let count = states_count here.target.describes in
-      let target = here.target.state in
-      let below : t < length d.states = omega arith in
-      let first = parent_is here.target p in
-      let second = parent_is here.state q in
-      and_known (not (eqb s 0)) (not (eqb t 0)) (eqb y z) (lt-ltb t (length d.states) below) ∙ rw (first, second)
-
--- ---- the number of a shape
--- in the code's order of calls
-module _ (n p q : ℕ) {first second parts own lowest r : ℕ} where
-  pub sequenced_rule :
-      {t u f g : Bool}
-      → first ≡ p / 4
-      → second ≡ q / 4
-      → parts ≡ min first second
-      → t ≡ eqb (p % 2) 1
-      → own ≡ place_unless (not t) n
-      → f ≡ falls_in p
-      → g ≡ falls_in q
-      → u ≡ eqb (q % 2) 1
-      → lowest ≡ min own parts
-      → r ≡ judgement_of u (f || g) lowest
-      → r ≡ sequenced_as n p q
-  sequenced_rule a b c d e x y f g h = rw (h, g, f, y, x, e, d, c, b, a)
-
-  pub branched_rule :
-      {t u f g : Bool}
-      → first ≡ p / 4
-      → second ≡ q / 4
-      → parts ≡ min first second
-      → t ≡ eqb (p % 2) 1
-      → u ≡ eqb (q % 2) 1
-      → own ≡ place_unless (beq t u) n
-      → f ≡ falls_in p
-      → g ≡ falls_in q
-      → lowest ≡ min own parts
-      → r ≡ judgement_of (t && u) (f || g) lowest
-      → r ≡ branched_as n p q
-  branched_rule a b c d e f x y g h = rw (h, g, y, x, f, e, d, c, b, a)
+      let count = states_count d in
+      let below : t < length (design_of image).states = omega arith in
+      let first = parent_is d target p in
+      let second = parent_is d state q in
+      and_known (not (eqb s 0)) (not (eqb t 0)) (eqb y z) (lt-ltb t (length (design_of image).states) below) ∙ rw (first, second)
 
 -- ---- what the number of a shape says
 -- its three parts
 parted : (a b l : ℕ) → a < 2 → b < 2 → ((4 * l + 2 * b + a) % 2 ≡ a) × ((4 * l + 2 * b + a) / 2 % 2 ≡ b) × ((4 * l + 2 * b + a) / 4 ≡ l)
 parted a b l h k = (omega arith, omega arith, omega arith)
+
+-- a truth as a number
+pub bool_number : (b : Bool) → from_bool b ≡ one_or_zero b
+bool_number true = refl
+bool_number false = refl
 
 mark_small : (b : Bool) → one_or_zero b < 2
 mark_small true = omega arith
@@ -183,46 +156,31 @@ plain_kind d n (suc (suc (suc (suc zero)))) x a b c e h = absurd (c refl)
 plain_kind d n (suc (suc (suc (suc (suc zero))))) x a b c e h = absurd (e refl)
 plain_kind d n (suc (suc (suc (suc (suc (suc k)))))) x a b c e h = absurd h
 
-module _ {image : List ℕ} {states place s n : ℕ} {childed : Bool} (j : Judging image states place s n childed) where
+module _ {image : List ℕ} {x : Design} {s n : ℕ} {childed : Bool} (j : Judging image x s n childed) where
   few : length (design_of image).commands ≤ commands_max
-  few = commands_few j.describes
+  few = commands_few j.command.describes
 
   -- a lower command of the same state
-  lower_node : (m : ℕ) → m < n → Judging image states place s m childed
+  lower_node : (m : ℕ) → m < n → Judging image x s m childed
   lower_node m l =
-      record {
-        design = j.design;
-        describes = j.describes;
-        commands = j.commands;
-        state = j.state;
-        command = lower_command j.command j.commands l;
-        children = j.children;
-        states_begin = j.states_begin;
-      }
+      record { commands = j.commands; state = j.state; command = lower_command j.command j.commands l; children = j.children }
 
   -- ---- the parts of a sequence and of an if
-  pub sequence_a : {k a : ℕ} → k ≡ 2 → k ≡ (node_in image place n).kind → a ≡ (node_in image place n).a → Judging image states place s a childed
+  pub sequence_a : {k a : ℕ} → k ≡ 2 → k ≡ (node_in image x.commands_at n).kind → a ≡ (node_in image x.commands_at n).a → Judging image x s a childed
   sequence_a {a = m} q p f = lower_node m (sequence_a_below j.command q p f)
 
-  pub sequence_b : {k b : ℕ} → k ≡ 2 → k ≡ (node_in image place n).kind → b ≡ (node_in image place n).b → Judging image states place s b childed
+  pub sequence_b : {k b : ℕ} → k ≡ 2 → k ≡ (node_in image x.commands_at n).kind → b ≡ (node_in image x.commands_at n).b → Judging image x s b childed
   sequence_b {b = m} q p f = lower_node m (sequence_b_below j.command q p f)
 
-  pub branch_b : {k b : ℕ} → k ≡ 5 → k ≡ (node_in image place n).kind → b ≡ (node_in image place n).b → Judging image states place s b childed
+  pub branch_b : {k b : ℕ} → k ≡ 5 → k ≡ (node_in image x.commands_at n).kind → b ≡ (node_in image x.commands_at n).b → Judging image x s b childed
   branch_b {b = m} q p f = lower_node m (branch_b_below j.command q p f)
 
-  pub branch_c : {k c : ℕ} → k ≡ 5 → k ≡ (node_in image place n).kind → c ≡ (node_in image place n).c → Judging image states place s c childed
+  pub branch_c : {k c : ℕ} → k ≡ 5 → k ≡ (node_in image x.commands_at n).kind → c ≡ (node_in image x.commands_at n).c → Judging image x s c childed
   branch_c {c = m} q p f = lower_node m (branch_c_below j.command q p f)
 
   -- the state that a goto names
-  pub goto_going : {k t : ℕ} → k ≡ 4 → k ≡ (node_in image place n).kind → t ≡ (node_in image place n).item → Going image states s t
-  goto_going q p f =
-      let count = states_count j.describes in
-      let below = named_state j.command q p f in
-      record {
-        design = j.design;
-        state = record { describes = j.describes; state = j.state; begins = j.states_begin };
-        target = record { describes = j.describes; state = omega arith; begins = j.states_begin };
-      }
+  pub goto_going : {k t : ℕ} → k ≡ 4 → k ≡ (node_in image x.commands_at n).kind → t ≡ (node_in image x.commands_at n).item → t < x.states
+  goto_going q p f = let count = states_count j.command.describes in let below = named_state j.command q p f in omega arith
 
   -- ---- what the command comes to
   pub charged_small : {f : ℕ} (b : Bool) → f ≡ place_unless b n → f ≤ commands_max
@@ -236,9 +194,9 @@ module _ {image : List ℕ} {states place s n : ℕ} {childed : Bool} (j : Judgi
   pub judged_sequence :
       {k a b r : ℕ} (p q : ℕ)
       → k ≡ 2
-      → k ≡ (node_in image place n).kind
-      → a ≡ (node_in image place n).a
-      → b ≡ (node_in image place n).b
+      → k ≡ (node_in image x.commands_at n).kind
+      → a ≡ (node_in image x.commands_at n).a
+      → b ≡ (node_in image x.commands_at n).b
       → r ≡ sequenced_as n p q
       → p ≡ number_of (judged_of (design_of image) s (cmd_of (design_of image) a))
       → q ≡ number_of (judged_of (design_of image) s (cmd_of (design_of image) b))
@@ -254,9 +212,9 @@ module _ {image : List ℕ} {states place s n : ℕ} {childed : Bool} (j : Judgi
   pub judged_branch :
       {k b c r : ℕ} (p q : ℕ)
       → k ≡ 5
-      → k ≡ (node_in image place n).kind
-      → b ≡ (node_in image place n).b
-      → c ≡ (node_in image place n).c
+      → k ≡ (node_in image x.commands_at n).kind
+      → b ≡ (node_in image x.commands_at n).b
+      → c ≡ (node_in image x.commands_at n).c
       → r ≡ branched_as n p q
       → p ≡ number_of (judged_of (design_of image) s (cmd_of (design_of image) b))
       → q ≡ number_of (judged_of (design_of image) s (cmd_of (design_of image) c))
@@ -271,11 +229,11 @@ module _ {image : List ℕ} {states place s n : ℕ} {childed : Bool} (j : Judgi
       ∙ rw (ep, eq, b_is j.command eb, c_is j.command ec, tree)
       (branch_number d s few (expr_of d (command_at d n).a) first second (command_below j.command) (cmd_numbered d (command_at d n).b) (cmd_numbered d (command_at d n).c))
 
-  pub judged_fall : {k f r : ℕ} → k ≡ 3 → k ≡ (node_in image place n).kind → f ≡ place_unless childed n → r ≡ judgement_of true true f → r ≡ number_of (judged_of (design_of image) s (cmd_of (design_of image) n))
+  pub judged_fall : {k f r : ℕ} → k ≡ 3 → k ≡ (node_in image x.commands_at n).kind → f ≡ place_unless childed n → r ≡ judgement_of true true f → r ≡ number_of (judged_of (design_of image) s (cmd_of (design_of image) n))
   unfolding command_kind
   judged_fall f e g h = h ∙ rw (g, j.children, cmd_fall (design_of image) n (command_kind_of j.command falls f e refl)) (fall_number (design_of image) s n)
 
-  pub judged_goto : {k t f r : ℕ} {b : Bool} → k ≡ 4 → k ≡ (node_in image place n).kind → t ≡ (node_in image place n).item → b ≡ sibling_or_self (design_of image) s t → f ≡ place_unless b n → r ≡ judgement_of true false f
+  pub judged_goto : {k t f r : ℕ} {b : Bool} → k ≡ 4 → k ≡ (node_in image x.commands_at n).kind → t ≡ (node_in image x.commands_at n).item → b ≡ sibling_or_self (design_of image) s t → f ≡ place_unless b n → r ≡ judgement_of true false f
       → r ≡ number_of (judged_of (design_of image) s (cmd_of (design_of image) n))
   unfolding command_kind
   judged_goto {t = t} {b = b} f e et eb g h =
@@ -284,7 +242,7 @@ module _ {image : List ℕ} {states place s n : ℕ} {childed : Bool} (j : Judgi
       ∙ rw (g, eb, item_is j.command et, cmd_goto (design_of image) n (command_kind_of j.command goes f e refl))
       (goto_number (design_of image) s n x.item x.a x.b)
 
-  pub judged_plain : {k r : ℕ} → k ≡ (node_in image place n).kind → (k ≡ 2 → ⊥) → (k ≡ 3 → ⊥) → (k ≡ 4 → ⊥) → (k ≡ 5 → ⊥) → r ≡ judgement_of false false commands_max
+  pub judged_plain : {k r : ℕ} → k ≡ (node_in image x.commands_at n).kind → (k ≡ 2 → ⊥) → (k ≡ 3 → ⊥) → (k ≡ 4 → ⊥) → (k ≡ 5 → ⊥) → r ≡ judgement_of false false commands_max
       → r ≡ number_of (judged_of (design_of image) s (cmd_of (design_of image) n))
   judged_plain {k} e a b c f g =
       let d = design_of image in
@@ -310,16 +268,13 @@ module _ {image : List ℕ} {x : Design} (known : ShapeKnown image x) where
       let below : s < length (design_of image).states = omega arith in
       e ∙ ap (λ (t : ℕ). not (eqb t s)) (told.entry s below) ∙ own_default (design_of image) known.states s below
 
-  pub body_judging : {table : List ℕ} {s n : ℕ} {b : Bool} → Defaults (design_of image) table → s < x.states → n ≡ (state_in image x.states_at s).command → b ≡ not (eqb (get_or table s 0) s) → Judging image x.states_at x.commands_at s n b
+  pub body_judging : {table : List ℕ} {s n : ℕ} {b : Bool} → Defaults (design_of image) table → s < x.states → n ≡ (state_in image x.states_at s).command → b ≡ not (eqb (get_or table s 0) s) → Judging image x s n b
   body_judging told l e h =
       record {
-        design = x;
-        describes = known.describes;
         commands = known.commands;
         state = l;
         command = command_at_lem known.describes known.commands (body_below known.describes l e known.states) refl;
         children = child_told told l h;
-        states_begin = refl;
       }
 
   command_low : (s : ℕ) → s < length (design_of image).states → (state_at (design_of image) s).command < length (design_of image).commands
@@ -395,14 +350,14 @@ lowest_one_more {image} {x} {s} {so} {r} {place} here known before l shaped e h 
           (place_append (join_below (state_shape_faults d) s) (state_shape_faults d s) (below_more few (all_low known s (omega arith))) (faults_low known s (omega arith)));
     }
 
-pub falls_one_more : {d : Table} {old now : List ℕ} {m s v : ℕ} {f : Bool} (here : ℕ) → FallsSo d old s now → here ≡ body_number_of d s → m ≤ length old → s < m → f ≡ falls_in here → v ≡ one_or_zero f → FallsSo d old (s + 1) (set now s v)
-falls_one_more {d} {s = s} here so shaped long l e h = record { filled = filled_within so.filled long l (h ∙ ap one_or_zero (e ∙ ap falls_in shaped ∙ (body_reads d s).0)) }
+pub falls_one_more : {d : Table} {old now : List ℕ} {m s v : ℕ} {f : Bool} (here : ℕ) → FallsSo d old s now → here ≡ body_number_of d s → m ≤ length old → s < m → f ≡ falls_in here → v ≡ from_bool f → FallsSo d old (s + 1) (set now s v)
+falls_one_more {d} {s = s} here so shaped long l e h = record { filled = filled_within so.filled long l (h ∙ bool_number _ ∙ ap one_or_zero (e ∙ ap falls_in shaped ∙ (body_reads d s).0)) }
 
 pub fall_inside : {d : Table} {old now : List ℕ} {m s : ℕ} → FallsSo d old s now → m ≤ length old → s < m → s < length now
 fall_inside so long l = let same = so.filled.long in omega arith
 
 pub shapes_passed :
-    {image old now : List ℕ} {x : Design} {s place : ℕ} {r : Found}
+    {image old now : List ℕ} {x : Design} {s place : ℕ} {r : Option ℕ}
     → ShapeKnown image x
     → LowestSo (design_of image) s place
     → FallsSo (design_of image) old s now

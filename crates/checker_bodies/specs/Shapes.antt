@@ -1,7 +1,6 @@
 -- What the pass for refusal 8 knows and finds at a command.
-use Rattle.std.specs.Prelude.{ℕ, min, ◌+◌, ◌*◌, ◌/◌, ◌%◌, ◌<◌, ◌≡◌, Bool, true, ◌&&◌, ◌||◌, not, List, eqb, length}
+use Rattle.std.specs.Prelude.{ℕ, min, ◌+◌, ◌*◌, ◌/◌, ◌%◌, ◌<◌, ◌≡◌, Bool, true, ◌&&◌, ◌||◌, not, List, eqb, length, Option}
 use Rattle.std.specs.Bool.{beq}
-use Rattle.model.specs.declared.Found.{Found}
 use Rattle.model.specs.Indices.{lowest_of, filled_to}
 use Rattle.model.specs.Limits.{commands_max}
 use Rattle.model.specs.Image.{design_of, Design as Table}
@@ -11,17 +10,18 @@ use Rattle.model.specs.Values.{one_or_zero}
 use Rattle.model.specs.Shape.{transfers, shape_faults, state_shape_faults, shape_fault}
 use Rattle.model.specs.Falls.{holds_fall}
 use Rattle.design.specs.declared.Design.{Design}
+use Rattle.design.specs.declared.image.Image.{Image}
 use Rattle.design.specs.Describes.{Describes}
 use Rattle.design.specs.Falls.{FallsTold}
 use Rattle.design.specs.Kept.{StatesKept, CommandsKept}
-use Rattle.design.specs.RecordsAt.{StateAt, CommandAt}
+use Rattle.design.specs.RecordsAt.{CommandAt}
 use Rattle.checker_bodies.specs.Places.{place_unless, place_of}
 
 -- what a command's shape comes to: whether it transfers, whether it holds a fall, and the lowest node that breaks a rule
 pub record Judged : Type 0 where
   pub transfers : Bool
   pub falls : Bool
-  pub lowest : Found
+  pub lowest : Option ℕ
 
 unfoldable pub judged_of : Table → ℕ → Cmd → Judged
 judged_of d s c = record { transfers = transfers c; falls = holds_fall c; lowest = lowest_of (shape_faults d s c) }
@@ -54,20 +54,11 @@ branched_as n p q =
     judgement_of (eqb (p % 2) 1 && eqb (q % 2) 1) (falls_in p || falls_in q) (min (place_unless (beq (eqb (p % 2) 1) (eqb (q % 2) 1)) n) (min (p / 4) (q / 4)))
 
 -- what is known where command n of state s is judged; the recursion has the places of a design instead of the design
-pub record Judging (image : List ℕ) (states_at commands_at s n : ℕ) (child : Bool) : Type 0 where
-  pub design : Design
-  pub describes : Describes image design
+pub record Judging (image : List ℕ) (x : Design) (s n : ℕ) (child : Bool) : Type 0 where
   pub commands : CommandsKept (design_of image)
-  pub state : s < design.states
-  pub command : CommandAt image design commands_at n
+  pub state : s < x.states
+  pub command : CommandAt image x x.commands_at n
   pub children : child ≡ has_child (design_of image) s
-  pub states_begin : states_at ≡ design.states_at
-
--- and where a command of state s goes to state t
-pub record Going (image : List ℕ) (states_at s t : ℕ) : Type 0 where
-  pub design : Design
-  pub state : StateAt image design states_at s
-  pub target : StateAt image design states_at t
 
 -- what the passes up to refusal 5 have established, and the shape pass needs
 pub record ShapeKnown (image : List ℕ) (x : Design) : Type 0 where
@@ -80,7 +71,14 @@ unfoldable pub with_falls : Table → List ℕ → List ℕ
 with_falls d old = filled_to (λ s. one_or_zero (holds_fall (body_of d s))) (length d.states) old
 
 -- what the pass found, and the table that it filled
-pub record ShapesPassed (d : Table) (found : Found) (old table : List ℕ) : Type 0 where
+pub record ShapesPassed (d : Table) (found : Option ℕ) (old table : List ℕ) : Type 0 where
   pub is : found ≡ shape_fault d
   pub table_is : table ≡ with_falls d old
   pub falls : FallsTold d table
+
+-- ---- the same, of an `Image`
+abbrev pub JudgingIn : Image → ℕ → ℕ → Bool → Type 0
+JudgingIn image s n child = Judging image.bytes.now image.design s n child
+
+abbrev pub ShapeKnownIn : Image → Type 0
+ShapeKnownIn image = ShapeKnown image.bytes.now image.design

@@ -1,10 +1,9 @@
 // The place of a fault as a plain number, which a recursion hands back in one register of the
 // processor; an enum would go through memory at every node.
-ghost use Rattle.std.specs.Prelude.{min, ◌≡◌};
-ghost use Rattle.checker_bodies.specs.Places.{place_unless, found_among};
+ghost use Rattle.std.specs.Prelude.{cond, min, ◌≡◌};
+ghost use Rattle.checker_bodies.specs.Places.{found_among};
 
 use design::Design;
-use model::Found;
 
 // No place: it is past every command.
 pub const NOWHERE: usize = Design::COMMANDS;
@@ -16,22 +15,22 @@ pub fn lower(a: usize, b: usize) -> usize
     if b < a { b } else { a }
 }
 
-// The command's own place, unless its rule is kept.
-pub fn charged_unless(kept: bool, n: usize) -> usize
-    ensures { result ≡ place_unless kept n }
+// A node's own place, unless its rule is kept; no place is the one that is given, past all that a pass can charge.
+pub fn charged_unless(kept: bool, n: usize, nowhere: usize) -> usize
+    ensures { result ≡ cond kept nowhere n }
 {
     if kept {
-        return NOWHERE;
+        return nowhere;
     }
     n
 }
 
 // What a place says, among so many commands.
-pub fn found(place: usize, commands: usize) -> Found
+pub fn found(place: usize, commands: usize) -> Option<usize>
     ensures { result ≡ found_among commands place }
 {
     if place < commands {
-        return Found::At(place);
+        return Some(place);
     }
-    Found::Nowhere
+    None
 }

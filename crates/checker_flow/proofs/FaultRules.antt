@@ -8,8 +8,7 @@ use native.Mathlib.Numerals.{add-one}
 use lib.Bits.{bit_and}
 use lib.ListN.{length, get_or}
 use Rattle.model.specs.declared.Refusal.{Refusal}
-use Rattle.model.specs.declared.Answer.{Answer}
-use Rattle.model.specs.declared.Answer.TheVariants.{Accepted}
+use Rattle.model.specs.Answers.{Answer, Accepted}
 use Rattle.model.specs.Limits.{commands_max}
 use Rattle.model.specs.Indices.{join_below}
 use Rattle.model.specs.Image.{Design as Table, Node, design_of, command_at}
@@ -43,8 +42,8 @@ use Rattle.checker_flow.proofs.FlowKinds.{sequence_tree, sequence_first, sequenc
 pub record Says (d : Table) (labels masks : List ℕ) (s n : ℕ) : Type 0 where
   pub first : (context : ℕ) (from : List ℕ) → MaskOf d s from context → FirstAt d (flow_place d labels masks s context (cmd_of d n)) (flow_faults (relabelled d labels) s from (cmd_of d n))
 
-module _ {image labels masks : List ℕ} {states_at place expressions_at s own : ℕ} where
-  module _ {n : ℕ} (flowing : Flowing image labels masks states_at place expressions_at s own n) (below : (m : ℕ) → m < n → Flowing image labels masks states_at place expressions_at s own m → Says (design_of image) labels masks s m) where
+module _ {image labels masks : List ℕ} {x : Design} {s own : ℕ} where
+  module _ {n : ℕ} (flowing : Flowing image labels masks x s own n) (below : (m : ℕ) → m < n → Flowing image labels masks x s own m → Says (design_of image) labels masks s m) where
     abbrev d : Table
     d = design_of image
 
@@ -57,7 +56,7 @@ module _ {image labels masks : List ℕ} {states_at place expressions_at s own :
     charged : {r : Refusal} (b : Bool) → flow_refusal (command_kind (command_at d n).kind) ≡ r → FirstAt d (place_unless b n) (refused_unless b r n)
     charged b e = first_charged d b (command_below flowing.command) few_commands e
 
-    says_skip : {k : ℕ} → k ≡ (node_in image place n).kind → (k ≡ 1 → ⊥) → (k ≡ 2 → ⊥) → (k ≡ 3 → ⊥) → (k ≡ 4 → ⊥) → (k ≡ 5 → ⊥) → Says (design_of image) labels masks s n
+    says_skip : {k : ℕ} → k ≡ (node_in image x.commands_at n).kind → (k ≡ 1 → ⊥) → (k ≡ 2 → ⊥) → (k ≡ 3 → ⊥) → (k ≡ 4 → ⊥) → (k ≡ 5 → ⊥) → Says (design_of image) labels masks s n
     unfolding flow_place flow_faults
     says_skip byte a b c e f =
         record {
@@ -65,7 +64,7 @@ module _ {image labels masks : List ℕ} {states_at place expressions_at s own :
               rw (skip_tree flowing byte a b c e f) (first_nowhere d few_commands);
         }
 
-    says_assign : 1 ≡ (node_in image place n).kind → Says (design_of image) labels masks s n
+    says_assign : 1 ≡ (node_in image x.commands_at n).kind → Says (design_of image) labels masks s n
     unfolding command_kind flow_place assign_place flow_faults flow_refusal
     says_assign byte =
         record {
@@ -83,13 +82,13 @@ module _ {image labels masks : List ℕ} {states_at place expressions_at s own :
               rw (tree, ← same) (charged (has_bit (bit_and context (mask_read labels masks e)) (label_in labels r)) (ap flow_refusal kind));
         }
 
-    says_sequence : 2 ≡ (node_in image place n).kind → Says (design_of image) labels masks s n
+    says_sequence : 2 ≡ (node_in image x.commands_at n).kind → Says (design_of image) labels masks s n
     unfolding flow_place flow_faults
     says_sequence byte =
         record {
           first = λ context from mask.
-              let a = (node_in image place n).a in
-              let b = (node_in image place n).b in
+              let a = (node_in image x.commands_at n).a in
+              let b = (node_in image x.commands_at n).b in
               let at = flowing.command in
               rw (sequence_tree flowing refl byte refl refl)
               (first_both
@@ -100,7 +99,7 @@ module _ {image labels masks : List ℕ} {states_at place expressions_at s own :
               ((below b (sequence_b_below at refl byte refl) (sequence_second flowing refl byte refl refl)).first context from mask));
         }
 
-    says_fall : 3 ≡ (node_in image place n).kind → Says (design_of image) labels masks s n
+    says_fall : 3 ≡ (node_in image x.commands_at n).kind → Says (design_of image) labels masks s n
     unfolding command_kind flow_place flow_faults flow_refusal
     says_fall byte =
         record {
@@ -110,7 +109,7 @@ module _ {image labels masks : List ℕ} {states_at place expressions_at s own :
               rw (cmd_fall d n kind, ← same) (charged (has_bit context (state_label d s)) (ap flow_refusal kind));
         }
 
-    says_goto : 4 ≡ (node_in image place n).kind → Says (design_of image) labels masks s n
+    says_goto : 4 ≡ (node_in image x.commands_at n).kind → Says (design_of image) labels masks s n
     unfolding command_kind flow_place flow_faults flow_refusal
     says_goto byte =
         record {
@@ -121,14 +120,14 @@ module _ {image labels masks : List ℕ} {states_at place expressions_at s own :
               rw (cmd_goto d n kind, ← same) (charged (has_bit context named) (ap flow_refusal kind));
         }
 
-    says_branch : 5 ≡ (node_in image place n).kind → Says (design_of image) labels masks s n
+    says_branch : 5 ≡ (node_in image x.commands_at n).kind → Says (design_of image) labels masks s n
     unfolding flow_place flow_faults
     says_branch byte =
         record {
           first = λ context from mask.
-              let e = (node_in image place n).a in
-              let b = (node_in image place n).b in
-              let c = (node_in image place n).c in
+              let e = (node_in image x.commands_at n).a in
+              let b = (node_in image x.commands_at n).b in
+              let c = (node_in image x.commands_at n).c in
               let at = flowing.command in
               let inner = bit_and context (mask_read labels masks (expr_of d e)) in
               let around = from ++ labels_read under (expr_of d e) in
@@ -143,9 +142,9 @@ module _ {image labels masks : List ℕ} {states_at place expressions_at s own :
         }
 
     says_one : Says (design_of image) labels masks s n
-    says_one = go (node_in image place n).kind refl
+    says_one = go (node_in image x.commands_at n).kind refl
       where
-        go : (k : ℕ) → k ≡ (node_in image place n).kind → Says (design_of image) labels masks s n
+        go : (k : ℕ) → k ≡ (node_in image x.commands_at n).kind → Says (design_of image) labels masks s n
         go zero byte = says_skip byte (λ z. omega arith) (λ z. omega arith) (λ z. omega arith) (λ z. omega arith) (λ z. omega arith)
         go (suc zero) byte = says_assign byte
         go (suc (suc zero)) byte = says_sequence byte
@@ -154,11 +153,11 @@ module _ {image labels masks : List ℕ} {states_at place expressions_at s own :
         go (suc (suc (suc (suc (suc zero))))) byte = says_branch byte
         go (suc (suc (suc (suc (suc (suc k)))))) byte = says_skip byte (λ z. omega arith) (λ z. omega arith) (λ z. omega arith) (λ z. omega arith) (λ z. omega arith)
 
-  says_below : (f n : ℕ) → n < f → Flowing image labels masks states_at place expressions_at s own n → Says (design_of image) labels masks s n
+  says_below : (f n : ℕ) → n < f → Flowing image labels masks x s own n → Says (design_of image) labels masks s n
   says_below zero n l flowing = absurd (nothing_below_zero l)
   says_below (suc f) n l flowing = says_one flowing (λ m h. says_below f m (omega arith))
 
-  first_fault : {n : ℕ} → Flowing image labels masks states_at place expressions_at s own n → Says (design_of image) labels masks s n
+  first_fault : {n : ℕ} → Flowing image labels masks x s own n → Says (design_of image) labels masks s n
   first_fault {n} flowing = says_below (suc n) n (omega arith) flowing
 
 -- ---- the body of a state, whose context is its label

@@ -12,8 +12,7 @@ use lib.ListN.{length, get_or}
 use borrow.Author.Tests.{lt-ltb, le-ltb}
 use Rattle.model.specs.declared.Refusal.{Refusal}
 use Rattle.model.specs.declared.Refusal.TheVariants.{AssignFlow, GotoFlow, FallFlow}
-use Rattle.model.specs.declared.Answer.{Answer}
-use Rattle.model.specs.declared.Answer.TheVariants.{Accepted, Refused}
+use Rattle.model.specs.Answers.{Answer, Accepted, Refused}
 use Rattle.model.specs.Image.{Design as Table, Node, design_of, command_at, expression_at, constant_of}
 use Rattle.model.specs.Limits.{registers_max, commands_max}
 use Rattle.model.specs.Kinds.{Operation, ExpressionKind, constants, reads, operates, unknown_expression, command_kind, expression_kind}
@@ -33,7 +32,7 @@ use Rattle.design.specs.declared.Design.{Design}
 use Rattle.design.specs.Records.{node_in}
 use Rattle.design.specs.Describes.{Describes}
 use Rattle.design.proofs.Laws.{commands_count, expressions_count, command_in, registers_few}
-use Rattle.design.proofs.FieldRules.{same_command, item_is, a_is, assigned_byte, assigned_expression, expression_at_lem, expression_place_inside, expression_kind_is, read_is, first_is, second_is, expression_holds_lem, read_byte, operation, operand_a_below, operand_b_below, lower_expression}
+use Rattle.design.proofs.FieldRules.{same_command, item_is, a_is, assigned_byte, assigned_expression, expression_at_lem, expression_kind_is, read_is, first_is, second_is, expression_holds_lem, read_byte, operation, operand_a_below, operand_b_below, lower_expression}
 use Rattle.design.proofs.BoundRules.{labels_few}
 use Rattle.checker_bodies.specs.Places.{place_unless}
 use Rattle.checker_flow.specs.Masks.{all_bits, MaskOf, Masks}
@@ -139,31 +138,31 @@ labels_constant : (d : Table) (v : ℕ) → labels_read d (constant v) ≡ []
 unfolding labels_read registers_read
 labels_constant d v = refl
 
-module _ {image labels : List ℕ} {place e : ℕ} (here : Gathering image labels place e) where
+module _ {image labels : List ℕ} {x : Design} {e : ℕ} (here : Gathering image labels x e) where
   abbrev d : Table
   d = design_of image
 
   few : length (design_of image).registers ≤ registers_max
   few = registers_few here.known.describes
 
-  pub read_entered : {k r : ℕ} → k ≡ 1 → k ≡ (node_in image place e).kind → r ≡ (node_in image place e).item → Entered labels r
+  pub read_entered : {k r : ℕ} → k ≡ 1 → k ≡ (node_in image x.expressions_at e).kind → r ≡ (node_in image x.expressions_at e).item → Entered labels r
   read_entered q p f = byte_entered few here.labelling (read_byte here.expression q p f)
 
-  pub read_label_inside : {k r : ℕ} → k ≡ 1 → k ≡ (node_in image place e).kind → r ≡ (node_in image place e).item → label_in labels r < 18
+  pub read_label_inside : {k r : ℕ} → k ≡ 1 → k ≡ (node_in image x.expressions_at e).kind → r ≡ (node_in image x.expressions_at e).item → label_in labels r < 18
   read_label_inside q p f = byte_label_small few here.labelling (labels_few here.known.describes) (read_byte here.expression q p f)
 
-  lower_gathering : (m : ℕ) → m < e → Gathering image labels place m
+  lower_gathering : (m : ℕ) → m < e → Gathering image labels x m
   lower_gathering m l =
-      record { design = here.design; known = here.known; labelling = here.labelling; expression = lower_expression here.expression here.known.expressions l }
+      record { known = here.known; labelling = here.labelling; expression = lower_expression here.expression here.known.expressions l }
 
-  pub operand_a_gathering : {k a : ℕ} → k < expression_kinds → 1 ≤ k → (k ≡ 1 → ⊥) → k ≡ (node_in image place e).kind → a ≡ (node_in image place e).a → Gathering image labels place a
+  pub operand_a_gathering : {k a : ℕ} → k < expression_kinds → 1 ≤ k → (k ≡ 1 → ⊥) → k ≡ (node_in image x.expressions_at e).kind → a ≡ (node_in image x.expressions_at e).a → Gathering image labels x a
   operand_a_gathering {a = a} u l other p f = lower_gathering a (operand_a_below here.expression u l other p f)
 
-  pub operand_b_gathering : {k b : ℕ} → k < expression_kinds → 1 ≤ k → (k ≡ 1 → ⊥) → k ≡ (node_in image place e).kind → b ≡ (node_in image place e).b → Gathering image labels place b
+  pub operand_b_gathering : {k b : ℕ} → k < expression_kinds → 1 ≤ k → (k ≡ 1 → ⊥) → k ≡ (node_in image x.expressions_at e).kind → b ≡ (node_in image x.expressions_at e).b → Gathering image labels x b
   operand_b_gathering {b = b} u l other p f = lower_gathering b (operand_b_below here.expression u l other p f)
 
   -- ---- what is read
-  pub gathers_register : (masks : List ℕ) {k r m : ℕ} → k ≡ 1 → k ≡ (node_in image place e).kind → r ≡ (node_in image place e).item → m ≡ get_or masks (label_in labels r) 0 → m ≡ mask_read labels masks (expr_of (design_of image) e)
+  pub gathers_register : (masks : List ℕ) {k r m : ℕ} → k ≡ 1 → k ≡ (node_in image x.expressions_at e).kind → r ≡ (node_in image x.expressions_at e).item → m ≡ get_or masks (label_in labels r) 0 → m ≡ mask_read labels masks (expr_of (design_of image) e)
   unfolding expression_kind mask_read
   gathers_register masks q p f g =
       let tree = expr_register d e (ap expression_kind (expression_kind_is here.expression p ∙ q)) in
@@ -174,9 +173,9 @@ module _ {image labels : List ℕ} {place e : ℕ} (here : Gathering image label
       → k < expression_kinds
       → 1 ≤ k
       → (k ≡ 1 → ⊥)
-      → k ≡ (node_in image place e).kind
-      → a ≡ (node_in image place e).a
-      → b ≡ (node_in image place e).b
+      → k ≡ (node_in image x.expressions_at e).kind
+      → a ≡ (node_in image x.expressions_at e).a
+      → b ≡ (node_in image x.expressions_at e).b
       → m ≡ mask_read labels masks (expr_of (design_of image) a)
       → n ≡ mask_read labels masks (expr_of (design_of image) b)
       → bit_and m n ≡ mask_read labels masks (expr_of (design_of image) e)
@@ -190,24 +189,24 @@ module _ {image labels : List ℕ} {place e : ℕ} (here : Gathering image label
       let tree : expr_of d e ≡ binary o.0 (expr_of d a) (expr_of d b) = rw (is, is') (expr_binary d e o.1 lower lower') in
       ap₂ bit_and first second ∙ sym (ap (mask_read labels masks) tree)
 
-  pub gathers_low : (masks : List ℕ) {k : ℕ} → k < 1 → k ≡ (node_in image place e).kind → all_bits ≡ mask_read labels masks (expr_of (design_of image) e)
+  pub gathers_low : (masks : List ℕ) {k : ℕ} → k < 1 → k ≡ (node_in image x.expressions_at e).kind → all_bits ≡ mask_read labels masks (expr_of (design_of image) e)
   unfolding mask_read
   gathers_low masks l p =
       let none = expression_kind_is here.expression p in
       sym (ap (mask_read labels masks) (expr_constant d e (kind_constants (omega arith))))
 
   -- no number from here on is a kind
-  pub gathers_high : (masks : List ℕ) {k : ℕ} → expression_kinds ≤ k → k ≡ (node_in image place e).kind → all_bits ≡ mask_read labels masks (expr_of (design_of image) e)
+  pub gathers_high : (masks : List ℕ) {k : ℕ} → expression_kinds ≤ k → k ≡ (node_in image x.expressions_at e).kind → all_bits ≡ mask_read labels masks (expr_of (design_of image) e)
   gathers_high masks l p = absurd (rw (no_expression_kind l) at (expression_holds_lem here.expression p))
 
-pub ruleset reads_laws = (expression_place_inside, read_entered, read_label_inside, gathers_register, gathers_operation, gathers_low, gathers_high)
+pub ruleset reads_laws = (read_entered, read_label_inside, gathers_register, gathers_operation, gathers_low, gathers_high)
 
 -- that mask is a mask of the labels read, in each state in which the expression may stand
 abbrev Read : Table → List ℕ → List ℕ → ℕ → ℕ → Type 0
 Read y labels masks s e = ReadsScoped y s (expr_of y e) → MaskOf y s (labels_read (relabelled y labels) (expr_of y e)) (mask_read labels masks (expr_of y e))
 
 module _ {image : List ℕ} (labels : List ℕ) {masks : List ℕ} {s : ℕ} (table : Masks (design_of image) s masks) where
-  read_one : (e : ℕ) {place : ℕ} → Gathering image labels place e → ((m : ℕ) → m < e → Read (design_of image) labels masks s m) → Read (design_of image) labels masks s e
+  read_one : (e : ℕ) {x : Design} → Gathering image labels x e → ((m : ℕ) → m < e → Read (design_of image) labels masks s m) → Read (design_of image) labels masks s e
   unfolding mask_read
   read_one e here below scoped = go (expression_kind (expression_at (design_of image) e).kind) refl ((expression_iff (design_of image) e).0 here.expression.kept)
     where
@@ -227,50 +226,49 @@ module _ {image : List ℕ} (labels : List ℕ) {masks : List ℕ} {s : ℕ} (ta
           rw (tree, labels_binary (relabelled (design_of image) labels) o (expr_of (design_of image) (expression_at (design_of image) e).a) (expr_of (design_of image) (expression_at (design_of image) e).b)) (mask_both (below (expression_at (design_of image) e).a holds.1 parts.0) (below (expression_at (design_of image) e).b holds.2 parts.1))
       go unknown_expression is holds = absurd holds
 
-  read_below : (f e : ℕ) {place : ℕ} → e < f → Gathering image labels place e → Read (design_of image) labels masks s e
+  read_below : (f e : ℕ) {x : Design} → e < f → Gathering image labels x e → Read (design_of image) labels masks s e
   read_below zero e l here = absurd (nothing_below_zero l)
   read_below (suc f) e l here = read_one e here (λ m h. read_below f m (omega arith) (lower_gathering here m h))
 
-  pub read_is_mask : (e : ℕ) {place : ℕ} → Gathering image labels place e → ReadsScoped (design_of image) s (expr_of (design_of image) e)
+  pub read_is_mask : (e : ℕ) {x : Design} → Gathering image labels x e → ReadsScoped (design_of image) s (expr_of (design_of image) e)
       → MaskOf (design_of image) s (labels_read (relabelled (design_of image) labels) (expr_of (design_of image) e)) (mask_read labels masks (expr_of (design_of image) e))
   read_is_mask e here = read_below (suc e) e (omega arith) here
 
 -- ---- an assignment
-module _ {image labels : List ℕ} {place expressions_at n : ℕ} (a : Assigning image labels place expressions_at n) where
+module _ {image labels : List ℕ} {x : Design} {n : ℕ} (a : Assigning image labels x n) where
   abbrev y : Table
   y = design_of image
 
   -- the kind byte
-  assigns_byte : (node_in image place n).kind ≡ 1
+  assigns_byte : (node_in image x.commands_at n).kind ≡ 1
   assigns_byte = ap (λ (y : Node). y.kind) (same_command a.command) ∙ a.kind
 
   assigned_few : length (design_of image).registers ≤ registers_max
   assigned_few = registers_few a.known.describes
 
-  written_byte : {r : ℕ} → r ≡ (node_in image place n).item → RegisterByte (design_of image) r
+  written_byte : {r : ℕ} → r ≡ (node_in image x.commands_at n).item → RegisterByte (design_of image) r
   written_byte f = assigned_byte a.command assigns_byte refl f
 
-  pub assigned_entered : {r : ℕ} → r ≡ (node_in image place n).item → Entered labels r
+  pub assigned_entered : {r : ℕ} → r ≡ (node_in image x.commands_at n).item → Entered labels r
   assigned_entered f = byte_entered assigned_few a.labelling (written_byte f)
 
-  pub assigned_label_small : {r l : ℕ} → r ≡ (node_in image place n).item → l ≡ label_in labels r → l < 64
+  pub assigned_label_small : {r l : ℕ} → r ≡ (node_in image x.commands_at n).item → l ≡ label_in labels r → l < 64
   assigned_label_small f g = let small = byte_label_small assigned_few a.labelling (labels_few a.known.describes) (written_byte f) in omega arith
 
-  pub assigned_gathering : {e : ℕ} → e ≡ (node_in image place n).a → Gathering image labels expressions_at e
+  pub assigned_gathering : {e : ℕ} → e ≡ (node_in image x.commands_at n).a → Gathering image labels x e
   assigned_gathering f =
       let count = expressions_count a.known.describes in
       let below = assigned_expression a.command assigns_byte refl f in
       record {
-        design = a.design;
         known = a.known;
         labelling = a.labelling;
-        expression = expression_at_lem a.known.describes a.known.expressions (omega arith) a.expressions_begin;
+        expression = expression_at_lem a.known.describes a.known.expressions (omega arith) refl;
       }
 
   pub assign_rule :
       (masks : List ℕ) (context : ℕ) {r e l m : ℕ} {b : Bool} {answer : ℕ}
-      → r ≡ (node_in image place n).item
-      → e ≡ (node_in image place n).a
+      → r ≡ (node_in image x.commands_at n).item
+      → e ≡ (node_in image x.commands_at n).a
       → m ≡ mask_read labels masks (expr_of (design_of image) e)
       → l ≡ label_in labels r
       → b ≡ has_bit (bit_and context m) l

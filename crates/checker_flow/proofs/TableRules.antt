@@ -27,7 +27,7 @@ use Rattle.design.specs.Records.{row_in}
 use Rattle.design.specs.Kept.{RecordsKept, ParametersKept}
 use Rattle.design.specs.Scopes.{LabelByte, NoParameters}
 use Rattle.design.proofs.Laws.{labels_count, labels_most, states_count, row_in_lem}
-use Rattle.design.proofs.ResetRules.{Filled, filled_none, filled_within, filled_to_lem, filled_whole}
+use Rattle.design.proofs.ResetRules.{Filled, filled_within, filled_to_lem, filled_whole}
 use Rattle.design.proofs.BoundRules.{scopes_short, labels_few, bounds_of, pair_in_scope}
 use Rattle.checker_flow.specs.Masks.{MaskOf, Masks, Rows, widened, with_rows, with_own, lower_in_scope, upper_in_scope}
 use Rattle.checker_flow.proofs.MaskRules.{mask_one, low_bit}
@@ -128,9 +128,6 @@ module _ (d : Table) (s : ℕ) where
 pub record RowsSo (d : Table) (first second i : ℕ) (old masks : List ℕ) : Type 0 where
   pub filled : Filled (λ l. widened (get_or d.rows l 0) first second) old i masks
 
-pub rows_none : (d : Table) (first second : ℕ) {old : List ℕ} → RowsSo d first second 0 old old
-rows_none d first second = record { filled = filled_none }
-
 module _ {image : List ℕ} {x : Design} (known : RecordsKept image x) where
   row_small : (l : ℕ) → l < length (design_of image).rows → get_or (design_of image).rows l 0 < 65536
   row_small l h = lt_of_lt_of_le (known.lattice.lattice.inside l h) (pow_mono (labels_few known.describes))
@@ -140,9 +137,6 @@ module _ {image : List ℕ} {x : Design} (known : RecordsKept image x) where
 
   pub label_small : {l : ℕ} → l < length (design_of image).rows → l < 16
   label_small h = let few = labels_few known.describes in omega arith
-
-  pub labels_sixteen : x.labels ≤ 16
-  labels_sixteen = labels_most known.describes
 
   module _ {first second i : ℕ} {old masks : List ℕ} (so : RowsSo (design_of image) first second i old masks) where
     -- one label further

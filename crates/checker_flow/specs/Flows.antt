@@ -1,8 +1,7 @@
 -- What the pass for refusals 10 to 12 knows at a node, what it gives there, and what the place of a fault says.
 use Rattle.std.specs.Prelude.{ℕ, ◌+◌, ◌-◌, ◌/◌, ◌%◌, ◌^◌, ◌<◌, ◌≤◌, ◌≡◌, ◌⊎◌, Bool, cond, List, ltb, eqb, length, get_or}
 use Rattle.std.specs.Int.Bits.{bit_and}
-use Rattle.model.specs.declared.Answer.{Answer}
-use Rattle.model.specs.declared.Answer.TheVariants.{Accepted, Refused}
+use Rattle.model.specs.Answers.{Answer, Accepted, Refused}
 use Rattle.model.specs.Limits.{commands_max, parameter_register, parameter_label}
 use Rattle.model.specs.Image.{Design as Table, design_of, command_at}
 use Rattle.model.specs.Kinds.{command_kind}
@@ -13,6 +12,7 @@ use Rattle.model.specs.Labelling.{relabelled}
 use Rattle.model.specs.Flow.{named_label, flow_refusal}
 use Rattle.model.specs.Rules.{Scoped, Shaped}
 use Rattle.design.specs.declared.Design.{Design}
+use Rattle.design.specs.declared.image.Image.{Image}
 use Rattle.design.specs.Kept.{RecordsKept, ParametersKept}
 use Rattle.design.specs.RecordsAt.{CommandAt, ExpressionAt}
 use Rattle.design.specs.Labels.{LabelsKept}
@@ -79,47 +79,52 @@ module _ (d : Table) (labels masks : List ℕ) (s : ℕ) where
   flow_place context (branch n e p q) =
       first_place (flow_place (bit_and context (mask_read labels masks e)) p) (flow_place (bit_and context (mask_read labels masks e)) q)
 
--- ---- what is known where the recursion has the places of a design instead of the design, and tables of labels and of masks
+-- ---- what is known where bodies are read under tables of labels and of masks
 -- the labels that expression e reads are gathered
-pub record Gathering (image labels : List ℕ) (expressions_at e : ℕ) : Type 0 where
-  pub design : Design
-  pub known : RecordsKept image design
+pub record Gathering (image labels : List ℕ) (x : Design) (e : ℕ) : Type 0 where
+  pub known : RecordsKept image x
   pub labelling : LabelsKept (design_of image) labels
-  pub expression : ExpressionAt image design expressions_at e
+  pub expression : ExpressionAt image x x.expressions_at e
 
 -- an assignment n is judged
-pub record Assigning (image labels : List ℕ) (commands_at expressions_at n : ℕ) : Type 0 where
-  pub design : Design
-  pub known : RecordsKept image design
+pub record Assigning (image labels : List ℕ) (x : Design) (n : ℕ) : Type 0 where
+  pub known : RecordsKept image x
   pub labelling : LabelsKept (design_of image) labels
-  pub command : CommandAt image design commands_at n
+  pub command : CommandAt image x x.commands_at n
   pub kind : (command_at (design_of image) n).kind ≡ 1
-  pub expressions_begin : expressions_at ≡ design.expressions_at
 
 -- a command n of state s is judged; the label bytes from `own` on are a named state's own parameters
-pub record Flowing (image labels masks : List ℕ) (states_at commands_at expressions_at s own n : ℕ) : Type 0 where
-  pub design : Design
-  pub known : RecordsKept image design
+pub record Flowing (image labels masks : List ℕ) (x : Design) (s own n : ℕ) : Type 0 where
+  pub known : RecordsKept image x
   pub labelling : LabelsKept (design_of image) labels
   pub parameters : ParametersKept (design_of image)
   pub table : Masks (design_of image) s masks
-  pub state : s < design.states
+  pub state : s < x.states
   pub own_from : own ≡ parameter_label + length (inherited_scope (design_of image) s)
-  pub command : CommandAt image design commands_at n
+  pub command : CommandAt image x x.commands_at n
   pub scoped : CommandScoped (design_of image) s n
-  pub states_begin : states_at ≡ design.states_at
-  pub expressions_begin : expressions_at ≡ design.expressions_at
 
 -- the label of the state that goto n of state s names is asked for
-pub record Going (image labels : List ℕ) (states_at commands_at own n : ℕ) : Type 0 where
+pub record Going (image labels : List ℕ) (x : Design) (own n : ℕ) : Type 0 where
   pub s : ℕ
-  pub design : Design
-  pub known : RecordsKept image design
+  pub known : RecordsKept image x
   pub labelling : LabelsKept (design_of image) labels
   pub parameters : ParametersKept (design_of image)
-  pub state : s < design.states
+  pub state : s < x.states
   pub own_from : own ≡ parameter_label + length (inherited_scope (design_of image) s)
-  pub command : CommandAt image design commands_at n
+  pub command : CommandAt image x x.commands_at n
   pub kind : (command_at (design_of image) n).kind ≡ 4
   pub scoped : CommandScoped (design_of image) s n
-  pub states_begin : states_at ≡ design.states_at
+
+-- ---- the same, of an `Image`
+abbrev pub GatheringIn : Image → List ℕ → ℕ → Type 0
+GatheringIn image labels e = Gathering image.bytes.now labels image.design e
+
+abbrev pub AssigningIn : Image → List ℕ → ℕ → Type 0
+AssigningIn image labels n = Assigning image.bytes.now labels image.design n
+
+abbrev pub FlowingIn : Image → List ℕ → List ℕ → ℕ → ℕ → ℕ → Type 0
+FlowingIn image labels masks s own n = Flowing image.bytes.now labels masks image.design s own n
+
+abbrev pub GoingIn : Image → List ℕ → ℕ → ℕ → Type 0
+GoingIn image labels own n = Going image.bytes.now labels image.design own n

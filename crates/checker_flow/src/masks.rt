@@ -2,14 +2,15 @@
 // flows to label byte k for each choice of labels within the bounds in scope. The rows of the labels
 // are the same for all states; only a state that has parameters in scope changes the table.
 ghost use Rattle.std.specs.Prelude.{◌/◌, ◌%◌, ◌^◌, ◌<◌, ◌≡◌, length};
+ghost use Rattle.design.specs.Images.{design_in, RecordsIn};
 ghost use Rattle.model.specs.Limits.{parameters_max};
-ghost use Rattle.model.specs.Image.{design_of};
-ghost use Rattle.design.specs.Kept.{RecordsKept, ParametersKept};
+ghost use Rattle.design.specs.Kept.{ParametersKept};
 ghost use Rattle.design.specs.Scopes.{Scopes};
-ghost use Rattle.checker_flow.specs.Masks.{masks_length, widened, with_rows, with_own, lower_in_scope as lower_in_scope_of, upper_in_scope as upper_in_scope_of, scope_masks as scope_masks_of};
+ghost use Rattle.checker_flow.specs.Masks.{masks_length, widened, with_rows, with_own, lower_in_scope, upper_in_scope, scope_masks as scope_masks_of};
 
+use design::Design;
+use design::image::Image;
 use design::scopes::{SCOPE_LENGTH, lower_bound, upper_bound};
-use design::{Design, wide};
 
 // One entry for each label and each parameter in scope.
 pub const MASKS: usize = Design::LABELS + Design::PARAMETERS;
@@ -38,48 +39,34 @@ fn widen(row: usize, first: usize, second: usize) -> usize
 }
 
 // The mask of each label, where the parameters in scope have these lower bounds.
-fn put_rows(image: &[u8], design: Design, first: usize, second: usize, masks: &mut [usize])
-    requires { RecordsKept image.now design × (first < 16) × (second < 16) × (length masks.old ≡ masks_length) }
-    ensures { masks.new ≡ with_rows (design_of image.now) first second masks.old }
+fn put_rows(image: &Image, first: usize, second: usize, masks: &mut [usize])
+    requires { RecordsIn image.now × (first < 16) × (second < 16) × (length masks.old ≡ masks_length) }
+    ensures { masks.new ≡ with_rows (design_in image.now) first second masks.old }
 {
-    let mut l = 0;
-    while l < design.labels {
-        let row = Design::row(image, l);
+    for l in 0..image.design.labels {
+        let row = image.row(l);
         masks[l] = widen(row, first, second);
-        l += 1;
     }
 }
 
 // The mask of each label, where no parameter is in scope.
-pub fn label_rows(image: &[u8], design: Design, masks: &mut [usize])
-    requires { RecordsKept image.now design × (length masks.old ≡ masks_length) }
-    ensures { masks.new ≡ with_rows (design_of image.now) 0 0 masks.old }
+pub fn label_rows(image: &Image, masks: &mut [usize])
+    requires { RecordsIn image.now × (length masks.old ≡ masks_length) }
+    ensures { masks.new ≡ with_rows (design_in image.now) 0 0 masks.old }
 {
-    put_rows(image, design, 0, 0, masks);
+    put_rows(image, 0, 0, masks);
 }
 
-// The lower bound of parameter i in scope of state s; 0 where there is none.
-fn lower_in_scope(image: &[u8], design: Design, scopes: &[u8], s: usize, i: usize) -> usize
-    requires { RecordsKept image.now design × ParametersKept (design_of image.now) × Scopes (design_of image.now) scopes.now × (s < design.states) × (i < parameters_max) }
-    ensures { result ≡ lower_in_scope_of (design_of image.now) s i }
+// The lower and the upper bound of parameter i in scope of state s; 0 where there is none.
+fn bounds_in_scope(image: &Image, scopes: &[u8], s: usize, i: usize) -> (usize, usize)
+    requires { RecordsIn image.now × ParametersKept (design_in image.now) × Scopes (design_in image.now) scopes.now × (s < image.now.design.states) × (i < parameters_max) }
+    ensures { (result.0 ≡ lower_in_scope (design_in image.now) s i) × (result.1 ≡ upper_in_scope (design_in image.now) s i) }
 {
-    if wide(scopes[SCOPE_LENGTH * s]) <= i {
-        return 0;
+    if usize::from(scopes[SCOPE_LENGTH * s]) <= i {
+        return (0, 0);
     }
-    let v = wide(scopes[SCOPE_LENGTH * s + 1 + i]);
-    lower_bound(image, design, v)
-}
-
-// The upper bound of parameter i in scope of state s; 0 where there is none.
-fn upper_in_scope(image: &[u8], design: Design, scopes: &[u8], s: usize, i: usize) -> usize
-    requires { RecordsKept image.now design × ParametersKept (design_of image.now) × Scopes (design_of image.now) scopes.now × (s < design.states) × (i < parameters_max) }
-    ensures { result ≡ upper_in_scope_of (design_of image.now) s i }
-{
-    if wide(scopes[SCOPE_LENGTH * s]) <= i {
-        return 0;
-    }
-    let v = wide(scopes[SCOPE_LENGTH * s + 1 + i]);
-    upper_bound(image, design, v)
+    let v = usize::from(scopes[SCOPE_LENGTH * s + 1 + i]);
+    (lower_bound(image, v), upper_bound(image, v))
 }
 
 // The masks of the parameters: each is that of its upper bound, and flows to itself.
@@ -94,17 +81,15 @@ fn put_own(masks: &mut [usize], first: usize, second: usize)
 }
 
 // The table of state s, from that of another state.
-pub fn scope_masks(image: &[u8], design: Design, scopes: &[u8], masks: &mut [usize], s: usize)
-    requires { RecordsKept image.now design × ParametersKept (design_of image.now) × Scopes (design_of image.now) scopes.now × (length masks.old ≡ masks_length) × (s < design.states) }
-    ensures { masks.new ≡ scope_masks_of (design_of image.now) s masks.old }
+pub fn scope_masks(image: &Image, scopes: &[u8], masks: &mut [usize], s: usize)
+    requires { RecordsIn image.now × ParametersKept (design_in image.now) × Scopes (design_in image.now) scopes.now × (length masks.old ≡ masks_length) × (s < image.now.design.states) }
+    ensures { masks.new ≡ scope_masks_of (design_in image.now) s masks.old }
 {
     if scopes[SCOPE_LENGTH * s] == 0 {
         return;
     }
-    let first = lower_in_scope(image, design, scopes, s, 0);
-    let second = lower_in_scope(image, design, scopes, s, 1);
-    let first_upper = upper_in_scope(image, design, scopes, s, 0);
-    let second_upper = upper_in_scope(image, design, scopes, s, 1);
-    put_rows(image, design, first, second, masks);
+    let (first, first_upper) = bounds_in_scope(image, scopes, s, 0);
+    let (second, second_upper) = bounds_in_scope(image, scopes, s, 1);
+    put_rows(image, first, second, masks);
     put_own(masks, first_upper, second_upper);
 }

@@ -1,4 +1,5 @@
 -- Laws of the passes over uses: the table of counts after every use of a list, and what an entry then says.
+use Rattle.std.specs.Prelude.{Option}
 use Prim.Native.Nat.{ℕ, zero, suc, min, ◌+◌, ◌≤◌, ◌<◌}
 use mathlib.Core.Path.{◌≡◌, refl, sym, ◌∙◌, ap}
 use mathlib.Core.Logic.{⊎_elim}
@@ -10,7 +11,6 @@ use lib.Dec.{eqb}
 use lib.ListN.{length, get_or, set, replicate, length-set, length-replicate, get_or-replicate}
 use lib.Seq.{get_or-set_same, get_or-set_other}
 use borrow.Author.Tests.{eq-eqb, ne_eqb, eqb-true, eqb-false}
-use Rattle.model.specs.declared.Found.{Found}
 use Rattle.model.specs.Indices.{lowest, lowest_failing, occurrences, join_below}
 use Rattle.model.proofs.Laws.Booleans.{decide}
 use Rattle.design.specs.declared.Design.{Design}
@@ -152,7 +152,7 @@ unfolding lowest_failing lowest
 failing_same f g zero h = refl
 failing_same f g (suc n) h = rw (failing_same f g n (λ k l. h k (omega arith)), h n (omega arith))
 
-pub once_found : {rule : ℕ → Bool} {table : List ℕ} {m n : ℕ} {f : Found} → OnceWhere rule table m → m ≡ n → f ≡ lowest_failing (λ k. eqb (get_or table k 0) 1) m → f ≡ lowest_failing rule n
+pub once_found : {rule : ℕ → Bool} {table : List ℕ} {m n : ℕ} {f : Option ℕ} → OnceWhere rule table m → m ≡ n → f ≡ lowest_failing (λ k. eqb (get_or table k 0) 1) m → f ≡ lowest_failing rule n
 once_found {rule} {table} {m} so e h = h ∙ failing_same (λ k. eqb (get_or table k 0) 1) rule m so.entry ∙ ap (lowest_failing rule) e
 
 -- a table that counted from nothing tells which nodes are used once

@@ -1,4 +1,5 @@
 -- Laws of the passes over depths: the depth of a node from the table of its parts' depths, and the table itself.
+use Rattle.std.specs.Prelude.{Option}
 use Prim.Native.Nat.{ℕ, suc, max, ◌+◌, ◌≤◌, ◌<◌}
 use mathlib.Core.Path.{◌≡◌, refl, sym, ◌∙◌, ap}
 use mathlib.Core.Logic.{⊎_elim}
@@ -8,7 +9,6 @@ use native.Mathlib.Omega.{arith}
 use lib.Dec.{leb}
 use lib.ListN.{length, get_or}
 use borrow.Author.Tests.{leb-true, leb-false, le-leb, lt-leb}
-use Rattle.model.specs.declared.Found.{Found}
 use Rattle.model.specs.Indices.{lowest_failing}
 use Rattle.model.specs.Limits.{depth_max}
 use Rattle.model.specs.Image.{design_of}
@@ -37,14 +37,8 @@ pub filled_end : {f : ℕ → ℕ} {old now : List ℕ} {i m n : ℕ} → Filled
 filled_end so l h e = rw (← e) (filled_to_lem so l h)
 
 -- filling leaves a table as long as it was
-pub filled_long : {f : ℕ → ℕ} {old now : List ℕ} {i : ℕ} → Filled f old i now → length now ≡ length old
-filled_long so = so.long
-
-pub filled_keeps : {f : ℕ → ℕ} {old now : List ℕ} {i n : ℕ} → Filled f old i now → n ≤ length old → n ≤ length now
+filled_keeps : {f : ℕ → ℕ} {old now : List ℕ} {i n : ℕ} → Filled f old i now → n ≤ length old → n ≤ length now
 filled_keeps so l = let same = so.long in omega arith
-
-pub filled_inside : {f : ℕ → ℕ} {old now : List ℕ} {i n k : ℕ} → Filled f old i now → k < n → n ≤ length old → k < length now
-filled_inside so b l = let same = so.long in omega arith
 
 module _ {table : List ℕ} {depth : ℕ → ℕ} where
   -- a table that a loop fills
@@ -135,7 +129,7 @@ entry_small depth =
     (λ (e : leb depth depth_max ≡ false). let l = leb-false depth depth_max e in lt-leb (depth_entry depth) depth_max (omega arith) ∙ sym e)
     (decide (leb depth depth_max))
 
-pub shallow_found : {rule : ℕ → Bool} {table : List ℕ} {m n : ℕ} {f : Found} → ShallowWhere rule table m → m ≡ n → f ≡ lowest_failing (λ k. leb (get_or table k 0) depth_max) m → f ≡ lowest_failing rule n
+pub shallow_found : {rule : ℕ → Bool} {table : List ℕ} {m n : ℕ} {f : Option ℕ} → ShallowWhere rule table m → m ≡ n → f ≡ lowest_failing (λ k. leb (get_or table k 0) depth_max) m → f ≡ lowest_failing rule n
 shallow_found {rule} {table} {m} so e h = h ∙ failing_same (λ k. leb (get_or table k 0) depth_max) rule m so.entry ∙ ap (lowest_failing rule) e
 
 -- ---- refusal 7, where every record keeps its rule

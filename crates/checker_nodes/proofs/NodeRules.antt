@@ -1,20 +1,18 @@
 -- A rule of a node, tested by its kind byte on the fields that the accessors read, is the meaning's rule.
 use Prim.Native.Nat.{ℕ, ◌+◌, ◌≤◌, ◌<◌}
-use mathlib.Core.Path.{◌≡◌, refl, sym, ◌∙◌, ap}
+use mathlib.Core.Path.{◌≡◌, ◌∙◌, ap}
 use mathlib.Core.Logic.{◌⊎◌, inl, inr, ⊎_elim}
-use mathlib.Core.Bool.{Bool, false, ◌&&◌, ◌||◌, not}
+use mathlib.Core.Bool.{Bool, false, ◌&&◌, ◌||◌}
 use mathlib.Core.List.{List}
 use native.Mathlib.Omega.{arith}
 use lib.Dec.{leb, ltb, eqb}
 use Rattle.model.specs.Limits.{parameter_register, binding_length}
 use Rattle.model.specs.Image.{Node, design_of, command_at, expression_at}
 use Rattle.model.specs.Kinds.{CommandKind, ExpressionKind, command_kind, expression_kind, command_holds, expression_holds, command_kept, expression_kept}
-use Rattle.model.proofs.Laws.Booleans.{not_false}
 use Rattle.model.proofs.Laws.Kinds.{kind_skips, kind_assigns, kind_sequences, kind_falls, kind_goes, kind_branches, no_command_kind, expression_kinds, kind_constants, kind_reads, kind_operates, no_expression_kind}
 use Rattle.design.specs.declared.Design.{Design}
 use Rattle.design.specs.Records.{node_in}
 use Rattle.design.specs.Describes.{Describes}
-use Rattle.design.specs.RecordsAt.{CommandAt, ExpressionAt}
 use Rattle.design.proofs.Laws.{registers_count, states_count, commands_count, expressions_count, command_in, expression_in}
 
 -- a register byte, among so many registers
@@ -170,14 +168,6 @@ module _ {image : List ℕ} {x : Design} (d : Describes image x) where
 pub ruleset command_rules = (command_fields, command_bare, command_assign, command_sequence, command_goto, command_branch, command_unknown)
 
 pub ruleset expression_rules = (expression_fields, expression_constant, expression_register, expression_operation, expression_unknown)
-
--- ---- a node that has just been judged
-module _ {image : List ℕ} {x : Design} {n : ℕ} {b : Bool} (h : not b ≡ false) where
-  pub judged_command : b ≡ command_kept (design_of image) n → n < x.commands → Describes image x → CommandAt image x x.commands_at n
-  judged_command e l d = record { describes = d; node = l; kept = sym e ∙ not_false b h; begins = refl }
-
-  pub judged_expression : b ≡ expression_kept (design_of image) n → n < x.expressions → Describes image x → ExpressionAt image x x.expressions_at n
-  judged_expression e l d = record { describes = d; node = l; kept = sym e ∙ not_false b h; begins = refl }
 
 -- the counts of a design, for `search`
 pub ruleset counts = (states_count, commands_count, expressions_count)

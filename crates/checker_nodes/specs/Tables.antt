@@ -1,7 +1,5 @@
 -- The tables that the loops over the nodes fill, and what the tables then tell.
-use Rattle.std.specs.Prelude.{ℕ, min, ◌+◌, ◌≤◌, ◌<◌, ◌≡◌, Bool, List, [], ◌∷◌, leb, eqb, length, get_or, set}
-use Rattle.model.specs.declared.Found.{Found}
-use Rattle.model.specs.declared.Found.TheVariants.{Nowhere}
+use Rattle.std.specs.Prelude.{ℕ, min, ◌+◌, ◌≤◌, ◌<◌, ◌≡◌, Bool, List, [], ◌∷◌, leb, eqb, length, get_or, set, Option, None}
 use Rattle.model.specs.Indices.{lowest_failing, passed, join_below}
 use Rattle.model.specs.Limits.{depth_max}
 use Rattle.model.specs.Image.{Design, design_of}
@@ -10,6 +8,7 @@ use Rattle.model.specs.Trees.{expr_of, cmd_of, expr_depth, cmd_depth}
 use Rattle.model.specs.Nodes.{parts_of, values_of, operands_of, command_used_once, expression_used_once, command_depth_kept, expression_depth_kept}
 use Rattle.model.specs.Verdict.{lowest_node}
 use Rattle.design.specs.declared.Design.{Design as Described}
+use Rattle.design.specs.declared.image.Image.{Image}
 use Rattle.design.specs.Resets.{Filled}
 
 -- a depth in a table; an entry stops at one past the limit
@@ -30,13 +29,13 @@ count_uses table [] = table
 count_uses table (k ∷ ks) = count_uses (count_use table k) ks
 
 -- what the loop over the commands found, and what it leaves in its tables; and the loop over the expressions
-pub record CommandsPassed (d : Design) (f : Found) (uses₀ uses expressionUses₀ expression_uses depths₀ depths : List ℕ) : Type 0 where
+pub record CommandsPassed (d : Design) (f : Option ℕ) (uses₀ uses expressionUses₀ expression_uses depths₀ depths : List ℕ) : Type 0 where
   pub found : f ≡ lowest_failing (command_kept d) (length d.commands)
   pub counted : uses ≡ count_uses uses₀ (join_below (parts_of d) (passed f (length d.commands)))
   pub expressions_counted : expression_uses ≡ count_uses expressionUses₀ (join_below (values_of d) (passed f (length d.commands)))
   pub filled : Filled (λ k. depth_entry (cmd_depth (cmd_of d k))) depths₀ (passed f (length d.commands)) depths
 
-pub record ExpressionsPassed (d : Design) (f : Found) (uses₀ uses depths₀ depths : List ℕ) : Type 0 where
+pub record ExpressionsPassed (d : Design) (f : Option ℕ) (uses₀ uses depths₀ depths : List ℕ) : Type 0 where
   pub found : f ≡ lowest_failing (expression_kept d) (length d.expressions)
   pub counted : uses ≡ count_uses uses₀ (join_below (operands_of d) (passed f (length d.expressions)))
   pub filled : Filled (λ k. depth_entry (expr_depth (expr_of d k))) depths₀ (passed f (length d.expressions)) depths
@@ -70,6 +69,15 @@ pub record NodesTold (image : List ℕ) (x : Described) (uses_of_commands uses_o
   pub expression_depths : ShallowWhere (expression_depth_kept (design_of image)) depths_of_expressions x.expressions
 
 -- what both loops found and, where that is nothing, what the four tables then tell, which were fresh; the uses by states are counted before the loops
-pub record NodesPassed (image : List ℕ) (x : Described) (f : Found) (command_uses expression_uses command_depths expression_depths : List ℕ) : Type 0 where
+pub record NodesPassed (image : List ℕ) (x : Described) (f : Option ℕ) (command_uses expression_uses command_depths expression_depths : List ℕ) : Type 0 where
   pub found : f ≡ lowest_node (design_of image) (command_kept (design_of image)) (expression_kept (design_of image))
-  pub told : f ≡ Nowhere → NodesTold image x command_uses expression_uses command_depths expression_depths
+  pub told : f ≡ None → NodesTold image x command_uses expression_uses command_depths expression_depths
+
+-- ---- the same, of an `Image`
+abbrev pub NodesToldIn : Image → List ℕ → List ℕ → List ℕ → List ℕ → Type 0
+NodesToldIn image command_uses expression_uses command_depths expression_depths =
+    NodesTold image.bytes.now image.design command_uses expression_uses command_depths expression_depths
+
+abbrev pub NodesPassedIn : Image → Option ℕ → List ℕ → List ℕ → List ℕ → List ℕ → Type 0
+NodesPassedIn image f command_uses expression_uses command_depths expression_depths =
+    NodesPassed image.bytes.now image.design f command_uses expression_uses command_depths expression_depths

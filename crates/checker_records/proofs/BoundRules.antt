@@ -21,7 +21,6 @@ use Rattle.design.specs.Describes.{Describes}
 use Rattle.design.specs.Kept.{LatticeKept, StatesKept, ParametersKept}
 use Rattle.design.specs.Scopes.{LabelByte}
 use Rattle.design.proofs.Laws.{labels_count, states_count}
-use Rattle.design.proofs.RowRules.{comparing}
 use Rattle.design.proofs.BoundRules.{scopes_short, parameter_number, byte_of, labels_few, bounds_of, pair_in_scope}
 use Rattle.checker_records.specs.Bounds.{flows_for_each}
 
@@ -141,4 +140,4 @@ module _ {image : List ℕ} {x : Design} {s : ℕ} (d : Describes image x) (latt
 -- the laws of a label byte, for `search`
 pub ruleset byte_laws = (plain_label, plain_least, plain_greatest, one_of_two, number_inside, bound_least, bound_greatest, lower_label, upper_label)
 
-pub ruleset each_laws = (each_self, each_apart, comparing)
+pub ruleset each_laws = (each_self, each_apart)

@@ -41,15 +41,12 @@ some_same p q zero h = refl
 some_same p q (suc n) h = ap₂ (λ (c d : Bool). c || d) (some_same p q n (λ k l. h k (omega arith))) (h n (omega arith))
 
 module _ {image : List ℕ} {x : Design} (d : Describes image x) where
-  -- a row can be shifted by a label and by the count of labels, and there is a label
+  -- a row can be shifted by a label and by the count of labels
   pub label_small : {j : ℕ} → j < x.labels → j < 64
   label_small l = omega (arith, d.labels, d.directory.sections Labels)
 
   pub labels_small : x.labels < 64
   labels_small = omega (arith, d.labels, d.directory.sections Labels)
-
-  pub some_label : 0 < x.labels
-  some_label = omega (arith, d.labels, d.directory.sections Labels)
 
   -- the row of a label, its mask, and whether the two are the same
   pub row_rule : {i r : ℕ} → i < x.labels → r ≡ row_in image i → r ≡ get_or (design_of image).rows i 0

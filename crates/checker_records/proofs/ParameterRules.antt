@@ -1,4 +1,5 @@
 -- The rules of a state's parameters, tested on the fields that the accessors read and on the scopes of the states below it, are the meaning's.
+use Rattle.std.specs.Prelude.{Some, None}
 use Prim.Native.Nat.{ℕ, ◌+◌, ◌-◌, ◌≤◌, ◌<◌}
 use mathlib.Core.Path.{◌≡◌, refl, sym, ◌∙◌, ap}
 use mathlib.Core.Bool.{Bool, true, false, ◌&&◌, ◌||◌, not}
@@ -7,7 +8,6 @@ use native.Mathlib.Omega.{arith}
 use lib.Dec.{leb, ltb, eqb}
 use lib.ListN.{length, get_or}
 use borrow.Author.Tests.{lt-ltb, le-ltb, eq-eqb, ne_eqb}
-use Rattle.model.specs.declared.Found.TheVariants.{At, Nowhere}
 use Rattle.model.specs.Limits.{parameter_label}
 use Rattle.model.specs.Image.{State, design_of, state_at}
 use Rattle.model.specs.Lattice.{flows_to}
@@ -25,7 +25,6 @@ use Rattle.design.specs.Resets.{Defaults}
 use Rattle.design.specs.Scopes.{inherited_scope, with_scope, with_scopes, ScopesBelow}
 use Rattle.design.proofs.Laws.{labels_count, states_count, state_in_lem}
 use Rattle.design.proofs.ResetRules.{parent_is, parent_inside, state_fits}
-use Rattle.design.proofs.RowRules.{comparing}
 use Rattle.design.proofs.ScopeRules.{count_is, scope_put, scopes_begun, scopes_written, scopes_done, scopes_next, scopes_all}
 use Rattle.checker_records.specs.ParameterTests.{first_pair_kept, second_pair_kept, Entered, ParametersPassed}
 
@@ -151,7 +150,7 @@ module _ {image : List ℕ} {x : Design} (d : Describes image x) where
     pub entries_more : (old : List ℕ) → before ≡ with_scopes (design_of image) s old → not b ≡ false → after ≡ with_scopes (design_of image) (s + 1) old
     entries_more old e h = scopes_written d old s e (scope_there h)
 
-    pub parameters_fail : (old : List ℕ) → before ≡ with_scopes (design_of image) s old → Passed (parameters_kept (design_of image)) s → s < x.states → not b ≡ true → ParametersPassed (design_of image) (At s) old after
+    pub parameters_fail : (old : List ℕ) → before ≡ with_scopes (design_of image) s old → Passed (parameters_kept (design_of image)) s → s < x.states → not b ≡ true → ParametersPassed (design_of image) (Some s) old after
     parameters_fail old e p l h =
         record {
           is = passed_fails p l (states_count d) one.is h;
@@ -166,13 +165,13 @@ module _ {image : List ℕ} {x : Design} (d : Describes image x) where
       → table ≡ with_scopes (design_of image) i old
       → i ≤ x.states
       → x.states ≤ i
-      → ParametersPassed (design_of image) Nowhere old table
+      → ParametersPassed (design_of image) None old table
   parameters_pass old p so e h l =
       let count = states_count d in
       record { is = passed_all p l (states_count d); entries = scopes_done d old e (omega arith) (omega arith); scopes = λ z. scopes_all d so l }
 
 -- the laws of a state's parameters, for `search`
-pub ruleset pair_laws = (pair_unused, pair_no_lower, pair_no_upper, pair_flows, comparing)
+pub ruleset pair_laws = (pair_unused, pair_no_lower, pair_no_upper, pair_flows)
 
 pub ruleset taking_laws = (root_takes_none, parent_default, child_takes, state_fits)
 

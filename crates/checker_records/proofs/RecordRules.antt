@@ -125,11 +125,8 @@ module _ {image : List ℕ} {x : Design} (d : Describes image x) where
   module _ (kept : StatesKept (design_of image)) where
     -- the label bytes of a state and of its parent stand for labels in its scope
     module _ {s p : ℕ} (h : s < x.states) (some : 0 < s) (e : p ≡ (state_at (design_of image) s).parent) where
-      above_inside : p < x.states
+      pub above_inside : p < x.states
       above_inside = let count = states_count d in let lower = parent_lower (design_of image) kept s (omega arith) (λ z. omega arith) in omega arith
-
-      pub above_record : state_end x.states_at p ≤ length image
-      above_record = state_inside d above_inside
 
       above_label : {f : ℕ} → f ≡ (state_in image x.states_at p).label → f ≡ state_label (design_of image) (parent (design_of image) s)
       above_label q = q ∙ ap (λ (y : State). y.label) (state_in_lem d above_inside) ∙ ap (state_label (design_of image)) e
@@ -196,7 +193,7 @@ some_state n = omega (arith, n)
 -- the laws of a state's label and its parent's, for `search`
 pub ruleset child_laws = (root_child, fall_entry, default_entry, state_fits, passes_no_fall, passes_other, parent_known, some_state, child_label_rule)
 
-pub ruleset above_laws = (above_record, own_label_byte, above_label_byte, above_rule)
+pub ruleset above_laws = (above_inside, own_label_byte, above_label_byte, above_rule)
 
 -- the laws of a register's record, for `search`
 pub ruleset register_laws = (too_narrow, too_wide, register_rule)

@@ -1,7 +1,5 @@
 -- The tests of a state's two pairs of bounds, by name, and what the pass over the states' parameters tells.
-use Rattle.std.specs.Prelude.{ℕ, ◌≡◌, Bool, cond, List, ltb, length}
-use Rattle.model.specs.declared.Found.{Found}
-use Rattle.model.specs.declared.Found.TheVariants.{Nowhere}
+use Rattle.std.specs.Prelude.{ℕ, ◌≡◌, Bool, cond, List, ltb, length, Option, None}
 use Rattle.model.specs.Indices.{lowest_failing, passed}
 use Rattle.model.specs.Image.{Design as Table, state_at}
 use Rattle.model.specs.Parameters.{pair_kept, parameters_kept}
@@ -19,7 +17,7 @@ pub record Entered (d : Table) (s : ℕ) (b : Bool) (before after : List ℕ) : 
   pub entry : after ≡ cond b (with_scope d s before) before
 
 -- the lowest state at which a rule fails, and the scopes of the states below it in the table; where there is none, the table is whole
-pub record ParametersPassed (d : Table) (f : Found) (before after : List ℕ) : Type 0 where
+pub record ParametersPassed (d : Table) (f : Option ℕ) (before after : List ℕ) : Type 0 where
   pub is : f ≡ lowest_failing (parameters_kept d) (length d.states)
   pub entries : after ≡ with_scopes d (passed f (length d.states)) before
-  pub scopes : f ≡ Nowhere → Scopes d after
+  pub scopes : f ≡ None → Scopes d after

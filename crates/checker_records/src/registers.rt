@@ -1,43 +1,33 @@
 // Refusal 3: a register by its record.
 ghost use Rattle.std.specs.Prelude.{◌<◌, ◌≡◌, length};
 ghost use Rattle.model.specs.Indices.{lowest_failing};
-ghost use Rattle.model.specs.Image.{design_of};
 ghost use Rattle.model.specs.States.{register_kept as register_kept_of};
-ghost use Rattle.design.specs.Describes.{Describes};
+ghost use Rattle.design.specs.Images.{design_in};
 
 use design::Design;
+use design::image::Image;
 use design::widths::fits;
-use model::Found;
 
 // Register r has a label, a kind and a width, and its reset value fits.
-fn register_kept(image: &[u8], design: Design, r: usize) -> bool
-    requires { Describes image.now design × (r < design.registers) }
-    ensures { result ≡ register_kept_of (design_of image.now) r }
+fn register_kept(image: &Image, r: usize) -> bool
+    requires { r < image.now.design.registers }
+    ensures { result ≡ register_kept_of (design_in image.now) r }
 {
-    let at = design.registers_at;
-    let width = Design::register_width(image, at, r);
+    let width = image.register_width(r);
     if width < 1 {
         return false;
     }
     if Design::WIDTH < width {
         return false;
     }
-    (Design::register_label(image, at, r) < design.labels)
-        & (Design::register_kind(image, at, r) <= 1)
-        & fits(Design::register_reset(image, at, r), width)
+    (image.register_label(r) < image.design.labels)
+        & (image.register_kind(r) <= 1)
+        & fits(image.register_reset(r), width)
 }
 
 // Refusal 3, at the lowest register.
-pub fn registers(image: &[u8], design: Design) -> Found
-    requires { Describes image.now design }
-    ensures { result ≡ lowest_failing (register_kept_of (design_of image.now)) (length (design_of image.now).registers) }
+pub fn registers(image: &Image) -> Option<usize>
+    ensures { result ≡ lowest_failing (register_kept_of (design_in image.now)) (length (design_in image.now).registers) }
 {
-    let mut r = 0;
-    while r < design.registers {
-        if !register_kept(image, design, r) {
-            return Found::At(r);
-        }
-        r += 1;
-    }
-    Found::Nowhere
+    (0..image.design.registers).find(|&r| !register_kept(image, r))
 }

@@ -2,10 +2,10 @@
 ghost use Rattle.std.specs.Prelude.{◌+◌, ◌<◌, ◌≡◌, ◌&&◌, leb, ltb, length};
 ghost use Rattle.model.specs.Limits.{parameter_label, binding_length};
 ghost use Rattle.model.specs.Indices.{lowest_failing};
-ghost use Rattle.model.specs.Image.{design_of, state_at};
+ghost use Rattle.model.specs.Image.{state_at};
 ghost use Rattle.model.specs.States.{parent_kept as parent_kept_of, state_kept as state_kept_of};
 ghost use Rattle.model.specs.Falls.{child_label_kept as child_label_kept_of};
-ghost use Rattle.design.specs.Describes.{Describes};
+ghost use Rattle.design.specs.Images.{design_in};
 ghost use Rattle.design.specs.Kept.{LatticeKept, StatesKept, ParametersKept};
 ghost use Rattle.design.specs.Resets.{Defaults};
 ghost use Rattle.design.specs.Falls.{FallsTold};
@@ -14,7 +14,7 @@ ghost use Rattle.checker_records.specs.Bounds.{flows_for_each};
 
 use crate::bounds::flows_each;
 use design::Design;
-use model::Found;
+use design::image::Image;
 
 // A label byte that stands for the label of a parameter. Refusal 19 judges whether there is one.
 fn names_parameter(label: usize) -> bool
@@ -24,109 +24,71 @@ fn names_parameter(label: usize) -> bool
 }
 
 // State s is the root, with parent 0 and label 0, or its parent has a lower number.
-fn parent_kept(image: &[u8], design: Design, s: usize) -> bool
-    requires { Describes image.now design × (s < design.states) }
-    ensures { result ≡ parent_kept_of (design_of image.now) s }
+fn parent_kept(image: &Image, s: usize) -> bool
+    requires { s < image.now.design.states }
+    ensures { result ≡ parent_kept_of (design_in image.now) s }
 {
-    let at = design.states_at;
     if s == 0 {
-        let label = Design::state_label(image, at, s);
-        return (Design::parent(image, at, s) == 0) & ((label == 0) | names_parameter(label));
+        let label = image.state_label(s);
+        return (image.parent(s) == 0) & ((label == 0) | names_parameter(label));
     }
-    Design::parent(image, at, s) < s
+    image.parent(s) < s
 }
 
 // State s has a parent, a label and a command.
-fn state_kept(image: &[u8], design: Design, s: usize) -> bool
-    requires { Describes image.now design × (s < design.states) }
-    ensures { result ≡ state_kept_of (design_of image.now) s }
+fn state_kept(image: &Image, s: usize) -> bool
+    requires { s < image.now.design.states }
+    ensures { result ≡ state_kept_of (design_in image.now) s }
 {
-    let at = design.states_at;
-    let label = Design::state_label(image, at, s);
-    parent_kept(image, design, s)
-        & ((label < design.labels) | names_parameter(label))
-        & (Design::state_command(image, at, s) < design.commands)
+    let label = image.state_label(s);
+    parent_kept(image, s)
+        & ((label < image.design.labels) | names_parameter(label))
+        & (image.state_command(s) < image.design.commands)
 }
 
 // Refusal 4, at the lowest state.
-pub fn states(image: &[u8], design: Design) -> Found
-    requires { Describes image.now design }
-    ensures { result ≡ lowest_failing (state_kept_of (design_of image.now)) (length (design_of image.now).states) }
+pub fn states(image: &Image) -> Option<usize>
+    ensures { result ≡ lowest_failing (state_kept_of (design_in image.now)) (length (design_in image.now).states) }
 {
-    let mut s = 0;
-    while s < design.states {
-        if !state_kept(image, design, s) {
-            return Found::At(s);
-        }
-        s += 1;
-    }
-    Found::Nowhere
+    (0..image.design.states).find(|&s| !state_kept(image, s))
 }
 
 // The label of state s is at or above that of its parent for each choice.
-fn label_above(image: &[u8], design: Design, scopes: &[u8], parent: usize, s: usize) -> bool
-    requires describes { Describes image.now design × LatticeKept (design_of image.now) × StatesKept (design_of image.now) × ParametersKept (design_of image.now) }
-    requires scopes { Scopes (design_of image.now) scopes.now × (s < design.states) × (0 < s) × (parent ≡ (state_at (design_of image.now) s).parent) }
-    ensures { result ≡ flows_for_each (design_of image.now) s (state_at (design_of image.now) (state_at (design_of image.now) s).parent).label (state_at (design_of image.now) s).label }
+fn label_above(image: &Image, scopes: &[u8], parent: usize, s: usize) -> bool
+    requires describes { LatticeKept (design_in image.now) × StatesKept (design_in image.now) × ParametersKept (design_in image.now) }
+    requires scopes { Scopes (design_in image.now) scopes.now × (s < image.now.design.states) × (0 < s) × (parent ≡ (state_at (design_in image.now) s).parent) }
+    ensures { result ≡ flows_for_each (design_in image.now) s (state_at (design_in image.now) (state_at (design_in image.now) s).parent).label (state_at (design_in image.now) s).label }
 {
-    let at = design.states_at;
-    let from = Design::state_label(image, at, parent);
-    flows_each(
-        image,
-        design,
-        scopes,
-        s,
-        from,
-        Design::state_label(image, at, s),
-    )
+    let from = image.state_label(parent);
+    flows_each(image, scopes, s, from, image.state_label(s))
 }
 
 // The label of state s is at or above its parent's for each choice, where s is the default child of a
 // state that holds a fall. The states and their parameters are kept.
-fn child_label_kept(
-    image: &[u8],
-    design: Design,
-    defaults: &[u8],
-    falls: &[u8],
-    scopes: &[u8],
-    s: usize,
-) -> bool
-    requires describes { Describes image.now design × LatticeKept (design_of image.now) × StatesKept (design_of image.now) × ParametersKept (design_of image.now) × (s < design.states) }
-    requires defaults { Defaults (design_of image.now) defaults.now × FallsTold (design_of image.now) falls.now × Scopes (design_of image.now) scopes.now }
-    ensures { result ≡ child_label_kept_of (design_of image.now) s }
+fn child_label_kept(image: &Image, defaults: &[u8], falls: &[u8], scopes: &[u8], s: usize) -> bool
+    requires describes { LatticeKept (design_in image.now) × StatesKept (design_in image.now) × ParametersKept (design_in image.now) × (s < image.now.design.states) }
+    requires defaults { Defaults (design_in image.now) defaults.now × FallsTold (design_in image.now) falls.now × Scopes (design_in image.now) scopes.now }
+    ensures { result ≡ child_label_kept_of (design_in image.now) s }
 {
     if s == 0 {
         return true;
     }
-    let parent = Design::parent(image, design.states_at, s);
+    let parent = image.parent(s);
     if falls[parent] == 0 {
         return true;
     }
     if defaults[parent] != s as u8 {
         return true;
     }
-    label_above(image, design, scopes, parent, s)
+    label_above(image, scopes, parent, s)
 }
 
 // Refusal 9, at the lowest state. The states and their parameters are kept: refusals 4 and 19 found
 // none.
-pub fn child_labels(
-    image: &[u8],
-    design: Design,
-    defaults: &[u8],
-    falls: &[u8],
-    scopes: &[u8],
-) -> Found
-    requires describes { Describes image.now design × LatticeKept (design_of image.now) × StatesKept (design_of image.now) × ParametersKept (design_of image.now) }
-    requires defaults { Defaults (design_of image.now) defaults.now × FallsTold (design_of image.now) falls.now × Scopes (design_of image.now) scopes.now }
-    ensures { result ≡ lowest_failing (child_label_kept_of (design_of image.now)) (length (design_of image.now).states) }
+pub fn child_labels(image: &Image, defaults: &[u8], falls: &[u8], scopes: &[u8]) -> Option<usize>
+    requires describes { LatticeKept (design_in image.now) × StatesKept (design_in image.now) × ParametersKept (design_in image.now) }
+    requires defaults { Defaults (design_in image.now) defaults.now × FallsTold (design_in image.now) falls.now × Scopes (design_in image.now) scopes.now }
+    ensures { result ≡ lowest_failing (child_label_kept_of (design_in image.now)) (length (design_in image.now).states) }
 {
-    let mut s = 0;
-    while s < design.states {
-        if !child_label_kept(image, design, defaults, falls, scopes, s) {
-            return Found::At(s);
-        }
-        s += 1;
-    }
-    Found::Nowhere
+    (0..image.design.states).find(|&s| !child_label_kept(image, defaults, falls, scopes, s))
 }

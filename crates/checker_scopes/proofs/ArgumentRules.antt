@@ -1,5 +1,5 @@
 -- An argument lies within bounds for its every choice where its least label does so from below and its greatest from above: one label for a register, the bounds of a parameter in scope.
-use Prim.Native.Nat.{ℕ, zero, suc, ◌+◌, ◌*◌, ◌-◌, ◌/◌, ◌%◌, ◌≤◌, ◌<◌}
+use Prim.Native.Nat.{ℕ, ◌+◌, ◌*◌, ◌-◌, ◌≤◌, ◌<◌}
 use mathlib.Core.Path.{◌≡◌, refl, sym, ◌∙◌, ap}
 use mathlib.Core.Logic.{◌⊎◌, inl, inr}
 use mathlib.Core.Bool.{Bool, true, false, ◌&&◌, ◌||◌, not}
@@ -7,45 +7,27 @@ use mathlib.Core.List.{List}
 use native.Mathlib.Omega.{arith}
 use lib.Dec.{leb, ltb, eqb}
 use lib.ListN.{length, get_or}
-use borrow.Author.Tests.{lt-ltb, le-ltb, leb-true, eqb-true, eq-eqb, ne_eqb}
+use borrow.Author.Tests.{lt-ltb, le-ltb, leb-true, eqb-true}
 use mir.Syntax.{w64}
 use mir.Val.{Fits}
 use Rattle.model.specs.Limits.{parameter_register}
 use Rattle.model.specs.Image.{Design as Table, Register, State, design_of, state_at}
 use Rattle.model.specs.Lattice.{flows_to, register_label}
 use Rattle.model.specs.Parameters.{scope_of, lower_bound, upper_bound, label_byte}
-use Rattle.model.specs.Scopes.{is_argument, argument_kept, field_kept, arguments_kept}
+use Rattle.model.specs.Scopes.{is_argument, argument_kept, field_kept}
 use Rattle.model.proofs.Laws.Booleans.{not_true, not_false, and_first, and_second, and_false, cond_true, cond_false, false_unless_true}
 use Rattle.model.proofs.Laws.Equivalences.{same_tests, less_iff, at_most_iff, and_iff, or_iff}
-use Rattle.model.proofs.Laws.Scopes.{parameter_state}
 use Rattle.model.proofs.Laws.Bounds.{least_label_lem, least_parameter, most_label_lem, most_parameter, argument_bounded, own_pair}
 use Rattle.model.specs.Parameters.{least_label, most_label, bounded_flow}
 use Rattle.model.proofs.Exact.Records.{register_iff}
 use Rattle.model.proofs.Exact.Parameters.{parameters_iff}
-use Rattle.design.specs.Records.{register_in, state_in, register_end, state_end}
-use Rattle.design.specs.RecordsAt.{Comparing}
+use Rattle.design.specs.Records.{register_in, state_in}
 use Rattle.design.specs.Scopes.{LabelByte}
-use Rattle.design.proofs.Laws.{registers_count, states_count, registers_most, register_inside, register_in_lem, state_inside, state_in_lem}
+use Rattle.design.specs.declared.Design.{Design}
+use Rattle.design.proofs.Laws.{labels_count, registers_count, states_count, registers_most, register_in_lem, state_in_lem}
 use Rattle.design.proofs.ResetRules.{states_few}
 use Rattle.design.proofs.BoundRules.{scopes_short, parameter_number, register_label_byte, parameter_label_byte, byte_of, labels_few, bounds_of, pair_in_scope}
-use Rattle.checker_scopes.specs.Scoping.{Bounding, Given, Argument, Arguing, Counting}
-
--- ---- the bounds of a parameter
-module _ {image : List ℕ} {place v : ℕ} (here : Bounding image place v) where
-  same_state : state_in image place (v / 2) ≡ state_at (design_of image) (v / 2)
-  same_state = rw here.state.begins (state_in_lem here.state.describes here.state.state)
-
-  pub lower_first : {b : ℕ} → v % 2 ≡ 0 → b ≡ (state_in image place (v / 2)).first_lower → b ≡ lower_bound (design_of image) v
-  lower_first z h = rw (eq-eqb (v % 2) 0 z) (h ∙ ap (λ (y : State). y.first_lower) same_state)
-
-  pub lower_second : {b : ℕ} → (v % 2 ≡ 0 → ⊥) → b ≡ (state_in image place (v / 2)).second_lower → b ≡ lower_bound (design_of image) v
-  lower_second z h = rw (ne_eqb (v % 2) 0 z) (h ∙ ap (λ (y : State). y.second_lower) same_state)
-
-  pub upper_first : {b : ℕ} → v % 2 ≡ 0 → b ≡ (state_in image place (v / 2)).first_upper → b ≡ upper_bound (design_of image) v
-  upper_first z h = rw (eq-eqb (v % 2) 0 z) (h ∙ ap (λ (y : State). y.first_upper) same_state)
-
-  pub upper_second : {b : ℕ} → (v % 2 ≡ 0 → ⊥) → b ≡ (state_in image place (v / 2)).second_upper → b ≡ upper_bound (design_of image) v
-  upper_second z h = rw (ne_eqb (v % 2) 0 z) (h ∙ ap (λ (y : State). y.second_upper) same_state)
+use Rattle.checker_scopes.specs.Scoping.{Given, Argument, Arguing, Counting}
 
 -- ---- an argument
 -- the label byte of parameter i in scope
@@ -72,7 +54,7 @@ argument_is : (d : Table) (s r : ℕ) → is_argument d s r ≡ true → (r < le
 unfolding is_argument
 argument_is d s r h = (or_iff less_iff (and_iff at_most_iff less_iff)).0 h
 
-module _ {image scopes : List ℕ} {registers_at states_at s : ℕ} (here : Arguing image scopes registers_at states_at s) where
+module _ {image scopes : List ℕ} {x : Design} {s : ℕ} (here : Arguing image scopes x s) where
   state_below : s < length (design_of image).states
   state_below = let count = states_count here.known.describes in let state = here.state in omega arith
 
@@ -107,14 +89,11 @@ module _ {image scopes : List ℕ} {registers_at states_at s : ℕ} (here : Argu
         go (inr (h, k)) = parameter_label_byte s h k
 
     -- ---- a register's label
-    below_count : r < 64 → r < here.design.registers
+    pub below_count : r < 64 → r < x.registers
     below_count l = let count = registers_count here.known.describes in let below = argument_register l in omega arith
 
-    pub argument_inside : r < 64 → register_end registers_at r ≤ length image
-    argument_inside l = rw here.registers_begin (register_inside here.known.describes (below_count l))
-
-    own_label : r < 64 → (register_in image registers_at r).label ≡ register_label (design_of image) r
-    own_label l = rw here.registers_begin (ap (λ (y : Register). y.label) (register_in_lem here.known.describes (below_count l)))
+    own_label : r < 64 → (register_in image x.registers_at r).label ≡ register_label (design_of image) r
+    own_label l = ap (λ (y : Register). y.label) (register_in_lem here.known.describes (below_count l))
 
     low_label : r < 64 → register_label (design_of image) r < 16
     low_label l =
@@ -126,61 +105,36 @@ module _ {image scopes : List ℕ} {registers_at states_at s : ℕ} (here : Argu
     unfolding label_byte
     low_byte l = cond_true (ltb r 64) _ _ (lt-ltb r 64 l)
 
-    pub least_register : {x : ℕ} → r < 64 → x ≡ (register_in image registers_at r).label → x ≡ least_label (design_of image) s (label_byte (design_of image) r)
+    pub least_register : {b : ℕ} → r < 64 → b ≡ (register_in image x.registers_at r).label → b ≡ least_label (design_of image) s (label_byte (design_of image) r)
     least_register l e = e ∙ own_label l ∙ sym (rw (low_byte l) (least_label_lem (design_of image) s (register_label (design_of image) r) (low_label l)))
 
-    pub most_register : {x : ℕ} → r < 64 → x ≡ (register_in image registers_at r).label → x ≡ most_label (design_of image) s (label_byte (design_of image) r)
+    pub most_register : {b : ℕ} → r < 64 → b ≡ (register_in image x.registers_at r).label → b ≡ most_label (design_of image) s (label_byte (design_of image) r)
     most_register l e = e ∙ own_label l ∙ sym (rw (low_byte l) (most_label_lem (design_of image) s (register_label (design_of image) r) (low_label l)))
 
     -- ---- a parameter's bounds
-    pub entry_inside : 64 ≤ r → 3 * s + 1 + (r - 64) < length scopes
-    entry_inside l =
-        let below = state_below in
-        let few = few_in_scope in
-        let inside = argument_parameter l in
-        let long = here.table.long in
-        omega arith
+    pub parameter_in_scope : 64 ≤ r → r - 64 < 2
+    parameter_in_scope l = let few = few_in_scope in let inside = argument_parameter l in omega arith
 
-    pub entry_fits : 64 ≤ r → Fits w64 (3 * s + 1 + (r - 64))
-    entry_fits l =
-        let state = here.state in
-        let states = states_few here.known.describes in
-        let few = few_in_scope in
-        let inside = argument_parameter l in
-        record { fits = omega arith }
-
-    entry_is : {v : ℕ} → 64 ≤ r → v ≡ get_or scopes (3 * s + 1 + (r - 64)) 0 → v ≡ get_or (scope_of (design_of image) s) (r - 64) 0
-    entry_is l e = e ∙ at (r - 64) (argument_parameter l)
-      where
-        at : (i : ℕ) → i < length (scope_of (design_of image) s) → get_or scopes (3 * s + 1 + i) 0 ≡ get_or (scope_of (design_of image) s) i 0
-        at zero l = let place : 3 * s + 1 + 0 ≡ 3 * s + 1 = omega arith in rw place (here.table.first s state_below)
-        at (suc zero) l = let place : 3 * s + 1 + 1 ≡ 3 * s + 2 = omega arith in rw place (here.table.second s state_below)
-        at (suc (suc i)) l = let few = few_in_scope in absurd (omega arith)
-
-    pub entry_bounding : {v : ℕ} → 64 ≤ r → v ≡ get_or scopes (3 * s + 1 + (r - 64)) 0 → Bounding image states_at v
-    entry_bounding {v} l e =
-        let is = entry_is l e in
+    pub parameter_below : {v : ℕ} → 64 ≤ r → v ≡ get_or (scope_of (design_of image) s) (r - 64) 0 → v < 2 * x.states
+    parameter_below l is =
         let number = parameter_number here.known.states here.parameters (r - 64) state_below (argument_parameter l) in
         let count = states_count here.known.describes in
-        record {
-          design = here.design;
-          state = record { describes = here.known.describes; state = omega arith; begins = here.states_begin };
-        }
+        omega arith
 
     high_byte : 64 ≤ r → label_byte (design_of image) r ≡ 16 + (r - 64)
     unfolding label_byte
     high_byte l = cond_false (ltb r 64) _ _ (le-ltb r 64 l)
 
-    pub least_scoped : {v x : ℕ} → 64 ≤ r → v ≡ get_or scopes (3 * s + 1 + (r - 64)) 0 → x ≡ lower_bound (design_of image) v → x ≡ least_label (design_of image) s (label_byte (design_of image) r)
+    pub least_scoped : {v b : ℕ} → 64 ≤ r → v ≡ get_or (scope_of (design_of image) s) (r - 64) 0 → b ≡ lower_bound (design_of image) v → b ≡ least_label (design_of image) s (label_byte (design_of image) r)
     least_scoped l e h =
         h
-        ∙ ap (lower_bound (design_of image)) (entry_is l e)
+        ∙ ap (lower_bound (design_of image)) e
         ∙ sym (rw (high_byte l) (least_parameter (design_of image) s (16 + (r - 64)) (at_least (r - 64)) ∙ ap (λ (i : ℕ). lower_bound (design_of image) (get_or (scope_of (design_of image) s) i 0)) (less_label (r - 64))))
 
-    pub most_scoped : {v x : ℕ} → 64 ≤ r → v ≡ get_or scopes (3 * s + 1 + (r - 64)) 0 → x ≡ upper_bound (design_of image) v → x ≡ most_label (design_of image) s (label_byte (design_of image) r)
+    pub most_scoped : {v b : ℕ} → 64 ≤ r → v ≡ get_or (scope_of (design_of image) s) (r - 64) 0 → b ≡ upper_bound (design_of image) v → b ≡ most_label (design_of image) s (label_byte (design_of image) r)
     most_scoped l e h =
         h
-        ∙ ap (upper_bound (design_of image)) (entry_is l e)
+        ∙ ap (upper_bound (design_of image)) e
         ∙ sym (rw (high_byte l) (most_parameter (design_of image) s (16 + (r - 64)) (at_least (r - 64)) ∙ ap (λ (i : ℕ). upper_bound (design_of image) (get_or (scope_of (design_of image) s) i 0)) (less_label (r - 64))))
 
     -- both are labels
@@ -222,12 +176,21 @@ module _ {image scopes : List ℕ} {registers_at states_at s : ℕ} (here : Argu
     pub an_argument : not argument ≡ false → Argument (design_of image) s r
     an_argument h = record { is = sym same_argument ∙ not_false argument h }
 
-    module _ {v : ℕ} (given : Given image states_at v) (h : not argument ≡ false) where
-      pub lower_least : {x y : ℕ} → x ≡ lower_bound (design_of image) v → y ≡ least_label (design_of image) s (label_byte (design_of image) r) → Comparing image x y
-      lower_least e f = record { design = here.design; describes = here.known.describes; from_label = rw e given.lower_label; to_label = rw f (both_labels (an_argument h)).0 }
+    module _ {v : ℕ} (given : Given image x v) (h : not argument ≡ false) where
+      label : {b l : ℕ} → b ≡ l → l < length (design_of image).rows → b < x.labels
+      label e below = let count = labels_count here.known.describes in omega arith
 
-      pub most_upper : {x y : ℕ} → x ≡ most_label (design_of image) s (label_byte (design_of image) r) → y ≡ upper_bound (design_of image) v → Comparing image x y
-      most_upper e f = record { design = here.design; describes = here.known.describes; from_label = rw e (both_labels (an_argument h)).1; to_label = rw f given.upper_label }
+      pub lower_label : {b : ℕ} → b ≡ lower_bound (design_of image) v → b < x.labels
+      lower_label e = label e given.lower_label
+
+      pub upper_label : {b : ℕ} → b ≡ upper_bound (design_of image) v → b < x.labels
+      upper_label e = label e given.upper_label
+
+      pub least_label_below : {b : ℕ} → b ≡ least_label (design_of image) s (label_byte (design_of image) r) → b < x.labels
+      least_label_below e = label e (both_labels (an_argument h)).0
+
+      pub most_label_below : {b : ℕ} → b ≡ most_label (design_of image) s (label_byte (design_of image) r) → b < x.labels
+      most_label_below e = label e (both_labels (an_argument h)).1
 
       pub argument_rule :
           {lower upper least most : ℕ} {f g : Bool}
@@ -252,25 +215,22 @@ module _ {image scopes : List ℕ} {registers_at states_at s : ℕ} (here : Argu
 
   -- ---- a field of a goto to t
   module _ {t : ℕ} (state : t < length (design_of image).states) where
-    target_below : t < here.design.states
+    pub target_below : t < x.states
     target_below = let all = states_count here.known.describes in omega arith
-
-    pub target_inside : state_end states_at t ≤ length image
-    target_inside = rw here.states_begin (state_inside here.known.describes target_below)
 
     pub given_fits : {j : ℕ} → j < 2 → Fits w64 (2 * t + j)
     given_fits l = let states = states_few here.known.describes in let below = target_below in record { fits = omega arith }
 
-    module _ {count : ℕ} (e : count ≡ (state_in image states_at t).parameters) where
+    module _ {count : ℕ} (e : count ≡ (state_in image x.states_at t).parameters) where
       count_is : count ≡ (state_at (design_of image) t).parameters
-      count_is = e ∙ rw here.states_begin (ap (λ (y : State). y.parameters) (state_in_lem here.known.describes target_below))
+      count_is = e ∙ ap (λ (y : State). y.parameters) (state_in_lem here.known.describes target_below)
 
-      pub given_to : {j : ℕ} → j < count → j < 2 → Given image states_at (2 * t + j)
+      pub given_to : {j : ℕ} → j < count → j < 2 → Given image x (2 * t + j)
       given_to {j} l m =
           let is = count_is in
           let pair = own_pair (design_of image) t j ((parameters_iff (design_of image) t).0 (here.parameters.kept t state)) (omega arith) in
           record {
-            bounding = record { design = here.design; state = rw (parameter_state t j m) (record { describes = here.known.describes; state = target_below; begins = here.states_begin }) };
+            state = (let below = target_below in omega arith);
             lower_label = pair.lower_label;
             upper_label = pair.upper_label;
           }
@@ -283,15 +243,9 @@ module _ {image scopes : List ℕ} {registers_at states_at s : ℕ} (here : Argu
       unfolding field_kept
       field_unused {j} r l = let is = count_is in let unused : (state_at (design_of image) t).parameters ≤ j = omega arith in sym (cond_false (ltb j (state_at (design_of image) t).parameters) _ _ (le-ltb j _ unused))
 
--- both fields
-pub both_fields : (d : Table) (s t a b : ℕ) {f g : Bool} → f ≡ field_kept d s t 0 a → g ≡ field_kept d s t 1 b → (f && g) ≡ arguments_kept d s t a b
-both_fields d s t a b e h = rw (e, h)
-
 -- for `search`
-pub ruleset bound_rules = (lower_first, lower_second, upper_first, upper_second)
+pub ruleset label_rules = (below_count, least_register, most_register, parameter_in_scope, parameter_below, least_scoped, most_scoped)
 
-pub ruleset label_rules = (argument_inside, least_register, most_register, entry_inside, entry_fits, entry_bounding, least_scoped, most_scoped)
+pub ruleset argument_rules = (no_argument, an_argument, lower_label, upper_label, least_label_below, most_label_below, argument_rule)
 
-pub ruleset argument_rules = (no_argument, an_argument, lower_least, most_upper, argument_rule)
-
-pub ruleset field_rules = (target_inside, given_fits, given_to, field_used, field_unused)
+pub ruleset field_rules = (target_below, given_fits, given_to, field_used, field_unused)

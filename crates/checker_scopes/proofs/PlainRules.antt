@@ -1,5 +1,6 @@
 -- In a plain design refusals 16 and 19 find nothing: no state has anything to keep, no command assigns or gives a port, a name is a register's, and no argument is given
 -- or asked for.
+use Rattle.std.specs.Prelude.{None}
 use Prim.Native.Nat.{ℕ, zero, suc, ◌+◌, ◌≤◌, ◌<◌}
 use mathlib.Core.Path.{◌≡◌, refl, sym, ◌∙◌, ap}
 use mathlib.Core.Bool.{Bool, true, false, ◌&&◌, not, or-true}
@@ -8,7 +9,6 @@ use native.Mathlib.Omega.{arith}
 use lib.Dec.{ltb, eqb}
 use lib.ListN.{length}
 use borrow.Author.Tests.{lt-ltb, le-ltb, ltb-true, eqb-true}
-use Rattle.model.specs.declared.Found.TheVariants.{Nowhere}
 use Rattle.model.specs.Limits.{registers_max}
 use Rattle.model.specs.Indices.{all_below, lowest_failing}
 use Rattle.model.specs.Image.{Design as Table, Register, State, Node, design_of, state_at, command_at, expression_at}
@@ -19,7 +19,7 @@ use Rattle.model.specs.Parameters.{takes_parameters, pair_kept, label_in_scope, 
 use Rattle.model.specs.Trees.{expr_of, cmd_of, body_of}
 use Rattle.model.specs.Scopes.{name_kept, field_kept, scope_fault}
 use Rattle.model.specs.Rules.{ReadsScoped, Scoped, CommandHolds, ExpressionHolds}
-use Rattle.model.proofs.Laws.Booleans.{not_true, not_false, and_first, and_second, and_both, or_first, cond_false}
+use Rattle.model.proofs.Laws.Booleans.{and_first, and_second, and_both, or_first, cond_false}
 use Rattle.model.proofs.Laws.Indices.{all_at, failing_nowhere}
 use Rattle.model.proofs.Laws.Kinds.{kind_assigns, kind_goes}
 use Rattle.model.proofs.Laws.Plain.{plain_scope}
@@ -102,19 +102,19 @@ module _ {image : List ℕ} {x : Design} (known : RecordsKept image x) where
   unfolding plain_expression
   plain_expression_rule l r = rw (r ∙ ap (λ (y : Node). y.item) (expression_in known.describes l))
 
--- ---- the three loops
+-- ---- the tests of all states, commands and expressions, one after the other
 module _ (d : Table) {a : Bool} (is : a ≡ all_below (plain_state d) (length d.states)) where
-  pub plain_states_fail : not a ≡ true → false ≡ plain_design d
+  pub plain_states_fail : a ≡ false → false ≡ plain_design d
   unfolding plain_design
-  plain_states_fail h = rw (← is, not_true a h)
+  plain_states_fail h = rw (← is, h)
 
-  pub plain_commands_fail : {b : Bool} → b ≡ all_below (plain_command d) (length d.commands) → not a ≡ false → not b ≡ true → false ≡ plain_design d
+  pub plain_commands_fail : {b : Bool} → b ≡ all_below (plain_command d) (length d.commands) → a ≡ true → b ≡ false → false ≡ plain_design d
   unfolding plain_design
-  plain_commands_fail {b} e n h = rw (← is, ← e, not_false a n, not_true b h)
+  plain_commands_fail e n h = rw (← is, ← e, n, h)
 
-  pub plain_all : {b c : Bool} → b ≡ all_below (plain_command d) (length d.commands) → c ≡ all_below (plain_expression d) (length d.expressions) → not a ≡ false → not b ≡ false → c ≡ plain_design d
+  pub plain_all : {b c : Bool} → b ≡ all_below (plain_command d) (length d.commands) → c ≡ all_below (plain_expression d) (length d.expressions) → a ≡ true → b ≡ true → c ≡ plain_design d
   unfolding plain_design
-  plain_all {b} eb ec n h = rw (← is, ← eb, ← ec, not_false a n, not_false b h)
+  plain_all eb ec n h = rw (← is, ← eb, ← ec, n, h)
 
 -- ---- a plain design
 module _ (d : Table) (plain : plain_design d ≡ true) where
@@ -250,13 +250,13 @@ module _ (d : Table) (plain : plain_design d ≡ true) where
 
 -- ---- what the passes would find
 module _ {image : List ℕ} {x : Design} {b : Bool} (known : RecordsKept image x) (e : b ≡ plain_design (design_of image)) (h : b ≡ true) where
-  pub plain_ports : lowest_failing (names_no_port (design_of image)) (length (design_of image).commands) ≡ Nowhere
+  pub plain_ports : lowest_failing (names_no_port (design_of image)) (length (design_of image).commands) ≡ None
   plain_ports = failing_nowhere (names_no_port (design_of image)) (length (design_of image).commands) (no_port (design_of image) (sym e ∙ h) known.commands)
 
-  pub plain_parameters : lowest_failing (parameters_kept (design_of image)) (length (design_of image).states) ≡ Nowhere
+  pub plain_parameters : lowest_failing (parameters_kept (design_of image)) (length (design_of image).states) ≡ None
   plain_parameters = failing_nowhere (parameters_kept (design_of image)) (length (design_of image).states) (state_kept_lem (design_of image) (sym e ∙ h))
 
-  pub plain_scopes : scope_fault (design_of image) ≡ Nowhere
+  pub plain_scopes : scope_fault (design_of image) ≡ None
   unfolding body_of
   plain_scopes =
       let d = design_of image in
@@ -269,5 +269,3 @@ module _ {image : List ℕ} {x : Design} {b : Bool} (known : RecordsKept image x
   plain_none = record { none = plain_state_lem (design_of image) (sym e ∙ h) }
 
 pub ruleset plain_command_laws = (plain_assign, plain_goto, plain_other)
-
-pub ruleset plain_laws = (plain_states_fail, plain_commands_fail, plain_all)

@@ -1,4 +1,5 @@
 -- The lowest fault of scope of a command, from the lowest of its parts: the laws that the recursion over parts cites, one for each kind of node.
+use Rattle.std.specs.Prelude.{Option, None}
 use Prim.Native.Nat.{ℕ, zero, suc, min, ◌+◌, ◌-◌, ◌≤◌, ◌<◌}
 use mathlib.Core.Logic.{◌⊎◌, inl, inr, ⊎_elim}
 use mathlib.Core.Path.{◌≡◌, refl, ◌∙◌, ap}
@@ -11,8 +12,6 @@ use mir.Syntax.{w64}
 use mir.Val.{Fits}
 use lib.Dec.{ltb}
 use lib.ListN.{length}
-use Rattle.model.specs.declared.Found.{Found}
-use Rattle.model.specs.declared.Found.TheVariants.{Nowhere}
 use Rattle.model.specs.Limits.{expression_place, expressions_max}
 use Rattle.model.specs.Indices.{lowest_of, join_below}
 use Rattle.model.specs.Image.{Design as Table, Node, design_of, command_at, expression_at, constant_of}
@@ -28,11 +27,11 @@ use Rattle.model.proofs.Laws.Kinds.{expression_kinds, kind_constants, no_express
 use Rattle.model.proofs.Laws.Trees.{expr_constant, expr_register, expr_binary, cmd_skip, cmd_assign, cmd_sequence, cmd_fall, cmd_goto, cmd_branch}
 use Rattle.design.specs.declared.Design.{Design}
 use Rattle.design.specs.Describes.{Describes}
-use Rattle.design.specs.Records.{node_in, state_in, node_end}
+use Rattle.design.specs.Records.{node_in, state_in}
 use Rattle.design.specs.Kept.{ParametersKept, RecordsKept}
 use Rattle.design.specs.Scopes.{Scopes}
 use Rattle.design.proofs.Laws.{registers_count, states_count, expressions_count, commands_most, expressions_most, commands_few}
-use Rattle.design.proofs.FieldRules.{body_is, body_below, command_at_lem, command_place_inside, command_kind_of, item_is, a_is, b_is, c_is, command_holds_lem, assigned_expression, named_state, condition, sequence_a_below, sequence_b_below, branch_b_below, branch_c_below, lower_command, expression_at_lem, expression_place_inside, expression_kind_is, read_is, first_is, second_is, expression_holds_lem, operation, operand_a_below, operand_b_below, lower_expression}
+use Rattle.design.proofs.FieldRules.{body_is, body_below, command_at_lem, command_kind_of, item_is, a_is, b_is, c_is, command_holds_lem, assigned_expression, named_state, condition, sequence_a_below, sequence_b_below, branch_b_below, branch_c_below, lower_command, expression_at_lem, expression_kind_is, read_is, first_is, second_is, expression_holds_lem, operation, operand_a_below, operand_b_below, lower_expression}
 use Rattle.checker_bodies.specs.Places.{found_among}
 use Rattle.checker_bodies.proofs.PlaceRules.{place_found, place_append, place_charged}
 use Rattle.checker_scopes.specs.Scoping.{node_places, node_place_of, node_unless, names_past, Arguing, Counting, Reading, Scoping}
@@ -82,7 +81,7 @@ names_below d end few (constant v) h = none
 names_below d end few (register n r) h = charged_below (ltb r end) (expression_place + n) (omega arith)
 names_below d end few (binary o p q) h = each_append (names_below d end few p h.0) (names_below d end few q h.1)
 
-names_constant : (end v : ℕ) → lowest_of (names_past end (constant v)) ≡ Nowhere
+names_constant : (end v : ℕ) → lowest_of (names_past end (constant v)) ≡ None
 unfolding names_past lowest_of
 names_constant end v = refl
 
@@ -94,9 +93,9 @@ names_binary : (end : ℕ) (o : Operation) (p q : Expr) → names_past end (bina
 unfolding names_past
 names_binary end o p q = refl
 
-module _ {image : List ℕ} {place e : ℕ} (here : Reading image place e) where
-  pub reading_inside : node_end place e ≤ length image
-  reading_inside = expression_place_inside here.expression
+module _ {image : List ℕ} {x : Design} {e : ℕ} (here : Reading image x e) where
+  pub reading_below : e < x.expressions
+  reading_below = here.expression.node
 
   few_expressions : e < 2048
   few_expressions = let node = here.expression.node in let most = expressions_most here.expression.describes in omega arith
@@ -104,16 +103,16 @@ module _ {image : List ℕ} {place e : ℕ} (here : Reading image place e) where
   pub read_place_lem : Fits w64 (1024 + e)
   read_place_lem = let few = few_expressions in record { fits = omega arith }
 
-  lower_reading : (m : ℕ) → m < e → Reading image place m
-  lower_reading m l = record { design = here.design; expressions = here.expressions; expression = lower_expression here.expression here.expressions l }
+  lower_reading : (m : ℕ) → m < e → Reading image x m
+  lower_reading m l = record { expressions = here.expressions; expression = lower_expression here.expression here.expressions l }
 
-  pub operand_a_reading : {k a : ℕ} → k < expression_kinds → 1 ≤ k → (k ≡ 1 → ⊥) → k ≡ (node_in image place e).kind → a ≡ (node_in image place e).a → Reading image place a
+  pub operand_a_reading : {k a : ℕ} → k < expression_kinds → 1 ≤ k → (k ≡ 1 → ⊥) → k ≡ (node_in image x.expressions_at e).kind → a ≡ (node_in image x.expressions_at e).a → Reading image x a
   operand_a_reading {a = a} u l other p f = lower_reading a (operand_a_below here.expression u l other p f)
 
-  pub operand_b_reading : {k b : ℕ} → k < expression_kinds → 1 ≤ k → (k ≡ 1 → ⊥) → k ≡ (node_in image place e).kind → b ≡ (node_in image place e).b → Reading image place b
+  pub operand_b_reading : {k b : ℕ} → k < expression_kinds → 1 ≤ k → (k ≡ 1 → ⊥) → k ≡ (node_in image x.expressions_at e).kind → b ≡ (node_in image x.expressions_at e).b → Reading image x b
   operand_b_reading {b = b} u l other p f = lower_reading b (operand_b_below here.expression u l other p f)
 
-  pub reads_register : {k r p : ℕ} (end : ℕ) → k ≡ 1 → k ≡ (node_in image place e).kind → r ≡ (node_in image place e).item → p ≡ node_unless (ltb r end) (1024 + e) → p ≡ read_place (design_of image) end e
+  pub reads_register : {k r p : ℕ} (end : ℕ) → k ≡ 1 → k ≡ (node_in image x.expressions_at e).kind → r ≡ (node_in image x.expressions_at e).item → p ≡ node_unless (ltb r end) (1024 + e) → p ≡ read_place (design_of image) end e
   unfolding expression_kind
   reads_register {r = r} end q k f g =
       let d = design_of image in
@@ -125,9 +124,9 @@ module _ {image : List ℕ} {place e : ℕ} (here : Reading image place e) where
       → k < expression_kinds
       → 1 ≤ k
       → (k ≡ 1 → ⊥)
-      → k ≡ (node_in image place e).kind
-      → a ≡ (node_in image place e).a
-      → b ≡ (node_in image place e).b
+      → k ≡ (node_in image x.expressions_at e).kind
+      → a ≡ (node_in image x.expressions_at e).a
+      → b ≡ (node_in image x.expressions_at e).b
       → r ≡ min p q
       → p ≡ read_place (design_of image) end a
       → q ≡ read_place (design_of image) end b
@@ -146,25 +145,25 @@ module _ {image : List ℕ} {place e : ℕ} (here : Reading image place e) where
       rw (tree, names_binary end o.0 (expr_of d part) (expr_of d part'))
       (both_lowest (names_past end (expr_of d part)) (names_past end (expr_of d part')) (names_below d end few (expr_of d part) (expr_numbered d part)) (names_below d end few (expr_of d part') (expr_numbered d part')) (rw left at first) (rw right at second) h)
 
-  pub reads_low : {k : ℕ} (end : ℕ) → k < 1 → k ≡ (node_in image place e).kind → 3072 ≡ read_place (design_of image) end e
+  pub reads_low : {k : ℕ} (end : ℕ) → k < 1 → k ≡ (node_in image x.expressions_at e).kind → 3072 ≡ read_place (design_of image) end e
   reads_low end l k =
       let d = design_of image in
       let none = expression_kind_is here.expression k in
       rw (expr_constant d e (kind_constants (omega arith)), names_constant end (constant_of (expression_at d e)))
 
   -- no number from here on is a kind
-  pub reads_high : {k : ℕ} (end : ℕ) → expression_kinds ≤ k → k ≡ (node_in image place e).kind → 3072 ≡ read_place (design_of image) end e
+  pub reads_high : {k : ℕ} (end : ℕ) → expression_kinds ≤ k → k ≡ (node_in image x.expressions_at e).kind → 3072 ≡ read_place (design_of image) end e
   reads_high end l k = absurd (rw (no_expression_kind l) at (expression_holds_lem here.expression k))
 
-pub ruleset reads_laws = (reading_inside, read_place_lem, reads_register, reads_operation, reads_low, reads_high)
+pub ruleset reads_laws = (reading_below, read_place_lem, reads_register, reads_operation, reads_low, reads_high)
 
 -- ---- commands, as trees
 module _ (d : Table) (s n : ℕ) where
-  skip_tree : lowest_of (scope_faults d s (skip n)) ≡ Nowhere
+  skip_tree : lowest_of (scope_faults d s (skip n)) ≡ None
   unfolding scope_faults lowest_of
   skip_tree = refl
 
-  fall_tree : lowest_of (scope_faults d s (fall n)) ≡ Nowhere
+  fall_tree : lowest_of (scope_faults d s (fall n)) ≡ None
   unfolding scope_faults lowest_of
   fall_tree = refl
 
@@ -200,9 +199,9 @@ read_lowest : {end place : ℕ} (d : Table) (s e : ℕ) → end ≡ 64 + length 
 read_lowest d s e past read = read ∙ ap (λ (xs : List ℕ). node_place_of (lowest_of xs)) (ap (λ (k : ℕ). names_past k (expr_of d e)) past ∙ names_read d s (expr_of d e))
 
 -- ---- a command by its kind
-module _ {image scopes : List ℕ} {registers_at states_at place expressions_at s n : ℕ} (j : Scoping image scopes registers_at states_at place expressions_at s n) where
-  pub scoping_inside : node_end place n ≤ length image
-  scoping_inside = command_place_inside j.command
+module _ {image scopes : List ℕ} {x : Design} {s n : ℕ} (j : Scoping image scopes x s n) where
+  pub scoping_below : n < x.commands
+  scoping_below = j.command.node
 
   -- what it and its parts are charged with are places of nodes
   own_below : (kept : Bool) → Below node_places (charged_unless kept n)
@@ -216,59 +215,58 @@ module _ {image scopes : List ℕ} {registers_at states_at place expressions_at 
       let d = design_of image in
       rw (← names_read d s (expr_of d e)) (names_below d (64 + length (scope_of d s)) (expressions_few j.command.describes) (expr_of d e) (expr_numbered d e))
 
-  pub scoping_arguing : Arguing image scopes registers_at states_at s
+  pub scoping_arguing : Arguing image scopes x s
   scoping_arguing = j.arguing
 
   -- a lower command of the same state
-  lower_node : (m : ℕ) → m < n → Scoping image scopes registers_at states_at place expressions_at s m
+  lower_node : (m : ℕ) → m < n → Scoping image scopes x s m
   lower_node m l =
-      record { arguing = j.arguing; command = lower_command j.command j.arguing.known.commands l; expressions_begin = j.expressions_begin }
+      record { arguing = j.arguing; command = lower_command j.command j.arguing.known.commands l }
 
   -- its expression
-  reading_at : (e : ℕ) → e < length (design_of image).expressions → Reading image expressions_at e
+  reading_at : (e : ℕ) → e < length (design_of image).expressions → Reading image x e
   reading_at e l =
       let count = expressions_count j.command.describes in
       record {
-        design = j.arguing.design;
         expressions = j.arguing.known.expressions;
-        expression = expression_at_lem j.command.describes j.arguing.known.expressions (omega arith) j.expressions_begin;
+        expression = expression_at_lem j.command.describes j.arguing.known.expressions (omega arith) refl;
       }
 
-  pub assigned_reading : {k e : ℕ} → k ≡ 1 → k ≡ (node_in image place n).kind → e ≡ (node_in image place n).a → Reading image expressions_at e
+  pub assigned_reading : {k e : ℕ} → k ≡ 1 → k ≡ (node_in image x.commands_at n).kind → e ≡ (node_in image x.commands_at n).a → Reading image x e
   assigned_reading {e = e} q p f = reading_at e (assigned_expression j.command q p f)
 
-  pub condition_reading : {k e : ℕ} → k ≡ 5 → k ≡ (node_in image place n).kind → e ≡ (node_in image place n).a → Reading image expressions_at e
+  pub condition_reading : {k e : ℕ} → k ≡ 5 → k ≡ (node_in image x.commands_at n).kind → e ≡ (node_in image x.commands_at n).a → Reading image x e
   condition_reading {e = e} q p f = reading_at e (condition j.command q p f)
 
   -- the state that a goto names
-  pub goto_state : {k t : ℕ} → k ≡ 4 → k ≡ (node_in image place n).kind → t ≡ (node_in image place n).item → t < length (design_of image).states
+  pub goto_state : {k t : ℕ} → k ≡ 4 → k ≡ (node_in image x.commands_at n).kind → t ≡ (node_in image x.commands_at n).item → t < length (design_of image).states
   goto_state q p f = named_state j.command q p f
 
   -- ---- the parts of a sequence and of an if
-  pub sequence_a : {k a : ℕ} → k ≡ 2 → k ≡ (node_in image place n).kind → a ≡ (node_in image place n).a → Scoping image scopes registers_at states_at place expressions_at s a
+  pub sequence_a : {k a : ℕ} → k ≡ 2 → k ≡ (node_in image x.commands_at n).kind → a ≡ (node_in image x.commands_at n).a → Scoping image scopes x s a
   sequence_a {a = m} q p f = lower_node m (sequence_a_below j.command q p f)
 
-  pub sequence_b : {k b : ℕ} → k ≡ 2 → k ≡ (node_in image place n).kind → b ≡ (node_in image place n).b → Scoping image scopes registers_at states_at place expressions_at s b
+  pub sequence_b : {k b : ℕ} → k ≡ 2 → k ≡ (node_in image x.commands_at n).kind → b ≡ (node_in image x.commands_at n).b → Scoping image scopes x s b
   sequence_b {b = m} q p f = lower_node m (sequence_b_below j.command q p f)
 
-  pub branch_b : {k b : ℕ} → k ≡ 5 → k ≡ (node_in image place n).kind → b ≡ (node_in image place n).b → Scoping image scopes registers_at states_at place expressions_at s b
+  pub branch_b : {k b : ℕ} → k ≡ 5 → k ≡ (node_in image x.commands_at n).kind → b ≡ (node_in image x.commands_at n).b → Scoping image scopes x s b
   branch_b {b = m} q p f = lower_node m (branch_b_below j.command q p f)
 
-  pub branch_c : {k c : ℕ} → k ≡ 5 → k ≡ (node_in image place n).kind → c ≡ (node_in image place n).c → Scoping image scopes registers_at states_at place expressions_at s c
+  pub branch_c : {k c : ℕ} → k ≡ 5 → k ≡ (node_in image x.commands_at n).kind → c ≡ (node_in image x.commands_at n).c → Scoping image scopes x s c
   branch_c {c = m} q p f = lower_node m (branch_c_below j.command q p f)
 
   -- ---- what the command comes to
   pub scoped_assign :
-      {k r e own registers x : ℕ} (end read : ℕ)
+      {k r e own registers place : ℕ} (end read : ℕ)
       → k ≡ 1
-      → k ≡ (node_in image place n).kind
-      → r ≡ (node_in image place n).item
-      → e ≡ (node_in image place n).a
+      → k ≡ (node_in image x.commands_at n).kind
+      → r ≡ (node_in image x.commands_at n).item
+      → e ≡ (node_in image x.commands_at n).a
       → Counting image registers s end
       → own ≡ node_unless (ltb r end) n
       → read ≡ read_place (design_of image) end e
-      → x ≡ min own read
-      → x ≡ command_place (design_of image) s n
+      → place ≡ min own read
+      → place ≡ command_place (design_of image) s n
   unfolding command_kind
   scoped_assign {r = r} {e = e} end read q k f g counted h reads x-is =
       let d = design_of image in
@@ -280,15 +278,15 @@ module _ {image scopes : List ℕ} {registers_at states_at place expressions_at 
       (both_lowest (charged_unless (name_kept d s item) n) (read_faults d s (expr_of d value)) (own_below (name_kept d s item)) (value_below value) (h ∙ rw kept (place_charged node_places (name_kept d s item) n)) (read_lowest d s value counted.past (rw (a_is j.command g) at reads)) x-is)
 
   pub scoped_sequence :
-      {k a b x : ℕ} (p q : ℕ)
+      {k a b place : ℕ} (p q : ℕ)
       → k ≡ 2
-      → k ≡ (node_in image place n).kind
-      → a ≡ (node_in image place n).a
-      → b ≡ (node_in image place n).b
-      → x ≡ min p q
+      → k ≡ (node_in image x.commands_at n).kind
+      → a ≡ (node_in image x.commands_at n).a
+      → b ≡ (node_in image x.commands_at n).b
+      → place ≡ min p q
       → p ≡ command_place (design_of image) s a
       → q ≡ command_place (design_of image) s b
-      → x ≡ command_place (design_of image) s n
+      → place ≡ command_place (design_of image) s n
   unfolding command_kind
   scoped_sequence p q f e ea eb ex first second =
       let d = design_of image in
@@ -299,15 +297,15 @@ module _ {image scopes : List ℕ} {registers_at states_at place expressions_at 
       (both_lowest (scope_faults d s (cmd_of d part)) (scope_faults d s (cmd_of d part')) (part_below part) (part_below part') (rw (a_is j.command ea) at first) (rw (b_is j.command eb) at second) ex)
 
   pub scoped_goto :
-      {k t a b x : ℕ} {kept : Bool}
+      {k t a b place : ℕ} {kept : Bool}
       → k ≡ 4
-      → k ≡ (node_in image place n).kind
-      → t ≡ (node_in image place n).item
-      → a ≡ (node_in image place n).a
-      → b ≡ (node_in image place n).b
+      → k ≡ (node_in image x.commands_at n).kind
+      → t ≡ (node_in image x.commands_at n).item
+      → a ≡ (node_in image x.commands_at n).a
+      → b ≡ (node_in image x.commands_at n).b
       → kept ≡ arguments_kept (design_of image) s t a b
-      → x ≡ node_unless kept n
-      → x ≡ command_place (design_of image) s n
+      → place ≡ node_unless kept n
+      → place ≡ command_place (design_of image) s n
   unfolding command_kind
   scoped_goto {t = t} {a = a} {b = b} {kept = kept} f e et ea eb ek ex =
       let d = design_of image in
@@ -318,19 +316,19 @@ module _ {image scopes : List ℕ} {registers_at states_at place expressions_at 
       (place_charged node_places (arguments_kept d s y.item y.a y.b) n)
 
   pub scoped_branch :
-      {k e b c parts registers x : ℕ} (end read p q : ℕ)
+      {k e b c parts registers place : ℕ} (end read p q : ℕ)
       → k ≡ 5
-      → x ≡ min read parts
+      → place ≡ min read parts
       → parts ≡ min p q
       → read ≡ read_place (design_of image) end e
       → p ≡ command_place (design_of image) s b
       → q ≡ command_place (design_of image) s c
-      → e ≡ (node_in image place n).a
-      → b ≡ (node_in image place n).b
-      → c ≡ (node_in image place n).c
-      → k ≡ (node_in image place n).kind
+      → e ≡ (node_in image x.commands_at n).a
+      → b ≡ (node_in image x.commands_at n).b
+      → c ≡ (node_in image x.commands_at n).c
+      → k ≡ (node_in image x.commands_at n).kind
       → Counting image registers s end
-      → x ≡ command_place (design_of image) s n
+      → place ≡ command_place (design_of image) s n
   unfolding command_kind
   scoped_branch end read p q f ex ep reads first second ee eb ec k counted =
       let d = design_of image in
@@ -342,7 +340,7 @@ module _ {image scopes : List ℕ} {registers_at states_at place expressions_at 
       rw (tree, branch_tree d s n (expr_of d value) (cmd_of d part) (cmd_of d part'))
       (both_lowest (read_faults d s (expr_of d value)) (scope_faults d s (cmd_of d part) ++ scope_faults d s (cmd_of d part')) (value_below value) (each_append (part_below part) (part_below part')) (read_lowest d s value counted.past (rw (a_is j.command ee) at reads)) both ex)
 
-  pub scoped_plain : {k : ℕ} → k ≡ (node_in image place n).kind → (k ≡ 1 → ⊥) → (k ≡ 2 → ⊥) → (k ≡ 4 → ⊥) → (k ≡ 5 → ⊥) → 3072 ≡ command_place (design_of image) s n
+  pub scoped_plain : {k : ℕ} → k ≡ (node_in image x.commands_at n).kind → (k ≡ 1 → ⊥) → (k ≡ 2 → ⊥) → (k ≡ 4 → ⊥) → (k ≡ 5 → ⊥) → 3072 ≡ command_place (design_of image) s n
   scoped_plain {k} e a b c f =
       let d = design_of image in
       ⊎_elim
@@ -350,16 +348,15 @@ module _ {image scopes : List ℕ} {registers_at states_at place expressions_at 
       (λ (h : command_kind k ≡ falls). rw (cmd_fall d n (command_kind_of j.command falls refl e h), fall_tree d s n))
       (plain_kind d n k (command_at d n) a b c f (command_holds_lem j.command refl e))
 
-pub ruleset scoped_laws = (scoping_inside, scoping_arguing, assigned_reading, condition_reading, goto_state, scoped_assign, scoped_sequence, scoped_goto, scoped_branch, scoped_plain)
+pub ruleset scoped_laws = (scoping_below, scoping_arguing, assigned_reading, condition_reading, goto_state, scoped_assign, scoped_sequence, scoped_goto, scoped_branch, scoped_plain)
 
 -- ---- states
 module _ {image : List ℕ} {x : Design} (known : RecordsKept image x) where
-  pub body_scoping : {scopes : List ℕ} {s n : ℕ} → ParametersKept (design_of image) → Scopes (design_of image) scopes → s < x.states → n ≡ (state_in image x.states_at s).command → Scoping image scopes x.registers_at x.states_at x.commands_at x.expressions_at s n
+  pub body_scoping : {scopes : List ℕ} {s n : ℕ} → ParametersKept (design_of image) → Scopes (design_of image) scopes → s < x.states → n ≡ (state_in image x.states_at s).command → Scoping image scopes x s n
   body_scoping parameters table l e =
       record {
-        arguing = record { design = x; known = known; parameters = parameters; table = table; state = l; registers_begin = refl; states_begin = refl };
+        arguing = record { known = known; parameters = parameters; table = table; state = l };
         command = command_at_lem known.describes known.commands (body_below known.describes l e known.states) refl;
-        expressions_begin = refl;
       }
 
   pub body_counting : {s count : ℕ} → count ≡ length (scope_of (design_of image) s) → Counting image x.registers s (64 + count)
@@ -390,7 +387,7 @@ scoped_one_more {image} {s = s} here known before scoped h =
     record { is = rw (add-one s) (both_lowest (join_below faults s) (faults s) (all_low known s) (state_low known s) before.is scoped h) }
 
 pub scopes_found :
-    {image : List ℕ} {x : Design} {s place : ℕ} {f : Found}
+    {image : List ℕ} {x : Design} {s place : ℕ} {f : Option ℕ}
     → RecordsKept image x
     → ScopedSo (design_of image) s place
     → s ≤ x.states

@@ -1,6 +1,5 @@
 -- What the pass for refusal 19 knows at a node, and the place of a fault as a number: a command's own, 1,024 plus an expression's, or one past all of these.
-use Rattle.std.specs.Prelude.{ℕ, ◌+◌, ◌/◌, ◌<◌, ◌≡◌, Bool, true, cond, List, [], ◌++◌, ltb, length}
-use Rattle.model.specs.declared.Found.{Found}
+use Rattle.std.specs.Prelude.{ℕ, ◌+◌, ◌*◌, ◌<◌, ◌≡◌, Bool, true, cond, List, [], ◌++◌, ltb, length, Option}
 use Rattle.model.specs.Limits.{expression_place, expressions_max, parameter_register, binding_length}
 use Rattle.model.specs.Image.{Design as Table, design_of}
 use Rattle.model.specs.States.{found_or}
@@ -9,8 +8,9 @@ use Rattle.model.specs.Shape.{charged_unless}
 use Rattle.model.specs.Parameters.{scope_of, lower_bound, upper_bound}
 use Rattle.model.specs.Scopes.{is_argument}
 use Rattle.design.specs.declared.Design.{Design}
+use Rattle.design.specs.declared.image.Image.{Image}
 use Rattle.design.specs.Kept.{ExpressionsKept, ParametersKept, RecordsKept}
-use Rattle.design.specs.RecordsAt.{StateAt, CommandAt, ExpressionAt}
+use Rattle.design.specs.RecordsAt.{CommandAt, ExpressionAt}
 use Rattle.design.specs.Scopes.{Scopes}
 
 -- past every command and every expression
@@ -18,7 +18,7 @@ abbrev pub node_places : ℕ
 node_places = expression_place + expressions_max
 
 -- what was found, as a place
-abbrev pub node_place_of : Found → ℕ
+abbrev pub node_place_of : Option ℕ → ℕ
 node_place_of found = found_or node_places found
 
 abbrev pub node_unless : Bool → ℕ → ℕ
@@ -30,15 +30,10 @@ names_past end (constant v) = []
 names_past end (register n r) = charged_unless (ltb r end) (expression_place + n)
 names_past end (binary o p q) = names_past end p ++ names_past end q
 
--- ---- where the recursion has the places of a design instead of the design
--- a bound of parameter v is asked for
-pub record Bounding (image : List ℕ) (states_at v : ℕ) : Type 0 where
-  pub design : Design
-  pub state : StateAt image design states_at (v / binding_length)
-
+-- ---- what is known where an image is read
 -- an argument is given to parameter v, whose bounds are labels
-pub record Given (image : List ℕ) (states_at v : ℕ) : Type 0 where
-  pub bounding : Bounding image states_at v
+pub record Given (image : List ℕ) (x : Design) (v : ℕ) : Type 0 where
+  pub state : v < binding_length * x.states
   pub lower_label : lower_bound (design_of image) v < length (design_of image).rows
   pub upper_label : upper_bound (design_of image) v < length (design_of image).rows
 
@@ -47,14 +42,11 @@ pub record Argument (d : Table) (s r : ℕ) : Type 0 where
   pub is : is_argument d s r ≡ true
 
 -- an argument is judged in state s
-pub record Arguing (image scopes : List ℕ) (registers_at states_at s : ℕ) : Type 0 where
-  pub design : Design
-  pub known : RecordsKept image design
+pub record Arguing (image scopes : List ℕ) (x : Design) (s : ℕ) : Type 0 where
+  pub known : RecordsKept image x
   pub parameters : ParametersKept (design_of image)
   pub table : Scopes (design_of image) scopes
-  pub state : s < design.states
-  pub registers_begin : registers_at ≡ design.registers_at
-  pub states_begin : states_at ≡ design.states_at
+  pub state : s < x.states
 
 -- how many registers there are, and the first byte that names no parameter in scope of s
 pub record Counting (image : List ℕ) (registers s end : ℕ) : Type 0 where
@@ -62,13 +54,27 @@ pub record Counting (image : List ℕ) (registers s end : ℕ) : Type 0 where
   pub past : end ≡ parameter_register + length (scope_of (design_of image) s)
 
 -- expression e is read
-pub record Reading (image : List ℕ) (expressions_at e : ℕ) : Type 0 where
-  pub design : Design
+pub record Reading (image : List ℕ) (x : Design) (e : ℕ) : Type 0 where
   pub expressions : ExpressionsKept (design_of image)
-  pub expression : ExpressionAt image design expressions_at e
+  pub expression : ExpressionAt image x x.expressions_at e
 
 -- command n of state s is judged
-pub record Scoping (image scopes : List ℕ) (registers_at states_at commands_at expressions_at s n : ℕ) : Type 0 where
-  pub arguing : Arguing image scopes registers_at states_at s
-  pub command : CommandAt image arguing.design commands_at n
-  pub expressions_begin : expressions_at ≡ arguing.design.expressions_at
+pub record Scoping (image scopes : List ℕ) (x : Design) (s n : ℕ) : Type 0 where
+  pub arguing : Arguing image scopes x s
+  pub command : CommandAt image x x.commands_at n
+
+-- ---- the same, of an `Image`
+abbrev pub GivenIn : Image → ℕ → Type 0
+GivenIn image v = Given image.bytes.now image.design v
+
+abbrev pub ArguingIn : Image → List ℕ → ℕ → Type 0
+ArguingIn image scopes s = Arguing image.bytes.now scopes image.design s
+
+abbrev pub CountingIn : Image → ℕ → ℕ → Type 0
+CountingIn image s end = Counting image.bytes.now image.design.registers s end
+
+abbrev pub ReadingIn : Image → ℕ → Type 0
+ReadingIn image e = Reading image.bytes.now image.design e
+
+abbrev pub ScopingIn : Image → List ℕ → ℕ → ℕ → Type 0
+ScopingIn image scopes s n = Scoping image.bytes.now scopes image.design s n

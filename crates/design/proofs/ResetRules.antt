@@ -1,4 +1,5 @@
 -- What reset writes: default targets by one pass downwards, in which the lowest child of a state comes last and stays, and a register area that a loop fills.
+use Rattle.std.specs.Prelude.{Some}
 use Prim.Native.Nat.{ℕ, zero, suc, ◌+◌, ◌*◌, ◌/◌, ◌%◌, ◌-◌, ◌≤◌, ◌<◌}
 use mathlib.Core.Path.{◌≡◌, refl, sym, ◌∙◌, ap}
 use mathlib.Core.Logic.{◌⊎◌, inl, inr, ◌≢◌}
@@ -9,7 +10,6 @@ use native.Mathlib.Numerals.{add-one}
 use native.Mathlib.Decide.{ℕ_discrete, dec_lt}
 use lib.ListN.{length, get_or, set, replicate, length-set, length-replicate, length-append, get_or-append, get_or-map}
 use lib.Seq.{get_or-set_same, get_or-set_other, get_or-append-add, ext_get_or}
-use Rattle.model.specs.declared.Found.TheVariants.{At}
 use Rattle.model.specs.Indices.{lowest, tabulate, filled_to}
 use Rattle.model.specs.Image.{Design as Table, States, Register, no_register, State, design_of, register_at}
 use Rattle.model.specs.States.{found_or, parent, is_child, has_child, default_target}
@@ -125,7 +125,7 @@ module _ {old now : List ℕ} {i : ℕ} (so : Filled (λ k. 0) old i now) where
 same_index : (i j : ℕ) → (i < j → ⊥) → (j < i → ⊥) → i ≡ j
 same_index i j h k = omega arith
 
-lowest_is : (test : ℕ → Bool) (n i : ℕ) → i < n → test i ≡ true → ((k : ℕ) → k < i → test k ≡ false) → lowest test n ≡ At i
+lowest_is : (test : ℕ → Bool) (n i : ℕ) → i < n → test i ≡ true → ((k : ℕ) → k < i → test k ≡ false) → lowest test n ≡ Some i
 lowest_is test n i l t m =
     let found = lowest_found test n i l t in
     let at = lowest_at test n found.0 found.1 in
@@ -136,7 +136,7 @@ lowest_is test n i l t m =
     (λ h. true_or_false (test found.0) at.passes (m found.0 h))
     (λ h. true_or_false (test i) t (at.none_lower i h))
     in
-    found.1 ∙ ap At same
+    found.1 ∙ ap Some same
 
 -- the pass comes from s to s - 1
 pub below_inside : {n s : ℕ} → 1 < s → s ≤ n → s - 1 < n

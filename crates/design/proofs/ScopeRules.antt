@@ -1,7 +1,7 @@
 -- What is in scope of a state is what is in scope of its parent, then its own parameters. So its entry in the table of scopes comes from its parent's.
 use Prim.Native.Nat.{ℕ, zero, suc, ◌+◌, ◌*◌, ◌-◌, ◌/◌, ◌%◌, ◌≤◌, ◌<◌}
 use mathlib.Core.Path.{◌≡◌, refl, sym, ◌∙◌, ap}
-use mathlib.Core.Bool.{Bool, true, false, not}
+use mathlib.Core.Bool.{Bool, false, not}
 use mathlib.Core.List.{List, [], ◌++◌}
 use native.Mathlib.Omega.{arith}
 use native.Mathlib.Numerals.{add-one}
@@ -10,19 +10,19 @@ use lib.Dec.{eqb}
 use lib.ListN.{length, get_or, set, length-set, length-append, get_or-append, get_or-eq_default, replicate, length-replicate, get_or-replicate}
 use lib.Seq.{get_or-set_same, get_or-set_other, set-get_or}
 use borrow.Author.Tests.{eq-eqb, ne_eqb}
+use Rattle.model.specs.Indices.{some_below}
 use Rattle.model.specs.Image.{Design as Table, State, design_of, state_at}
 use Rattle.model.specs.States.{parent}
 use Rattle.model.specs.Parameters.{own_parameters, scope_of, has_parameters, lower_bound, upper_bound}
 use Rattle.model.proofs.Laws.Booleans.{cond_true, cond_false}
 use Rattle.model.proofs.Laws.Indices.{extend, nothing_below_zero}
-use Rattle.model.proofs.Laws.Passes.{Missed, missed_more, one_passes, none_pass}
 use Rattle.model.proofs.Laws.Plain.{plain_iff, plain_scope}
 use Rattle.model.proofs.Laws.Scopes.{own_length, own_at, scope_root, scope_step, get_or-append_second}
 use Rattle.design.specs.declared.Design.{Design}
 use Rattle.design.specs.Records.{state_in, state_end}
 use Rattle.design.specs.Describes.{Describes}
 use Rattle.design.specs.Kept.{StatesKept}
-use Rattle.design.specs.Scopes.{scope_length, inherited_scope, with_scope, with_scopes, ScopesBelow, Scopes, NoParameters, ScopesShort}
+use Rattle.design.specs.Scopes.{has_own, scope_length, inherited_scope, with_scope, with_scopes, ScopesBelow, Scopes, NoParameters, ScopesShort}
 use Rattle.design.proofs.Laws.{states_count, state_inside, state_in_lem}
 use Rattle.design.proofs.ResetRules.{states_few, parent_is, parent_inside, parent_lower}
 
@@ -274,26 +274,14 @@ module _ {image : List ℕ} {x : Design} (d : Describes image x) where
     pub parameter_read : {i v : ℕ} → i < 2 → v ≡ get_or table (3 * s + 1 + i) 0 → v ≡ get_or (scope_of (design_of image) s) i 0
     parameter_read {i} h e = let states = states_count d in e ∙ entry_first_two table_below s i (omega arith) h
 
--- ---- the loop that looks for a parameter
-abbrev pub parametrised : Table → ℕ → Bool
-parametrised d s = not (eqb (state_at d s).parameters 0)
+-- ---- the search for a parameter
+module _ {image : List ℕ} {x : Design} (describes : Describes image x) where
+  pub own_told : {s k : ℕ} → s < x.states → k ≡ (state_in image x.states_at s).parameters → not (eqb k 0) ≡ has_own (design_of image) s
+  own_told l is = rw (is ∙ ap (λ (y : State). y.parameters) (state_in_lem describes l)) refl
 
-module _ {image : List ℕ} {x : Design} {s : ℕ} (describes : Describes image x) where
-  module _ {k : ℕ} (l : s < x.states) (is : k ≡ (state_in image x.states_at s).parameters) where
-    own_is : k ≡ (state_at (design_of image) s).parameters
-    own_is = is ∙ ap (λ (y : State). y.parameters) (state_in_lem describes l)
-
-    pub parameter_found : (k ≡ 0 → ⊥) → true ≡ has_parameters (design_of image)
-    unfolding has_parameters
-    parameter_found some =
-        one_passes (parametrised (design_of image)) l (states_count describes) (rw (← own_is, ne_eqb k 0 some) refl) refl
-
-    pub parameter_missed : Missed (parametrised (design_of image)) s → k ≡ 0 → Missed (parametrised (design_of image)) (s + 1)
-    parameter_missed missed none = missed_more missed (rw (← own_is, eq-eqb k 0 none) refl) refl
-
-  pub parameters_none : Missed (parametrised (design_of image)) s → x.states ≤ s → false ≡ has_parameters (design_of image)
+  pub some_own : {b : Bool} → b ≡ some_below (has_own (design_of image)) x.states → b ≡ has_parameters (design_of image)
   unfolding has_parameters
-  parameters_none missed l = none_pass missed l (states_count describes)
+  some_own some = rw (← states_count describes) some
 
 -- where no state has a parameter, nothing is in scope
 pub empty_scopes : {image : List ℕ} {x : Design} → Describes image x → NoParameters (design_of image) → Scopes (design_of image) (replicate {A = ℕ} 192 0)

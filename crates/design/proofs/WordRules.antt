@@ -1,10 +1,13 @@
 -- A word of a register area by the place of its bytes, and what writing one does to the words.
 use Prim.Native.Nat.{ℕ, zero, suc, ◌+◌, ◌*◌, ◌/◌, ◌%◌, ◌^◌, ◌≤◌, ◌<◌}
-use mathlib.Core.Path.{◌≡◌, ◌∙◌, ap}
-use mathlib.Core.List.{List, [], ◌∷◌}
+use mathlib.Core.Path.{◌≡◌, refl, ◌∙◌, ap}
+use mathlib.Core.List.{List, [], ◌∷◌, ◌++◌}
 use native.Mathlib.Omega.{arith}
 use native.Mathlib.Nat.{mod-eq_of_lt}
-use lib.ListN.{length, get_or, set, drop, length-set}
+use mir.Syntax.{w32}
+use lib.ListN.{length, get_or, set, take, drop, length-set}
+use borrow.Rule.Slice.PartMut.{put_mid}
+use Rattle.std.specs.Int.{to_le_bytes}
 use lib.Seq.{get_or-drop}
 use Rattle.model.specs.Limits.{word_length}
 use Rattle.model.specs.Image.{byte_at, word32_at, records_of}
@@ -24,12 +27,6 @@ word_behind k bytes =
 pub words_at : {n r : ℕ} (bytes : List ℕ) → r < n → length bytes ≡ 4 * n → get_or (words_of n bytes) r 0 ≡ word32_at bytes (4 * r)
 unfolding words_of
 words_at {n} {r} bytes l area = record_at_lem (λ rest. word32_at rest 0) word_length n bytes r 0 l ∙ word_behind (4 * r) bytes
-
--- four bytes make their word
-pub word_of : {a b c e : ℕ} (bytes : List ℕ) (at : ℕ) → a ≡ byte_at bytes at → b ≡ byte_at bytes (at + 1) → c ≡ byte_at bytes (at + 2) → e ≡ byte_at bytes (at + 3) → a + 256 * b + 65536 * (c + 256 * e) ≡ word32_at bytes at
-word_of bytes at p q r s =
-    let last : at + 2 + 1 ≡ at + 3 = omega arith in
-    rw (p, q, r, s, last)
 
 -- ---- writing
 -- the four bytes of a value, at four places
@@ -72,19 +69,22 @@ put_words (suc n) (suc r) (a ∷ b ∷ c ∷ e ∷ more) v l area h = rw (put_be
 pub words_put : {n r v : ℕ} (bytes : List ℕ) → r < n → length bytes ≡ 4 * n → v < 2 ^ 32 → words_of n (put_word bytes r v) ≡ set (words_of n bytes) r v
 words_put {n} {r} {v} bytes l area h = put_words n r bytes v l area h
 
--- the bytes of a word stay inside while those before them are written
-pub inside_second : (bytes : List ℕ) (r i a : ℕ) → 4 * r + 4 ≤ length bytes → 4 * r + 1 < length (set bytes i a)
-inside_second bytes r i a l = let same = length-set bytes i a in omega arith
+-- four bytes that are written over others at once are written one after the other
+four_over : (k : ℕ) (bytes : List ℕ) (a b c e : ℕ) → k + 4 ≤ length bytes → take k bytes ++ (a ∷ b ∷ c ∷ e ∷ drop 4 (drop k bytes)) ≡ set (set (set (set bytes k a) (suc k) b) (suc (suc k)) c) (suc (suc (suc k))) e
+four_over zero [] a b c e l = absurd (omega arith)
+four_over zero (p ∷ []) a b c e l = absurd (omega arith)
+four_over zero (p ∷ q ∷ []) a b c e l = absurd (omega arith)
+four_over zero (p ∷ q ∷ r ∷ []) a b c e l = absurd (omega arith)
+four_over zero (p ∷ q ∷ r ∷ s ∷ more) a b c e l = refl
+four_over (suc k) [] a b c e l = absurd (omega arith)
+four_over (suc k) (p ∷ more) a b c e l = ap (λ (rest : List ℕ). p ∷ rest) (four_over k more a b c e (omega arith))
 
-pub inside_third : (bytes : List ℕ) (r i j a b : ℕ) → 4 * r + 4 ≤ length bytes → 4 * r + 2 < length (set (set bytes i a) j b)
-inside_third bytes r i j a b l = let same = length-set bytes i a in let then = length-set (set bytes i a) j b in omega arith
-
-pub inside_fourth : (bytes : List ℕ) (r i j k a b c : ℕ) → 4 * r + 4 ≤ length bytes → 4 * r + 3 < length (set (set (set bytes i a) j b) k c)
-inside_fourth bytes r i j k a b c l =
-    let same = length-set bytes i a in
-    let then = length-set (set bytes i a) j b in
-    let last = length-set (set (set bytes i a) j b) k c in
-    omega arith
+pub word_over : (bytes : List ℕ) (r v k : ℕ) (now : List ℕ) → 4 * r + 4 ≤ length bytes → k ≡ 4 → now ≡ to_le_bytes w32 v → put_mid (4 * r) k bytes now ≡ put_word bytes r v
+word_over bytes r v k now l four same =
+    let second : 4 * r + 1 ≡ suc (4 * r) = omega arith in
+    let third : 4 * r + 2 ≡ suc (suc (4 * r)) = omega arith in
+    let fourth : 4 * r + 3 ≡ suc (suc (suc (4 * r))) = omega arith in
+    rw (same, four, second, third, fourth) (four_over (4 * r) bytes (v % 256) (v / 256 % 256) (v / 65536 % 256) (v / 16777216 % 256) l)
 
 pub length-put : (bytes : List ℕ) (r v : ℕ) → length (put_word bytes r v) ≡ length bytes
 length-put bytes r v =

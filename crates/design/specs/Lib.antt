@@ -10,3 +10,4 @@ pub mod Resets
 pub mod Labels
 pub mod Falls
 pub mod Scopes
+pub mod Images

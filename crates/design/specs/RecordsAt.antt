@@ -1,16 +1,9 @@
--- What is known of two labels, of a state, and of a node whose record was judged, where the records of its kind begin at a place.
-use Rattle.std.specs.Prelude.{ℕ, ◌<◌, ◌≡◌, true, List, length}
+-- What is known of a state, and of a node whose record was judged, where the records of its kind begin at a place.
+use Rattle.std.specs.Prelude.{ℕ, ◌<◌, ◌≡◌, true, List}
 use Rattle.model.specs.Image.{design_of}
 use Rattle.model.specs.Kinds.{command_kept, expression_kept}
 use Rattle.design.specs.declared.Design.{Design}
 use Rattle.design.specs.Describes.{Describes}
-
--- labels are compared
-pub record Comparing (image : List ℕ) (from to : ℕ) : Type 0 where
-  pub design : Design
-  pub describes : Describes image design
-  pub from_label : from < length (design_of image).rows
-  pub to_label : to < length (design_of image).rows
 
 pub record StateAt (image : List ℕ) (x : Design) (place s : ℕ) : Type 0 where
   pub describes : Describes image x

@@ -1,5 +1,5 @@
 -- A table of the parameters in scope of each state: three bytes for a state, how many they are and the numbers of the first two.
-use Rattle.std.specs.Prelude.{ℕ, zero, suc, ◌+◌, ◌*◌, ◌-◌, ◌<◌, ◌≤◌, ◌≡◌, ◌⊎◌, cond, List, [], eqb, length, get_or, set}
+use Rattle.std.specs.Prelude.{ℕ, zero, suc, ◌+◌, ◌*◌, ◌-◌, ◌<◌, ◌≤◌, ◌≡◌, ◌⊎◌, Bool, not, cond, List, [], eqb, length, get_or, set}
 use Rattle.model.specs.Limits.{parameters_max, parameter_label}
 use Rattle.model.specs.Image.{Design as Table, state_at}
 use Rattle.model.specs.States.{parent}
@@ -8,6 +8,10 @@ use Rattle.model.specs.Parameters.{scope_of}
 -- the bytes that a state takes in the table
 abbrev pub scope_length : ℕ
 scope_length = 3
+
+-- a state that has a parameter of its own
+abbrev pub has_own : Table → ℕ → Bool
+has_own d s = not (eqb (state_at d s).parameters 0)
 
 -- what state s has from the states above it
 unfoldable pub inherited_scope : Table → ℕ → List ℕ

@@ -2,6 +2,7 @@
 // records by these; only what writes images anew (crates `encoding` and `filing_steps`) has places of its own.
 #![tactic(auto)]
 
+pub mod image;
 pub mod labels;
 pub mod reset;
 pub mod rows;
@@ -11,15 +12,18 @@ pub mod widths;
 pub mod words;
 
 ghost use Rattle.std.specs.Prelude.{◌+◌, ◌*◌, ◌/◌, ◌%◌, ◌<◌, ◌≤◌, ◌&&◌, eqb, leb, ◌≡◌, length, set};
-ghost use Rattle.model.specs.Image.{word16_at, word32_at, offsets_kept as offsets_kept_of, directory_kept as directory_kept_of, design_of};
+ghost use Rattle.model.specs.Image.{word16_at, word32_at, offsets_kept as offsets_kept_of, directory_kept as directory_kept_of};
 ghost use Rattle.model.specs.Limits.{directory_length, label_length, register_length, state_length, node_length, labels_min, labels_max, registers_max, states_min, states_max, commands_max, expressions_max, depth_max, expression_place, width_max, word_length, parameters_max, parameter_register, parameter_label, binding_length, target_length, largest_image};
 ghost use Rattle.model.specs.Rules.{DirectoryKeeps};
 ghost use Rattle.model.specs.Machine.{reset_areas};
 ghost use Rattle.model.specs.Calls.{lent_of};
 ghost use Rattle.design.specs.Records.{row_in, register_in, state_in, node_in, constant_in, node_end, register_end, row_end, state_end};
 ghost use Rattle.design.specs.Describes.{Describes};
+ghost use Rattle.design.specs.Images.{design_in};
 ghost use Rattle.design.specs.Kept.{StatesKept};
 ghost use Rattle.design.specs.Resets.{lends};
+
+use image::Image;
 
 // What an image's directory says: how many records each section has, and where it begins. The
 // labels begin behind the directory.
@@ -36,21 +40,12 @@ pub struct Design {
     pub expressions_at: usize,
 }
 
-// A byte as an index.
-pub fn wide(b: u8) -> usize
-    ensures { (result ≡ b) × (result < 256) }
-{
-    b as usize
-}
-
 // The 16-bit field at a place.
 fn word16(image: &[u8], at: usize) -> usize
     requires { at + 1 < length image.now }
     ensures { (result ≡ word16_at image.now at) × (result < 65536) }
 {
-    let low = wide(image[at]);
-    let high = wide(image[at + 1]);
-    low + 256 * high
+    usize::from(u16::from_le_bytes([image[at], image[at + 1]]))
 }
 
 // The 32-bit field at a place.
@@ -58,9 +53,7 @@ fn word32(image: &[u8], at: usize) -> u32
     requires { at + 3 < length image.now }
     ensures { result ≡ word32_at image.now at }
 {
-    let low = word16(image, at);
-    let high = word16(image, at + 2);
-    (low + 65536 * high) as u32
+    u32::from_le_bytes([image[at], image[at + 1], image[at + 2], image[at + 3]])
 }
 
 // The offset and the length of section k, and where it ends.
@@ -184,106 +177,12 @@ impl Design {
         ensures target_length { Design.TARGET_LENGTH ≡ target_length }
     {}
 
-    // The row of label i.
-    pub fn row(image: &[u8], i: usize) -> usize
-        requires { row_end i ≤ length image.now }
-        ensures { (result ≡ row_in image.now i) × (result < 65536) }
-    {
-        word16(image, Self::DIRECTORY_LENGTH + Self::LABEL_LENGTH * i)
-    }
-
-    // The fields of register r, where the registers begin at a place.
-    pub fn register_label(image: &[u8], at: usize, r: usize) -> usize
-        requires { register_end at r ≤ length image.now }
-        ensures { (result ≡ (register_in image.now at r).label) × (result < 256) }
-    {
-        wide(image[at + Self::REGISTER_LENGTH * r])
-    }
-
     // Another label for register r.
     pub fn put_register_label(image: &mut [u8], at: usize, r: usize, label: u8)
         requires { register_end at r ≤ length image.old }
         ensures { image.new ≡ set image.old (at + register_length * r) label }
     {
         image[at + Self::REGISTER_LENGTH * r] = label;
-    }
-
-    pub fn register_kind(image: &[u8], at: usize, r: usize) -> usize
-        requires { register_end at r ≤ length image.now }
-        ensures { (result ≡ (register_in image.now at r).kind) × (result < 256) }
-    {
-        wide(image[at + Self::REGISTER_LENGTH * r + 1])
-    }
-
-    pub fn register_reset(image: &[u8], at: usize, r: usize) -> u32
-        requires { register_end at r ≤ length image.now }
-        ensures { result ≡ (register_in image.now at r).reset }
-    {
-        word32(image, at + Self::REGISTER_LENGTH * r + 2)
-    }
-
-    pub fn register_width(image: &[u8], at: usize, r: usize) -> usize
-        requires { register_end at r ≤ length image.now }
-        ensures { (result ≡ (register_in image.now at r).width) × (result < 256) }
-    {
-        wide(image[at + Self::REGISTER_LENGTH * r + 6])
-    }
-
-    // The fields of state s, where the states begin at a place.
-    pub fn parent(image: &[u8], at: usize, s: usize) -> usize
-        requires { state_end at s ≤ length image.now }
-        ensures { (result ≡ (state_in image.now at s).parent) × (result < 256) }
-    {
-        wide(image[at + Self::STATE_LENGTH * s])
-    }
-
-    pub fn state_label(image: &[u8], at: usize, s: usize) -> usize
-        requires { state_end at s ≤ length image.now }
-        ensures { (result ≡ (state_in image.now at s).label) × (result < 256) }
-    {
-        wide(image[at + Self::STATE_LENGTH * s + 1])
-    }
-
-    pub fn state_command(image: &[u8], at: usize, s: usize) -> usize
-        requires { state_end at s ≤ length image.now }
-        ensures { (result ≡ (state_in image.now at s).command) × (result < 65536) }
-    {
-        word16(image, at + Self::STATE_LENGTH * s + 2)
-    }
-
-    pub fn parameters(image: &[u8], at: usize, s: usize) -> usize
-        requires { state_end at s ≤ length image.now }
-        ensures { (result ≡ (state_in image.now at s).parameters) × (result < 256) }
-    {
-        wide(image[at + Self::STATE_LENGTH * s + 4])
-    }
-
-    pub fn first_lower(image: &[u8], at: usize, s: usize) -> usize
-        requires { state_end at s ≤ length image.now }
-        ensures { (result ≡ (state_in image.now at s).first_lower) × (result < 256) }
-    {
-        wide(image[at + Self::STATE_LENGTH * s + 5])
-    }
-
-    pub fn first_upper(image: &[u8], at: usize, s: usize) -> usize
-        requires { state_end at s ≤ length image.now }
-        ensures { (result ≡ (state_in image.now at s).first_upper) × (result < 256) }
-    {
-        wide(image[at + Self::STATE_LENGTH * s + 6])
-    }
-
-    pub fn second_lower(image: &[u8], at: usize, s: usize) -> usize
-        requires { state_end at s ≤ length image.now }
-        ensures { (result ≡ (state_in image.now at s).second_lower) × (result < 256) }
-    {
-        wide(image[at + Self::STATE_LENGTH * s + 7])
-    }
-
-    pub fn second_upper(image: &[u8], at: usize, s: usize) -> usize
-        requires { state_end at s ≤ length image.now }
-        ensures { (result ≡ (state_in image.now at s).second_upper) × (result < 256) }
-    {
-        wide(image[at + Self::STATE_LENGTH * s + 8])
     }
 
     // The fields of node n, where the nodes of its family begin at a place.
@@ -298,7 +197,7 @@ impl Design {
         requires { node_end at n ≤ length image.now }
         ensures { (result ≡ (node_in image.now at n).item) × (result < 256) }
     {
-        wide(image[at + Self::NODE_LENGTH * n + 1])
+        usize::from(image[at + Self::NODE_LENGTH * n + 1])
     }
 
     pub fn part_a(image: &[u8], at: usize, n: usize) -> usize
@@ -373,12 +272,12 @@ impl Design {
     }
 
     // Reset writes the reset values and default children, and 0 to each binding.
-    pub fn reset(self, image: &[u8], registers: &mut [u8], targets: &mut [u8])
-        requires { Describes image.now self × StatesKept (design_of image.now) × (length registers.old ≡ word_length * self.registers) × (length targets.old ≡ target_length * self.states) }
-        ensures { lends registers.new targets.new ≡ lent_of (reset_areas (design_of image.now)) }
+    pub fn reset(image: &Image, registers: &mut [u8], targets: &mut [u8])
+        requires { StatesKept (design_in image.now) × (length registers.old ≡ word_length * image.now.design.registers) × (length targets.old ≡ target_length * image.now.design.states) }
+        ensures { lends registers.new targets.new ≡ lent_of (reset_areas (design_in image.now)) }
     {
-        reset::reset_registers(image, self, registers);
+        reset::reset_registers(image, registers);
         reset::clear(targets);
-        reset::default_targets(image, self, targets);
+        reset::default_targets(image, targets);
     }
 }

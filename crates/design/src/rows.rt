@@ -1,10 +1,9 @@
 // Label rows as masks of labels.
 ghost use Rattle.std.specs.Prelude.{◌/◌, ◌%◌, ◌^◌, ◌<◌, ◌≡◌, eqb};
-ghost use Rattle.model.specs.Image.{design_of};
 ghost use Rattle.model.specs.Lattice.{flows_to};
-ghost use Rattle.design.specs.RecordsAt.{Comparing};
+ghost use Rattle.design.specs.Images.{design_in};
 
-use crate::Design;
+use crate::image::Image;
 
 // Bit l of a row, or of the `and` of rows.
 pub fn bit(row: usize, l: usize) -> bool
@@ -15,10 +14,9 @@ pub fn bit(row: usize, l: usize) -> bool
 }
 
 // Label i flows to label j.
-pub fn flows(image: &[u8], i: usize, j: usize) -> bool
-    requires { Comparing image.now i j }
-    ensures { result ≡ flows_to (design_of image.now).rows i j }
+pub fn flows(image: &Image, i: usize, j: usize) -> bool
+    requires { (i < image.now.design.labels) × (j < image.now.design.labels) }
+    ensures { result ≡ flows_to (design_in image.now).rows i j }
 {
-    let row = Design::row(image, i);
-    bit(row, j)
+    bit(image.row(i), j)
 }

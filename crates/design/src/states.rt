@@ -1,16 +1,14 @@
 // The tree of states.
 ghost use Rattle.std.specs.Prelude.{◌<◌, ◌≡◌};
-ghost use Rattle.model.specs.Image.{design_of};
 ghost use Rattle.model.specs.States.{is_child as is_child_of};
-ghost use Rattle.design.specs.Describes.{Describes};
+ghost use Rattle.design.specs.Images.{design_in};
 
-use crate::Design;
+use crate::image::Image;
 
 // State q is a child of s.
-pub fn is_child(image: &[u8], design: Design, s: usize, q: usize) -> bool
-    requires { Describes image.now design × (q < design.states) }
-    ensures { result ≡ is_child_of (design_of image.now) s q }
+pub fn is_child(image: &Image, s: usize, q: usize) -> bool
+    requires { q < image.now.design.states }
+    ensures { result ≡ is_child_of (design_in image.now) s q }
 {
-    let at = design.states_at;
-    (q != 0) & (q < design.states) & (Design::parent(image, at, q) == s)
+    (q != 0) & (q < image.design.states) & (image.parent(q) == s)
 }

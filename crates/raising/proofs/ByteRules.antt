@@ -10,11 +10,10 @@ use Rattle.model.specs.Limits.{register_length}
 use Rattle.model.specs.Raising.{put_labels}
 use Rattle.design.specs.Resets.{Filled}
 
--- ---- a copy
+-- a copy
 pub copied : {from old now : List ℕ} {i : ℕ} → Filled (λ k. get_or from k 0) old i now → length old ≡ length from → length from ≤ i → now ≡ from
 copied {from} {old} {now} {i} so e l = let same = so.long in ext_get_or 0 now from (omega arith) (λ k b. so.done k (omega arith))
 
--- ---- labels
 -- the first r labels have been put: with the others the whole comes out
 pub record PutSo (place : ℕ) (labels old : List ℕ) (r : ℕ) (now : List ℕ) : Type 0 where
   pub long : length now ≡ length old

@@ -48,7 +48,7 @@ module _ {image masks labels : List ℕ} {x : Design} {n : ℕ} (of : RaisingCom
   pub assigns_here : {k : ℕ} → k ≡ 1 → k ≡ (node_in image x.commands_at n).kind → Assigns image x n
   assigns_here q p = record { command = of.command; kind = command_kind_is at q p; stands = of.stands }
 
-  pub condition_gathers : {k e : ℕ} → k ≡ 5 → k ≡ (node_in image x.commands_at n).kind → e ≡ (node_in image x.commands_at n).a → Gathering image labels x.expressions_at e
+  pub condition_gathers : {k e : ℕ} → k ≡ 5 → k ≡ (node_in image x.commands_at n).kind → e ≡ (node_in image x.commands_at n).a → Gathering image labels x e
   condition_gathers q p f = gathering of.raising (condition at q p f)
 
   -- parts have lower numbers

@@ -1,4 +1,5 @@
 -- The least label of a mask is the join of the labels whose mask it is: one label is the least of both by the same two tests, bit by bit.
+use Rattle.std.specs.Prelude.{Option, Some, None, unwrap_or}
 use Prim.Native.Nat.{ℕ, zero, suc, ◌^◌, ◌≤◌, ◌<◌}
 use mathlib.Core.Path.{◌≡◌, refl, sym, ◌∙◌, ap, ap₂}
 use mathlib.Core.Logic.{◌⊎◌, inl, inr}
@@ -9,8 +10,7 @@ use lib.Dec.{eqb}
 use lib.ListN.{length, get_or, set}
 use lib.Seq.{set-get_or}
 use borrow.Author.Tests.{eq-eqb, ne_eqb}
-use Rattle.model.specs.declared.Found.{Found}
-use Rattle.model.specs.declared.Found.TheVariants.{At, Nowhere}
+use Rattle.model.specs.Image.{design_of}
 use Rattle.model.specs.Indices.{lowest}
 use Rattle.model.specs.Lattice.{flows_to, implies, all_flow_to}
 use Rattle.model.specs.States.{found_or}
@@ -18,11 +18,10 @@ use Rattle.model.specs.Raising.{least_above_all, join_of}
 use Rattle.model.specs.Rules.{FlowsTo, IsLattice}
 use Rattle.model.proofs.Laws.Booleans.{decide, true_or_false}
 use Rattle.model.proofs.Laws.Joins.{LeastAboveAll, flow_tail, join_stays}
-use Rattle.model.proofs.Laws.Indices.{lowest_none, lowest_nowhere, lowest_at}
-use Rattle.model.proofs.Laws.Passes.{Missed}
+use Rattle.model.proofs.Laws.Indices.{lowest_at}
 use Rattle.design.specs.declared.Design.{Design}
 use Rattle.design.specs.Describes.{Describes}
-use Rattle.design.proofs.Laws.{labels_most}
+use Rattle.design.proofs.Laws.{labels_count, labels_most}
 use Rattle.checker_records.specs.LabelTests.{least_in}
 use Rattle.checker_records.proofs.Subsets.{bit_of, inside}
 use Rattle.checker_records.proofs.LatticeRules.{all_same}
@@ -86,35 +85,36 @@ module _
         go (inl h) = ap not (h ∙ sym (eq-eqb (join_of rows (l ∷ rest)) l (stays h)))
         go (inr h) = ap not (h ∙ sym (ne_eqb (join_of rows (l ∷ rest)) l (differs h)))
 
--- ---- the loop that looks for it
+-- ---- the label that a search finds
 module _ (rows : List ℕ) (among : ℕ) where
-  pub least_found : {m k : ℕ} {b : Bool} → Missed (least_in rows among) k → k < m → m ≡ length rows → b ≡ least_in rows among k → b ≡ true → k ≡ least_of rows among
+  pub least_searched : {m r : ℕ} (found : Option ℕ) → r ≡ unwrap_or found 0 → found ≡ lowest (least_in rows among) m → m ≡ length rows → r ≡ least_of rows among
   unfolding least_of
-  least_found {m} {k} missed l e f h = go (lowest (least_in rows among) (length rows)) refl
+  least_searched found e is count = e ∙ unwrapped found ∙ ap (found_or 0) (is ∙ ap (lowest (least_in rows among)) count)
     where
-      go : (found : Found) → lowest (least_in rows among) (length rows) ≡ found → k ≡ found_or 0 (lowest (least_in rows among) (length rows))
-      go (At i) is =
-          let at = lowest_at (least_in rows among) (length rows) i is in
-          let same : k ≡ i = between k i (λ b. true_or_false (least_in rows among k) (sym f ∙ h) (at.none_lower k b)) (λ b. true_or_false (least_in rows among i) at.passes (missed.fails i b)) in
-          rw is same
-        where
-          between : (i j : ℕ) → (i < j → ⊥) → (j < i → ⊥) → i ≡ j
-          between i j p q = omega arith
-      go Nowhere is = absurd (true_or_false (least_in rows among k) (sym f ∙ h) (lowest_none (least_in rows among) (length rows) is k (omega arith)))
-
-  pub least_none : {m k : ℕ} → Missed (least_in rows among) k → m ≤ k → m ≡ length rows → 0 ≡ least_of rows among
-  unfolding least_of
-  least_none missed l e = sym (ap (found_or 0) (lowest_nowhere (least_in rows among) (length rows) (λ k b. missed.fails k (omega arith))))
+      unwrapped : (f : Option ℕ) → unwrap_or f 0 ≡ found_or 0 f
+      unwrapped (Some i) = refl
+      unwrapped None = refl
 
   -- it is a label, where there are any
   pub least_label_lem : 0 < length rows → least_of rows among < length rows
   unfolding least_of
   least_label_lem some = go (lowest (least_in rows among) (length rows)) refl
     where
-      go : (found : Found) → lowest (least_in rows among) (length rows) ≡ found → found_or 0 (lowest (least_in rows among) (length rows)) < length rows
-      go (At i) is = rw is (lowest_at (least_in rows among) (length rows) i is).below
-      go Nowhere is = rw is some
+      go : (found : Option ℕ) → lowest (least_in rows among) (length rows) ≡ found → found_or 0 (lowest (least_in rows among) (length rows)) < length rows
+      go (Some i) is = rw is (lowest_at (least_in rows among) (length rows) i is).below
+      go None is = rw is some
 
--- a label is a byte
-pub label_fits : {image : List ℕ} {x : Design} {k : ℕ} → Describes image x → k < x.labels → k < 256
-label_fits d l = let most = labels_most d in omega arith
+-- and a byte
+pub least_fits : {image : List ℕ} {x : Design} {r : ℕ} (among : ℕ) → Describes image x → r ≡ least_of (design_of image).rows among → r < 256
+unfolding least_of
+least_fits {image} {x} among d e =
+    let most = labels_most d in
+    let count = labels_count d in
+    rw e (go (lowest (least_in rows among) (length rows)) refl (omega arith))
+  where
+    rows : List ℕ
+    rows = (design_of image).rows
+
+    go : (found : Option ℕ) → lowest (least_in rows among) (length rows) ≡ found → length rows ≤ 16 → found_or 0 found < 256
+    go (Some i) is few = omega (arith, (lowest_at (least_in rows among) (length rows) i is).below)
+    go None is few = omega arith

@@ -71,7 +71,7 @@ module _ {image labels : List ℕ} {x : Design} (here : Raising image x labels) 
   able_here = record { keeps = here.structured; some = label_some here.known; few = labels_few here.known.describes; plain = here.plain.none }
 
   -- the labels read, under the table
-  pub read_mask : {masks : List ℕ} {s : ℕ} (e : ℕ) → Gathering image labels x.expressions_at e → Rows (design_of image) masks → s < length (design_of image).states → ReadsScoped (design_of image) s (expr_of (design_of image) e)
+  pub read_mask : {masks : List ℕ} {s : ℕ} (e : ℕ) → Gathering image labels x e → Rows (design_of image) masks → s < length (design_of image).states → ReadsScoped (design_of image) s (expr_of (design_of image) e)
       → RowMask (design_of image).rows (labels_read_by labels (expr_of (design_of image) e)) (mask_read labels masks (expr_of (design_of image) e))
   read_mask {s = s} e gathers rows l scoped =
       let d = design_of image in

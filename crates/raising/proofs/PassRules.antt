@@ -59,11 +59,10 @@ module _ {image labels : List ℕ} {x : Design} (here : Raising image x labels) 
   pub command_here : {n : ℕ} → n < x.commands → CommandAt image x x.commands_at n
   command_here l = command_at_lem here.known.describes here.known.commands l refl
 
-  pub gathering : {e : ℕ} → e < length (design_of image).expressions → Gathering image labels x.expressions_at e
+  pub gathering : {e : ℕ} → e < length (design_of image).expressions → Gathering image labels x e
   gathering l =
       let count = expressions_count here.known.describes in
       record {
-        design = x;
         known = here.known;
         labelling = here.labelling.kept;
         expression = expression_at_lem here.known.describes here.known.expressions (omega arith) refl;
@@ -93,8 +92,8 @@ module _ {image labels : List ℕ} {x : Design} (here : Raising image x labels) 
     entry_below : {r l : ℕ} → r ≡ (node_in image x.commands_at n).item → l ≡ get_or labels r 0 → l < length (design_of image).rows
     entry_below {r} f e = rw e (here.labelling.kept.inside r (register_below f))
 
-    pub entry_row_inside : {r l : ℕ} → r ≡ (node_in image x.commands_at n).item → l ≡ get_or labels r 0 → row_end l ≤ length image
-    entry_row_inside f e = let count = labels_count here.known.describes in let below = entry_below f e in row_inside_lem here.known.describes (omega arith)
+    pub entry_row_inside : {r l : ℕ} → r ≡ (node_in image x.commands_at n).item → l ≡ get_or labels r 0 → l < x.labels
+    entry_row_inside f e = let count = labels_count here.known.describes in let below = entry_below f e in omega arith
 
     pub entry_small : {r l : ℕ} → r ≡ (node_in image x.commands_at n).item → l ≡ get_or labels r 0 → l < 64
     entry_small f e =
@@ -103,7 +102,7 @@ module _ {image labels : List ℕ} {x : Design} (here : Raising image x labels) 
         let below = entry_below f e in
         omega arith
 
-    pub assigned_gathers : {e : ℕ} → e ≡ (node_in image x.commands_at n).a → Gathering image labels x.expressions_at e
+    pub assigned_gathers : {e : ℕ} → e ≡ (node_in image x.commands_at n).a → Gathering image labels x e
     assigned_gathers f = gathering (assigned_expression (command_here a.command) byte refl f)
 
     -- what the assignment makes of the table

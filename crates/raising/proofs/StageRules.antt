@@ -1,17 +1,17 @@
 -- The call from each point on: what has been found, before what follows; and that the table which the passes leave is the meaning's labelling, so that the flow
 -- under it is the verdict on the raised image.
+use Rattle.std.specs.Prelude.{Ok, Err, is_err}
 use Prim.Native.Nat.{ℕ, ◌+◌, ◌*◌, ◌≤◌}
 use mathlib.Core.Path.{◌≡◌, refl, sym, ◌∙◌, ap, ap₂}
-use mathlib.Core.Bool.{Bool, true, false}
+use mathlib.Core.Bool.{Bool, true, false, false≢true}
 use mathlib.Core.List.{List}
 use native.Mathlib.Omega.{arith}
 use lib.ListN.{length}
 use lib.Seq.{ext_get_or}
 use borrow.Author.Tests.{eq-eqb, ne_eqb}
-use Rattle.model.specs.declared.Refusal.{Refusal}
+use Rattle.model.specs.declared.RefusedAt.{RefusedAt}
 use Rattle.model.specs.declared.Refusal.TheVariants.{Area, NoRaising, RaiseParameters}
-use Rattle.model.specs.declared.Answer.{Answer}
-use Rattle.model.specs.declared.Answer.TheVariants.{Accepted, Refused}
+use Rattle.model.specs.Answers.{Answer, Accepted, Refused}
 use Rattle.model.specs.Limits.{register_length}
 use Rattle.model.specs.Image.{Registers, offset, design_of}
 use Rattle.model.specs.Lattice.{register_label}
@@ -39,9 +39,6 @@ pub structured_directory : (image : List ℕ) → structure image ≡ Accepted 0
 structured_directory image h = ((structure_exact image).0 h).0
 
 -- the table of a design's own labels
-pub own_enough : {n : ℕ} (table : List ℕ) → length table ≡ n → n ≤ length table
-own_enough table e = omega arith
-
 module _ {image old table : List ℕ} {x : Design} (filled : Filled (register_label (design_of image)) old x.registers table) (exact : length old ≡ x.registers) (describes : Describes image x) where
   pub own_table : table ≡ labels_of (design_of image)
   own_table =
@@ -65,6 +62,15 @@ module _ {image old table : List ℕ} {x : Design} (filled : Filled (register_la
           let same = length-labels (design_of image) in
           record { kept = record { enough = omega arith; inside = λ r l. rw (label_at (design_of image) r) (keeps.registers r l).label }; exact = same }
 
+-- an answer that refuses, and one that accepts
+refused_is : (f : Answer) → is_err f ≡ true → (why : RefusedAt) × (f ≡ Err why)
+refused_is (Err why) e = (why, refl)
+refused_is (Ok n) e = absurd (false≢true e)
+
+accepted_is : (f : Answer) → is_err f ≡ false → (n : ℕ) × (f ≡ Accepted n)
+accepted_is (Ok n) e = (n, refl)
+accepted_is (Err why) e = absurd (false≢true (sym e))
+
 -- ---- into an area as long as the image
 module _ (image : List ℕ) {start labels : List ℕ} {f : Answer}
     (h : structure image ≡ Accepted 0)
@@ -80,16 +86,17 @@ module _ (image : List ℕ) {start labels : List ℕ} {f : Answer}
     verdict_is : f ≡ verdict (raised_image image)
     verdict_is = flow ∙ ap (λ (l : List ℕ). flow_answer (relabelled (design_of image) l)) labels_are ∙ sym (raised_verdict image h plain.none)
 
-    pub within_refuses : {r : Refusal} {p : ℕ} (out : List ℕ) → f ≡ Refused r p → left_as (Refused NoRaising 0) out ≡ raise_within image out
+    pub within_refuses : {b : Bool} (out : List ℕ) → b ≡ is_err f → b ≡ true → left_as (Refused NoRaising 0) out ≡ raise_within image out
     unfolding raise_within refused_at
-    within_refuses out e = rw (← verdict_is, e)
+    within_refuses out is e = let refused = refused_is f (sym is ∙ e) in rw (← verdict_is, refused.1)
 
-    pub within_accepts : {x : Design} {n : ℕ} {copied after : List ℕ} (out : List ℕ) → f ≡ Accepted n → after ≡ put_labels x.registers_at labels copied → copied ≡ image → Describes image x
+    pub within_accepts : {x : Design} {copied after : List ℕ} {b : Bool} (out : List ℕ) → b ≡ is_err f → b ≡ false → after ≡ put_labels x.registers_at labels copied → copied ≡ image → Describes image x
         → left_as (Accepted 0) after ≡ raise_within image out
     unfolding raise_within refused_at raised_image
-    within_accepts {copied = copied} {after = after} out e put copy describes =
+    within_accepts {copied = copied} {after = after} out is e put copy describes =
         let made : after ≡ put_labels (offset image Registers) (raised_labels (design_of image)) image = put ∙ ap (λ (place : ℕ). put_labels place labels copied) describes.registers_at ∙ ap₂ (λ (l b : List ℕ). put_labels (offset image Registers) l b) labels_are copy in
-        rw (← verdict_is, e) (ap (λ (bytes : List ℕ). left_as (Accepted 0) bytes) made)
+        let accepted = accepted_is f (sym is ∙ e) in
+        rw (← verdict_is, accepted.1) (ap (λ (bytes : List ℕ). left_as (Accepted 0) bytes) made)
 
 -- the records of the registers stand inside the area
 pub labels_inside : {image start labels : List ℕ} {x : Design} (out : List ℕ) → Raising image x start → Labelling (design_of image) labels → out ≡ image → x.registers_at + register_length * length labels ≤ length out
@@ -121,7 +128,7 @@ parameters_pass image out h e k = rw (← e, h) k
 
 -- ---- the whole
 module _ (image : List ℕ) {a : Answer} (is : a ≡ structure image) where
-  pub structure_refuses : {r : Refusal} {p : ℕ} (out : List ℕ) → a ≡ Refused r p → left_as (Refused r p) out ≡ raise image out
+  pub structure_refuses : {why : RefusedAt} (out : List ℕ) → a ≡ Err why → left_as (Err why) out ≡ raise image out
   unfolding raise raise_answer ◌before◌
   structure_refuses out h = rw (← is, h)
 

@@ -4,11 +4,8 @@ use mathlib.Core.Path.{◌≡◌, refl, sym, ◌∙◌, ap, ap₂}
 use mathlib.Core.Bool.{Bool, true, false, ◌||◌, not}
 use mathlib.Core.List.{List, [], ◌∷◌}
 use native.Mathlib.Omega.{arith}
-use native.Mathlib.Nat.{mul-le-mul_right}
 use native.Mathlib.Numerals.{add-one}
 use lib.ListN.{length}
-use mir.Syntax.{w64}
-use mir.Val.{Fits}
 use Rattle.model.specs.Image.{Design as Table, State, design_of}
 use Rattle.model.specs.Lattice.{state_label}
 use Rattle.model.specs.Trees.{Cmd, cmd_of, body_of}
@@ -17,7 +14,7 @@ use Rattle.model.proofs.Laws.Booleans.{not_true}
 use Rattle.model.proofs.Raising.Settled.{raised_stays}
 use Rattle.design.specs.declared.Design.{Design}
 use Rattle.design.specs.Records.{row_in, row_end, state_in}
-use Rattle.design.proofs.Laws.{labels_count, labels_most, registers_count, states_count, row_inside_lem, row_in_lem, state_in_lem, registers_most}
+use Rattle.design.proofs.Laws.{labels_count, registers_count, states_count, row_inside_lem, row_in_lem, state_in_lem}
 use Rattle.design.proofs.FieldRules.{body_is, body_below}
 use Rattle.checker_flow.specs.Masks.{Rows}
 use Rattle.raising.specs.Passes.{Labelling, Raising, RaisingCommand, moved_by, moved_by_states, moved_once, RaisedAt, RaisedIn, RaisedOnce}
@@ -33,11 +30,11 @@ module _ {image labels : List ℕ} {x : Design} {s : ℕ} (here : Raising image 
   state_label_is : {k : ℕ} → k ≡ (state_in image x.states_at s).label → k ≡ state_label (design_of image) s
   state_label_is e = e ∙ ap (λ (y : State). y.label) (state_in_lem here.known.describes l)
 
-  pub state_row_inside : {k : ℕ} → k ≡ (state_in image x.states_at s).label → row_end k ≤ length image
+  pub state_row_inside : {k : ℕ} → k ≡ (state_in image x.states_at s).label → k < x.labels
   state_row_inside e =
       let count = labels_count here.known.describes in
       let below = (plain_here here).states s in
-      row_inside_lem here.known.describes (rw (state_label_is e) (omega arith))
+      rw (state_label_is e) (omega arith)
 
   pub state_raising : {masks : List ℕ} {n : ℕ} → Rows (design_of image) masks → n ≡ (state_in image x.states_at s).command → RaisingCommand image x masks labels n
   unfolding body_of
@@ -145,18 +142,3 @@ module _ {image start now after : List ℕ} {x : Design} {most i : ℕ} {moved :
   times_more l here =
       let one : most - i ≡ suc (most - (i + 1)) = omega arith in
       record { labelling = labelling_to here; left = rw to.is (rw one at so.left) }
-
--- they can be counted
-pub most_fits : {image labels : List ℕ} {x : Design} → Raising image x labels → Fits w64 (x.registers * x.labels)
-most_fits {x = x} here =
-    let registers = registers_most here.known.describes in
-    let labels = labels_most here.known.describes in
-    let product = mul-le-mul_right x.labels registers in
-    record { fits = omega arith }
-
-pub most_few : {image labels : List ℕ} {x : Design} {n : ℕ} → n ≡ x.registers * x.labels → Raising image x labels → n ≤ 1024
-most_few {x = x} e here =
-    let registers = registers_most here.known.describes in
-    let labels = labels_most here.known.describes in
-    let product = mul-le-mul_right x.labels registers in
-    omega arith

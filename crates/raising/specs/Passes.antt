@@ -9,6 +9,7 @@ use Rattle.model.specs.Trees.{Expr, Cmd, skip, assign, sequence, fall, goto, bra
 use Rattle.model.specs.Rules.{Scoped, StructureKeeps}
 use Rattle.model.specs.Raising.{join_of, labels_read_by, raised_by, raised_by_states, raised_once}
 use Rattle.design.specs.declared.Design.{Design}
+use Rattle.design.specs.declared.image.Image.{Image}
 use Rattle.design.specs.Kept.{RecordsKept}
 use Rattle.design.specs.Labels.{LabelsKept}
 use Rattle.design.specs.Scopes.{NoParameters}
@@ -50,6 +51,16 @@ pub record Assigns (image : List ℕ) (x : Design) (n : ℕ) : Type 0 where
   pub command : n < x.commands
   pub kind : (command_at (design_of image) n).kind ≡ 1
   pub stands : Stands (design_of image) n
+
+-- the same, of an `Image`
+abbrev pub RaisingIn : Image → List ℕ → Type 0
+RaisingIn image labels = Raising image.bytes.now image.design labels
+
+abbrev pub RaisingCommandIn : Image → List ℕ → List ℕ → ℕ → Type 0
+RaisingCommandIn image masks labels n = RaisingCommand image.bytes.now image.design masks labels n
+
+abbrev pub AssignsIn : Image → ℕ → Type 0
+AssignsIn image n = Assigns image.bytes.now image.design n
 
 -- ---- what is left of a table of labels, and whether one rose
 module _ (d : Table) (masks : List ℕ) where

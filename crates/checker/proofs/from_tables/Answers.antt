@@ -1,15 +1,15 @@
 use Rattle.checker.specs.Stages.{from_nodes}
-use Rattle.checker.proofs.StageRules.{stage_refuses, stage_passes, known_nodes, known_told}
+use Rattle.checker.proofs.StageRules.{stage_refuses, stage_passes, none_found, known_nodes, known_told}
 use borrow.Author.Rules.{rules}
 use Rattle.checker.proofs.from_tables.Goals as goal
 
 pub from_uses-requires : goal.from_uses-requires
-from_uses-requires c = (search known_nodes, search known_told)
+from_uses-requires c = let none = none_found _ _ c.refused_at.ensures c.in_ok-refused_at.was in (search known_nodes, search known_told)
 
-pub returns-in-At : goal.returns-in-At
+pub returns-in_err-refused_at : goal.returns-in_err-refused_at
 unfolding from_nodes
-returns-in-At c = (search (stage_refuses, stage_passes, rules), search rules)
+returns-in_err-refused_at c = let was = c.in_err-refused_at.was in (search (stage_refuses, rules), search rules)
 
-pub returns-in-Nowhere : goal.returns-in-Nowhere
+pub returns : goal.returns
 unfolding from_nodes
-returns-in-Nowhere c = (search (stage_refuses, stage_passes, rules), search rules)
+returns c = let was = c.in_ok-refused_at.was in (search (stage_passes, rules), search rules)

@@ -3,10 +3,10 @@ use Rattle.checker.proofs.StageRules.{stage_refuses, stage_passes}
 use borrow.Author.Rules.{rules}
 use Rattle.checker.proofs.from_uses.Goals as goal
 
-pub returns-in-At : goal.returns-in-At
+pub returns-in_err-refused_at : goal.returns-in_err-refused_at
 unfolding from_uses
-returns-in-At c = search (stage_refuses, stage_passes, rules)
+returns-in_err-refused_at c = let was = c.in_err-refused_at.was in search (stage_refuses, rules)
 
-pub returns-in-Nowhere : goal.returns-in-Nowhere
+pub returns : goal.returns
 unfolding from_uses
-returns-in-Nowhere c = search (stage_refuses, stage_passes, rules)
+returns c = let was = c.in_ok-refused_at.was in search (stage_passes, rules)

@@ -4,14 +4,14 @@ use Rattle.checker.proofs.Accepted.{structure_parameters, structure_bodies}
 use borrow.Author.Rules.{rules}
 use Rattle.raising.proofs.raise_from.Goals as goal
 
-pub faults-flow-requires : goal.faults-flow-requires
-faults-flow-requires c = (search rules, search (structure_parameters, rules), search (empty_scopes, rules), search rules, search (structure_bodies, rules))
+pub faults-requires : goal.faults-requires
+faults-requires c = (search rules, search (structure_parameters, rules), search (empty_scopes, rules), search rules, search (structure_bodies, rules))
 
 pub put_labels-requires : goal.put_labels-requires
 put_labels-requires c = search (labels_inside, rules)
 
-pub returns-in-Refused : goal.returns-in-Refused
-returns-in-Refused c = (search (within_refuses, rules), search rules)
+pub returns-then-is_err : goal.returns-then-is_err
+returns-then-is_err c = (rw c.at.ensures (search (within_refuses, rules)), search rules)
 
-pub returns-in-Accepted : goal.returns-in-Accepted
-returns-in-Accepted c = (search (within_accepts, rules), search rules)
+pub returns : goal.returns
+returns c = (search (within_accepts, rules), search rules)

@@ -11,4 +11,4 @@ pub slice_bounds-raise_within-end : goal.slice_bounds-raise_within-end
 slice_bounds-raise_within-end c = sym (length-take-le _ _ (search (registers_most, rules)))
 
 pub raise_within-requires : goal.raise_within-requires
-raise_within-requires c = (search rules, search rules, search rules, length-take-le _ _ (search (registers_most, rules)), search rules)
+raise_within-requires c = (search rules, search rules, length-take-le _ _ (search (registers_most, rules)), search rules)

@@ -1,9 +1,6 @@
-use Rattle.raising.proofs.StageRules.{own_enough, own_table, own_raising, own_raised}
+use Rattle.raising.proofs.StageRules.{own_table, own_raising, own_raised}
 use borrow.Author.Rules.{rules}
 use Rattle.raising.proofs.raise_within.Goals as goal
-
-pub register_labels-requires : goal.register_labels-requires
-register_labels-requires c = search (own_enough, rules)
 
 pub raise_from-requires : goal.raise_from-requires
 raise_from-requires c = (search rules, search (own_raising, rules), search (own_table, rules), search rules)

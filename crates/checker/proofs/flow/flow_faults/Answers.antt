@@ -6,7 +6,7 @@ use borrow.Author.Rules.{rules}
 use Rattle.checker.proofs.flow.flow_faults.Goals as goal
 
 pub register_labels-requires : goal.register_labels-requires
-register_labels-requires c = (search rules, search (registers_most, rules))
+register_labels-requires c = search (registers_most, rules)
 
 pub declared_faults-requires : goal.declared_faults-requires
 declared_faults-requires c = (search rules, search rules, search (own_labels_kept, registers_most, rules), search rules)

@@ -3,15 +3,6 @@ use Rattle.design.proofs.FieldRules.{sequence_a_falls, sequence_b_falls, branch_
 use Rattle.checker_bodies.proofs.ShapeRules.{judge_laws, sequence_a, sequence_b, branch_b, branch_c}
 use Rattle.checker_bodies.proofs.shape.+judge.Goals as goal
 
-pub kind-kind-requires : goal.kind-kind-requires
-kind-kind-requires t c = search (judge_laws, rules)
-
-pub part_a-a-requires : goal.part_a-a-requires
-part_a-a-requires t c = search (judge_laws, rules)
-
-pub part_b-b-requires : goal.part_b-b-requires
-part_b-b-requires t c = search (judge_laws, rules)
-
 pub judge-p-requires : goal.judge-p-requires
 judge-p-requires t c = (search sequence_a_falls, search sequence_a)
 
@@ -21,29 +12,14 @@ judge-q-requires t c = (search sequence_b_falls, search sequence_b)
 pub sequenced-requires : goal.sequenced-requires
 sequenced-requires t c = search (judge_laws, rules)
 
-pub charged_unless-requires : goal.charged_unless-requires
-charged_unless-requires t c = search (judge_laws, rules)
-
 pub judgement-requires : goal.judgement-requires
 judgement-requires t c = search (judge_laws, rules)
-
-pub item-t-requires : goal.item-t-requires
-item-t-requires t c = search (judge_laws, rules)
 
 pub sibling_or_self-kept-requires : goal.sibling_or_self-kept-requires
 sibling_or_self-kept-requires t c = search (judge_laws, rules)
 
-pub charged_unless-requires-in-4 : goal.charged_unless-requires-in-4
-charged_unless-requires-in-4 t c = search (judge_laws, rules)
-
 pub judgement-requires-in-4 : goal.judgement-requires-in-4
 judgement-requires-in-4 t c = search (judge_laws, rules)
-
-pub part_b-b-requires-in-5 : goal.part_b-b-requires-in-5
-part_b-b-requires-in-5 t c = search (judge_laws, rules)
-
-pub part_c-c-requires : goal.part_c-c-requires
-part_c-c-requires t c = search (judge_laws, rules)
 
 pub judge-p-requires-in-5 : goal.judge-p-requires-in-5
 judge-p-requires-in-5 t c = (search branch_b_falls, search branch_b)
@@ -53,9 +29,6 @@ judge-q-requires-in-5 t c = (search branch_c_falls, search branch_c)
 
 pub branched-requires : goal.branched-requires
 branched-requires t c = search (judge_laws, rules)
-
-pub judgement-requires-in_default : goal.judgement-requires-in_default
-judgement-requires-in_default t c = search (judge_laws, rules)
 
 pub returns-in-2 : goal.returns-in-2
 returns-in-2 t c = search (judge_laws, rules)

@@ -5,14 +5,8 @@ use Rattle.checker_bodies.proofs.shape.shapes.Goals as goal
 pub loop-s-init : goal.loop-s-init
 loop-s-init c = search (shapes_laws, rules)
 
-pub bounds-falls-s : goal.bounds-falls-s
-bounds-falls-s c = search (shapes_laws, rules)
-
 pub loop-s-preserved : goal.loop-s-preserved
-loop-s-preserved c = (search (lowest_one_more, rules), search (falls_one_more, rules), search rules)
-
-pub shape_of-falls : goal.shape_of-falls
-shape_of-falls c = search (shapes_laws, rules)
+loop-s-preserved c = (search (lowest_one_more, rules), search (falls_one_more, rules))
 
 pub returns : goal.returns
 returns c = search (shapes_laws, rules)

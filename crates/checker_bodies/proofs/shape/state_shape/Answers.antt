@@ -1,11 +1,7 @@
-use Rattle.design.proofs.Laws.{state_inside}
 use Rattle.checker_bodies.proofs.ShapeRules.{body_judging, state_shape_rule, own_small}
 use Rattle.design.proofs.ResetRules.{entry_inside, state_fits}
 use borrow.Author.Rules.{rules}
 use Rattle.checker_bodies.proofs.shape.state_shape.Goals as goal
-
-pub state_command-n-requires : goal.state_command-n-requires
-state_command-n-requires c = search (state_inside, rules)
 
 pub has_child-child-requires : goal.has_child-child-requires
 has_child-child-requires c = search (entry_inside, state_fits, rules)

@@ -3,17 +3,8 @@ use Rattle.design.proofs.FieldRules.{sequence_a_falls, sequence_b_falls, branch_
 use Rattle.checker_flow.proofs.FlowKinds.{flow_laws, sequence_a_flowing, sequence_b_flowing, branch_b_flowing, branch_c_flowing}
 use Rattle.checker_flow.proofs.flow.+flow.Goals as goal
 
-pub kind-kind-requires : goal.kind-kind-requires
-kind-kind-requires t c = search (flow_laws, rules)
-
 pub assign_flow-requires : goal.assign_flow-requires
 assign_flow-requires t c = search (flow_laws, rules)
-
-pub part_a-a-requires : goal.part_a-a-requires
-part_a-a-requires t c = search (flow_laws, rules)
-
-pub part_b-b-requires : goal.part_b-b-requires
-part_b-b-requires t c = search (flow_laws, rules)
 
 pub flow-p-requires : goal.flow-p-requires
 flow-p-requires t c = (search sequence_a_falls, search sequence_a_flowing)
@@ -24,32 +15,14 @@ returns-then-p-lt-NOWHERE t c = search (flow_laws, rules)
 pub flow-requires : goal.flow-requires
 flow-requires t c = (search sequence_b_falls, search sequence_b_flowing)
 
-pub state_label-label-requires : goal.state_label-label-requires
-state_label-label-requires t c = search (flow_laws, rules)
-
 pub bit-kept-requires : goal.bit-kept-requires
 bit-kept-requires t c = search (flow_laws, rules)
-
-pub charged_unless-requires : goal.charged_unless-requires
-charged_unless-requires t c = search (flow_laws, rules)
 
 pub named_label-named-requires : goal.named_label-named-requires
 named_label-named-requires t c = search (flow_laws, rules)
 
 pub bit-kept-requires-in-4 : goal.bit-kept-requires-in-4
 bit-kept-requires-in-4 t c = search (flow_laws, rules)
-
-pub charged_unless-requires-in-4 : goal.charged_unless-requires-in-4
-charged_unless-requires-in-4 t c = search (flow_laws, rules)
-
-pub part_a-e-requires : goal.part_a-e-requires
-part_a-e-requires t c = search (flow_laws, rules)
-
-pub part_b-b-requires-in-5 : goal.part_b-b-requires-in-5
-part_b-b-requires-in-5 t c = search (flow_laws, rules)
-
-pub part_c-c-requires : goal.part_c-c-requires
-part_c-c-requires t c = search (flow_laws, rules)
 
 pub reads-requires : goal.reads-requires
 reads-requires t c = search (flow_laws, rules)

@@ -3,20 +3,8 @@ use Rattle.design.proofs.FieldRules.{operand_a_falls, operand_b_falls}
 use Rattle.checker_flow.proofs.FlowRules.{reads_laws, operand_a_gathering, operand_b_gathering}
 use Rattle.checker_flow.proofs.flow.+reads.Goals as goal
 
-pub kind-kind-requires : goal.kind-kind-requires
-kind-kind-requires t c = search (reads_laws, rules)
-
-pub item-r-requires : goal.item-r-requires
-item-r-requires t c = search (reads_laws, rules)
-
 pub register_mask-requires : goal.register_mask-requires
 register_mask-requires t c = search (reads_laws, rules)
-
-pub part_a-a-requires : goal.part_a-a-requires
-part_a-a-requires t c = search (reads_laws, rules)
-
-pub part_b-b-requires : goal.part_b-b-requires
-part_b-b-requires t c = search (reads_laws, rules)
 
 pub reads-p-requires : goal.reads-p-requires
 reads-p-requires t c = (search operand_a_falls, search operand_a_gathering)

@@ -1,13 +1,9 @@
 use borrow.Author.Rules.{rules}
-use Rattle.design.proofs.Laws.{command_inside}
 use Rattle.checker_flow.proofs.FlowRules.{told_laws}
 use Rattle.checker_flow.proofs.flow.answer.Goals as goal
 
-pub returns-then-design-place : goal.returns-then-design-place
-returns-then-design-place c = search (told_laws, rules)
-
-pub kind-requires : goal.kind-requires
-kind-requires c = search (command_inside, rules)
+pub returns-then-image-place : goal.returns-then-image-place
+returns-then-image-place c = search (told_laws, rules)
 
 pub returns-in-1 : goal.returns-in-1
 returns-in-1 c = search (told_laws, rules)

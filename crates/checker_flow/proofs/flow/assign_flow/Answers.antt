@@ -1,13 +1,6 @@
-use Rattle.design.proofs.FieldRules.{command_place_inside}
 use Rattle.checker_flow.proofs.FlowRules.{assigned_entered, assigned_gathering, assigned_label_small, assign_rule}
 use borrow.Author.Rules.{rules}
 use Rattle.checker_flow.proofs.flow.assign_flow.Goals as goal
-
-pub item-r-requires : goal.item-r-requires
-item-r-requires c = search (command_place_inside, rules)
-
-pub part_a-e-requires : goal.part_a-e-requires
-part_a-e-requires c = search (command_place_inside, rules)
 
 pub reads-requires : goal.reads-requires
 reads-requires c = search (assigned_gathering, rules)

@@ -1,9 +1,6 @@
-use Rattle.checker_flow.proofs.MaskRules.{entered_inside, label_of_register, label_of_parameter}
+use Rattle.checker_flow.proofs.MaskRules.{label_of_register, label_of_parameter}
 use borrow.Author.Rules.{rules}
 use Rattle.checker_flow.proofs.flow.label_of.Goals as goal
-
-pub bounds-labels-r : goal.bounds-labels-r
-bounds-labels-r c = search (entered_inside, rules)
 
 pub returns-then-r-lt-PARAMETER_REGISTER : goal.returns-then-r-lt-PARAMETER_REGISTER
 returns-then-r-lt-PARAMETER_REGISTER c = search (label_of_register, rules)

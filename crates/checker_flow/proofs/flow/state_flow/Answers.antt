@@ -1,13 +1,6 @@
-use Rattle.design.proofs.Laws.{state_inside}
 use Rattle.checker_flow.proofs.FlowKinds.{state_mask_inside, state_flowing, state_flow_rule}
 use borrow.Author.Rules.{rules}
 use Rattle.checker_flow.proofs.flow.state_flow.Goals as goal
-
-pub state_label-label-requires : goal.state_label-label-requires
-state_label-label-requires c = search (state_inside, rules)
-
-pub state_command-n-requires : goal.state_command-n-requires
-state_command-n-requires c = search (state_inside, rules)
 
 pub bounds-masks-label : goal.bounds-masks-label
 bounds-masks-label c = search (state_mask_inside, rules)

@@ -1,17 +1,7 @@
 use Rattle.design.proofs.PartRules.{expression_part_laws}
 use Rattle.checker_nodes.proofs.DepthRules.{depth_laws}
-use Rattle.design.proofs.FieldRules.{expression_place_inside}
 use borrow.Author.Rules.{rules}
 use Rattle.checker_nodes.proofs.depths.expression_depth.Goals as goal
-
-pub kind-kind-requires : goal.kind-kind-requires
-kind-kind-requires c = search (expression_place_inside, rules)
-
-pub part_a-a-requires : goal.part_a-a-requires
-part_a-a-requires c = search (expression_place_inside, rules)
-
-pub part_b-b-requires : goal.part_b-b-requires
-part_b-b-requires c = search (expression_place_inside, rules)
 
 pub bounds-depths-a : goal.bounds-depths-a
 bounds-depths-a c = search (expression_part_laws, rules)

@@ -1,24 +1,12 @@
-use Rattle.model.proofs.Laws.Passes.{pass_laws}
+use lib.Dec.{leb}
+use lib.ListN.{get_or}
+use Rattle.model.specs.Limits.{depth_max}
+use Rattle.model.proofs.Laws.Chains.{failing_from_find}
+use mathlib.Core.Path.{refl}
 use borrow.Author.Rules.{rules}
+use borrow.Author.Tests.{tests}
 use Rattle.checker_nodes.proofs.depths.too_deep.Goals as goal
 
-pub loop-n-init : goal.loop-n-init
-loop-n-init c = search (pass_laws, rules)
-
-pub bounds-table-n : goal.bounds-table-n
-bounds-table-n c = search (pass_laws, rules)
-
-pub returns-then-not-table-n : goal.returns-then-not-table-n
-returns-then-not-table-n c = search (pass_laws, rules)
-
-pub overflow_add-n : goal.overflow_add-n
-overflow_add-n c = search (pass_laws, rules)
-
-pub loop-n-smaller : goal.loop-n-smaller
-loop-n-smaller c = search (pass_laws, rules)
-
-pub loop-n-preserved : goal.loop-n-preserved
-loop-n-preserved c = search (pass_laws, rules)
-
 pub returns : goal.returns
-returns c = search (pass_laws, rules)
+returns c =
+    failing_from_find _ (λ k. leb (get_or c.args.table.now k 0) depth_max) c.find.ensures.ran (λ x b q k. search (rules, tests)) refl

@@ -1,4 +1,3 @@
-use Prim.Native.Nat.{◌-◌, ◌≤◌}
 use Rattle.model.specs.Image.{design_of}
 use Rattle.model.specs.Nodes.{operands_of}
 use Rattle.model.specs.Kinds.{expression_kept}
@@ -10,10 +9,6 @@ use Rattle.checker_nodes.proofs.CountRules.{Counted}
 use Rattle.checker_nodes.proofs.passes.expressions.Given as goal
 
 abbrev pub invariant-loop-n : goal.invariant-loop-n
-invariant-loop-n l = Passed (expression_kept (design_of l.image)) l.n
-    × Counted l.initial.uses (operands_of (design_of l.image)) l.uses l.n
-    × Filled (λ k. depth_entry (expr_depth (expr_of (design_of l.image) k))) l.initial.depths l.n l.depths
-    × (l.n ≤ l.design.expressions)
-
-abbrev pub decreases-loop-n : goal.decreases-loop-n
-decreases-loop-n l = l.design.expressions - l.n
+invariant-loop-n l = Passed (expression_kept (design_of l.image.bytes.now)) l.n
+    × Counted l.initial.uses (operands_of (design_of l.image.bytes.now)) l.uses l.n
+    × Filled (λ k. depth_entry (expr_depth (expr_of (design_of l.image.bytes.now) k))) l.initial.depths l.n l.depths

@@ -1,11 +1,7 @@
-use Prim.Native.Nat.{◌-◌, ◌≤◌}
 use Rattle.model.specs.Image.{design_of}
 use Rattle.model.specs.Nodes.{command_of}
 use Rattle.checker_nodes.proofs.CountRules.{Counted}
 use Rattle.checker_nodes.proofs.uses.use_bodies.Given as goal
 
 abbrev pub invariant-loop-s : goal.invariant-loop-s
-invariant-loop-s l = Counted l.initial.table (command_of (design_of l.image)) l.table l.s × (l.s ≤ l.design.states)
-
-abbrev pub decreases-loop-s : goal.decreases-loop-s
-decreases-loop-s l = l.design.states - l.s
+invariant-loop-s l = Counted l.initial.table (command_of (design_of l.image.bytes.now)) l.table l.s

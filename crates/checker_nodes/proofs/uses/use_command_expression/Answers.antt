@@ -1,13 +1,6 @@
 use Rattle.checker_nodes.proofs.UseRules.{use_laws}
-use Rattle.design.proofs.FieldRules.{command_place_inside}
 use borrow.Author.Rules.{rules}
 use Rattle.checker_nodes.proofs.uses.use_command_expression.Goals as goal
-
-pub kind-kind-requires : goal.kind-kind-requires
-kind-kind-requires c = search (command_place_inside, rules)
-
-pub part_a-a-requires : goal.part_a-a-requires
-part_a-a-requires c = search (command_place_inside, rules)
 
 pub use_node-requires : goal.use_node-requires
 use_node-requires c = search (use_laws, rules)

@@ -1,20 +1,7 @@
 use Rattle.design.proofs.PartRules.{command_part_laws}
 use Rattle.checker_nodes.proofs.UseRules.{use_laws}
-use Rattle.design.proofs.FieldRules.{command_place_inside}
 use borrow.Author.Rules.{rules}
 use Rattle.checker_nodes.proofs.uses.use_parts.Goals as goal
-
-pub kind-kind-requires : goal.kind-kind-requires
-kind-kind-requires c = search (command_place_inside, rules)
-
-pub part_a-a-requires : goal.part_a-a-requires
-part_a-a-requires c = search (command_place_inside, rules)
-
-pub part_b-b-requires : goal.part_b-b-requires
-part_b-b-requires c = search (command_place_inside, rules)
-
-pub part_c-c-requires : goal.part_c-c-requires
-part_c-c-requires c = search (command_place_inside, rules)
 
 pub use_both-requires : goal.use_both-requires
 use_both-requires c = search (command_part_laws, rules)

@@ -1,17 +1,18 @@
+use Rattle.checker_records.specs.LabelTests.{least_in}
+use lib.Bits.{bit_and}
+use Rattle.model.specs.Image.{design_of}
 use Rattle.checker_records.proofs.LatticeRules.{joins_rule}
-use Rattle.model.proofs.Laws.Passes.{pass_laws}
 use Rattle.design.proofs.Laws.{labels_count}
+use Rattle.model.proofs.Laws.Chains.{some_from_any}
 use borrow.Author.Rules.{rules}
 use Rattle.checker_records.proofs.lattice.joins.Goals as goal
 
-pub loop-k-init : goal.loop-k-init
-loop-k-init c = search (pass_laws, rules)
-
-pub returns-then-least_in : goal.returns-then-least_in
-returns-then-least_in c = search (joins_rule, pass_laws, labels_count, rules)
-
-pub loop-k-preserved : goal.loop-k-preserved
-loop-k-preserved c = search (pass_laws, rules)
-
 pub returns : goal.returns
-returns c = search (joins_rule, pass_laws, labels_count, rules)
+returns c =
+    joins_rule
+    (design_of c.args.image.now.bytes.now).rows
+    c.args.i
+    c.args.j
+    c.mask.ensures
+    c.row.ensures
+    (some_from_any _ (least_in (design_of c.args.image.now.bytes.now).rows (bit_and c.mask.result c.row.result)) c.any.ensures.ran (λ x b q k. search rules) (search (labels_count c.args.image.now.describes)))

@@ -1,5 +1,4 @@
 use Rattle.checker_records.proofs.LatticeRules.{label_laws}
-use Rattle.design.proofs.RowRules.{comparing}
 use borrow.Author.Rules.{rules}
 use Rattle.checker_records.proofs.lattice.label_kept.Goals as goal
 
@@ -7,7 +6,7 @@ pub returns-then-not-row_inside : goal.returns-then-not-row_inside
 returns-then-not-row_inside c = search (label_laws, rules)
 
 pub flows-requires : goal.flows-requires
-flows-requires c = search (comparing, rules)
+flows-requires c = search (rules)
 
 pub returns-then-not-flows : goal.returns-then-not-flows
 returns-then-not-flows c = search (label_laws, rules)

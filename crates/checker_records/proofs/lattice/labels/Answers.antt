@@ -1,16 +1,10 @@
-use Rattle.model.proofs.Laws.Passes.{pass_laws}
+use Rattle.model.specs.Lattice.{label_kept}
+use Rattle.model.specs.Image.{design_of}
 use Rattle.design.proofs.Laws.{labels_count}
+use Rattle.model.proofs.Laws.Chains.{failing_from_find}
 use borrow.Author.Rules.{rules}
 use Rattle.checker_records.proofs.lattice.labels.Goals as goal
 
-pub loop-i-init : goal.loop-i-init
-loop-i-init c = search (pass_laws, rules)
-
-pub returns-then-not-label_kept : goal.returns-then-not-label_kept
-returns-then-not-label_kept c = search (pass_laws, labels_count, rules)
-
-pub loop-i-preserved : goal.loop-i-preserved
-loop-i-preserved c = search (pass_laws, rules)
-
 pub returns : goal.returns
-returns c = search (pass_laws, labels_count, rules)
+returns c =
+    failing_from_find _ (label_kept (design_of c.args.image.now.bytes.now).rows) c.find.ensures.ran (λ x b q k. search rules) (search (labels_count c.args.image.now.describes))

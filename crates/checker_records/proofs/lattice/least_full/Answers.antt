@@ -1,4 +1,4 @@
-use Rattle.checker_records.proofs.LatticeRules.{not_least, least_rule, some_label, labels_small}
+use Rattle.checker_records.proofs.LatticeRules.{not_least, least_rule, labels_small}
 use Rattle.design.proofs.Laws.{labels_count}
 use borrow.Author.Rules.{rules}
 use Rattle.checker_records.proofs.lattice.least_full.Goals as goal
@@ -8,9 +8,6 @@ returns-then-i-ne0 c = search (not_least, rules)
 
 pub full-every-requires : goal.full-every-requires
 full-every-requires c = search (labels_small, rules)
-
-pub row-requires : goal.row-requires
-row-requires c = search (some_label, rules)
 
 pub returns : goal.returns
 returns c = search (least_rule, labels_count, rules)

@@ -7,26 +7,11 @@ use Rattle.checker_records.proofs.parameters.parameters.Goals as goal
 pub loop-s-init : goal.loop-s-init
 loop-s-init c = search (passed_none, scopes_none, entering_laws, rules)
 
-pub enter-requires : goal.enter-requires
-enter-requires c = search (passed_none, scopes_none, entering_laws, rules)
-
-pub shape_of-scopes-then-not-enter : goal.shape_of-scopes-then-not-enter
-shape_of-scopes-then-not-enter c = search (passed_none, scopes_none, entering_laws, rules)
-
 pub returns-then-not-enter : goal.returns-then-not-enter
 returns-then-not-enter c = search (passed_none, scopes_none, entering_laws, rules)
 
-pub overflow_add-s : goal.overflow_add-s
-overflow_add-s c = search (passed_none, scopes_none, entering_laws, rules)
-
-pub loop-s-smaller : goal.loop-s-smaller
-loop-s-smaller c = search (passed_none, scopes_none, entering_laws, rules)
-
 pub loop-s-preserved : goal.loop-s-preserved
 loop-s-preserved c = (search (passed_entered, rules), search (scopes_entered, rules), search (entries_more, rules), search rules, search rules)
-
-pub shape_of-scopes : goal.shape_of-scopes
-shape_of-scopes c = search (passed_none, scopes_none, entering_laws, rules)
 
 pub returns : goal.returns
 returns c = search (passed_none, scopes_none, entering_laws, rules)

@@ -1,25 +1,10 @@
+use Rattle.model.specs.States.{register_kept}
+use Rattle.model.specs.Image.{design_of}
 use Rattle.design.proofs.Laws.{registers_count}
-use Rattle.model.proofs.Laws.Passes.{pass_laws}
+use Rattle.model.proofs.Laws.Chains.{failing_from_find}
 use borrow.Author.Rules.{rules}
 use Rattle.checker_records.proofs.registers.registers.Goals as goal
 
-pub loop-r-init : goal.loop-r-init
-loop-r-init c = search (pass_laws, registers_count, rules)
-
-pub register_kept-requires : goal.register_kept-requires
-register_kept-requires c = search (pass_laws, registers_count, rules)
-
-pub returns-then-not-register_kept : goal.returns-then-not-register_kept
-returns-then-not-register_kept c = search (pass_laws, registers_count, rules)
-
-pub overflow_add-r : goal.overflow_add-r
-overflow_add-r c = search (pass_laws, registers_count, rules)
-
-pub loop-r-smaller : goal.loop-r-smaller
-loop-r-smaller c = search (pass_laws, registers_count, rules)
-
-pub loop-r-preserved : goal.loop-r-preserved
-loop-r-preserved c = search (pass_laws, registers_count, rules)
-
 pub returns : goal.returns
-returns c = search (pass_laws, registers_count, rules)
+returns c =
+    failing_from_find _ (register_kept (design_of c.args.image.now.bytes.now)) c.find.ensures.ran (λ x b q k. search rules) (search (registers_count c.args.image.now.describes))

@@ -1,16 +1,10 @@
-use Rattle.model.proofs.Laws.Passes.{pass_laws}
+use Rattle.model.specs.Falls.{child_label_kept}
+use Rattle.model.specs.Image.{design_of}
 use Rattle.design.proofs.Laws.{states_count}
+use Rattle.model.proofs.Laws.Chains.{failing_from_find}
 use borrow.Author.Rules.{rules}
 use Rattle.checker_records.proofs.states.child_labels.Goals as goal
 
-pub loop-s-init : goal.loop-s-init
-loop-s-init c = search (pass_laws, rules)
-
-pub returns-then-not-child_label_kept : goal.returns-then-not-child_label_kept
-returns-then-not-child_label_kept c = search (pass_laws, states_count, rules)
-
-pub loop-s-preserved : goal.loop-s-preserved
-loop-s-preserved c = search (pass_laws, rules)
-
 pub returns : goal.returns
-returns c = search (pass_laws, states_count, rules)
+returns c =
+    failing_from_find _ (child_label_kept (design_of c.args.image.now.bytes.now)) c.find.ensures.ran (λ x b q k. search rules) (search (states_count c.args.image.now.describes))

@@ -1,25 +1,10 @@
-use Rattle.model.proofs.Laws.Passes.{pass_laws}
+use Rattle.model.specs.Image.{design_of}
+use Rattle.checker_scopes.specs.Plain.{plain_expression}
 use Rattle.design.proofs.Laws.{expressions_count}
+use Rattle.model.proofs.Laws.Chains.{all_from_all}
 use borrow.Author.Rules.{rules}
 use Rattle.checker_scopes.proofs.plain.plain_expressions.Goals as goal
 
-pub loop-e-init : goal.loop-e-init
-loop-e-init c = search (pass_laws, rules)
-
-pub plain_expression-requires : goal.plain_expression-requires
-plain_expression-requires c = search (pass_laws, rules)
-
-pub returns-then-not-plain_expression : goal.returns-then-not-plain_expression
-returns-then-not-plain_expression c = search (pass_laws, expressions_count, rules)
-
-pub overflow_add-e : goal.overflow_add-e
-overflow_add-e c = search (pass_laws, expressions_count, rules)
-
-pub loop-e-smaller : goal.loop-e-smaller
-loop-e-smaller c = search (pass_laws, expressions_count, rules)
-
-pub loop-e-preserved : goal.loop-e-preserved
-loop-e-preserved c = search (pass_laws, rules)
-
 pub returns : goal.returns
-returns c = search (pass_laws, expressions_count, rules)
+returns c =
+    all_from_all _ (plain_expression (design_of c.args.image.now.bytes.now)) c.all.ensures.ran (λ x b q k. search rules) (search (expressions_count c.requires.describes))

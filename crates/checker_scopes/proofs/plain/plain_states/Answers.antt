@@ -1,25 +1,10 @@
-use Rattle.model.proofs.Laws.Passes.{pass_laws}
+use Rattle.model.specs.Image.{design_of}
+use Rattle.checker_scopes.specs.Plain.{plain_state}
 use Rattle.design.proofs.Laws.{states_count}
+use Rattle.model.proofs.Laws.Chains.{all_from_all}
 use borrow.Author.Rules.{rules}
 use Rattle.checker_scopes.proofs.plain.plain_states.Goals as goal
 
-pub loop-s-init : goal.loop-s-init
-loop-s-init c = search (pass_laws, rules)
-
-pub plain_state-requires : goal.plain_state-requires
-plain_state-requires c = search (pass_laws, rules)
-
-pub returns-then-not-plain_state : goal.returns-then-not-plain_state
-returns-then-not-plain_state c = search (pass_laws, states_count, rules)
-
-pub overflow_add-s : goal.overflow_add-s
-overflow_add-s c = search (pass_laws, states_count, rules)
-
-pub loop-s-smaller : goal.loop-s-smaller
-loop-s-smaller c = search (pass_laws, states_count, rules)
-
-pub loop-s-preserved : goal.loop-s-preserved
-loop-s-preserved c = search (pass_laws, rules)
-
 pub returns : goal.returns
-returns c = search (pass_laws, states_count, rules)
+returns c =
+    all_from_all _ (plain_state (design_of c.args.image.now.bytes.now)) c.all.ensures.ran (λ x b q k. search rules) (search (states_count c.args.image.now.describes))

@@ -2,14 +2,11 @@ use Rattle.checker_scopes.proofs.ArgumentRules.{argument_rules}
 use borrow.Author.Rules.{rules}
 use Rattle.checker_scopes.proofs.scope.argument_kept.Goals as goal
 
-pub returns-then-not-argument : goal.returns-then-not-argument
-returns-then-not-argument c = search (argument_rules, rules)
+pub returns-then-not-is_argument : goal.returns-then-not-is_argument
+returns-then-not-is_argument c = search (argument_rules, rules)
 
-pub least-least-requires : goal.least-least-requires
-least-least-requires c = search (argument_rules, rules)
-
-pub most-most-requires : goal.most-most-requires
-most-most-requires c = search (argument_rules, rules)
+pub span-least-requires : goal.span-least-requires
+span-least-requires c = search (argument_rules, rules)
 
 pub flows-requires : goal.flows-requires
 flows-requires c = search (argument_rules, rules)

@@ -1,10 +1,7 @@
-use Prim.Native.Nat.{◌-◌, ◌≤◌}
+use Prim.Native.Nat.{◌≤◌}
 use Rattle.model.specs.Image.{design_of}
 use Rattle.design.proofs.ResetRules.{ResetSo}
 use Rattle.design.proofs.reset.reset_registers.Given as goal
 
 abbrev pub invariant-loop-r : goal.invariant-loop-r
-invariant-loop-r l = ResetSo (design_of l.image) l.initial.registers l.r l.registers × (l.r ≤ l.design.registers)
-
-abbrev pub decreases-loop-r : goal.decreases-loop-r
-decreases-loop-r l = l.design.registers - l.r
+invariant-loop-r l = ResetSo (design_of l.image.bytes.now) l.initial.registers l.r l.registers × (l.r ≤ l.image.design.registers)

@@ -8,12 +8,6 @@ loop-s-init c = search (scopes_loop, rules)
 pub put_scope-requires : goal.put_scope-requires
 put_scope-requires c = search (scopes_loop, rules)
 
-pub overflow_add-s : goal.overflow_add-s
-overflow_add-s c = search (scopes_loop, rules)
-
-pub loop-s-smaller : goal.loop-s-smaller
-loop-s-smaller c = search (scopes_loop, rules)
-
 pub loop-s-preserved : goal.loop-s-preserved
 loop-s-preserved c = (search (scopes_next, scope_put, rules), search (scopes_written, rules), search rules, search rules)
 

@@ -5,6 +5,3 @@ use Rattle.raising.proofs.bytes.copy.Given as goal
 
 abbrev pub invariant-loop-i : goal.invariant-loop-i
 invariant-loop-i l = Filled (λ k. get_or l.from k 0) l.initial.to l.i l.to × (l.i ≤ length l.from)
-
-abbrev pub decreases-loop-i : goal.decreases-loop-i
-decreases-loop-i l = length l.from - l.i

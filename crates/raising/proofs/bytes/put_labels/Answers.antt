@@ -2,14 +2,8 @@ use Rattle.raising.proofs.ByteRules.{put_laws, put_more}
 use borrow.Author.Rules.{rules}
 use Rattle.raising.proofs.bytes.put_labels.Goals as goal
 
-pub loop-r-init : goal.loop-r-init
-loop-r-init c = search (put_laws, rules)
-
-pub put_register_label-requires : goal.put_register_label-requires
-put_register_label-requires c = search (put_laws, rules)
-
 pub loop-r-preserved : goal.loop-r-preserved
-loop-r-preserved c = (search (put_more, rules), search rules)
+loop-r-preserved c = search (put_more, rules)
 
 pub returns : goal.returns
 returns c = search (put_laws, rules)

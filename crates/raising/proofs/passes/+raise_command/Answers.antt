@@ -1,34 +1,15 @@
 use borrow.Author.Rules.{rules}
-use Rattle.design.proofs.Laws.{command_inside}
 use Rattle.raising.proofs.CommandRules.{command_laws, sequence_a_raising, sequence_b_raising, branch_b_raising, branch_c_raising, sequence_a_lower, sequence_b_lower, branch_b_lower, branch_c_lower}
 use Rattle.raising.proofs.passes.+raise_command.Goals as goal
 
-pub kind-kind-requires : goal.kind-kind-requires
-kind-kind-requires t c = search (command_inside, rules)
-
 pub raise_register-requires : goal.raise_register-requires
 raise_register-requires t c = search (command_laws, rules)
-
-pub part_a-a-requires : goal.part_a-a-requires
-part_a-a-requires t c = search (command_inside, rules)
-
-pub part_b-b-requires : goal.part_b-b-requires
-part_b-b-requires t c = search (command_inside, rules)
 
 pub raise_command-p-requires : goal.raise_command-p-requires
 raise_command-p-requires t c = (search sequence_a_lower, search sequence_a_raising)
 
 pub raise_command-q-requires : goal.raise_command-q-requires
 raise_command-q-requires t c = (search sequence_b_lower, search sequence_b_raising)
-
-pub part_a-e-requires : goal.part_a-e-requires
-part_a-e-requires t c = search (command_inside, rules)
-
-pub part_b-b-requires-in-5 : goal.part_b-b-requires-in-5
-part_b-b-requires-in-5 t c = search (command_inside, rules)
-
-pub part_c-c-requires : goal.part_c-c-requires
-part_c-c-requires t c = search (command_inside, rules)
 
 pub reads-requires : goal.reads-requires
 reads-requires t c = search (command_laws, rules)
@@ -38,9 +19,6 @@ raise_command-p-requires-in-5 t c = (search branch_b_lower, search branch_b_rais
 
 pub raise_command-q-requires-in-5 : goal.raise_command-q-requires-in-5
 raise_command-q-requires-in-5 t c = (search branch_c_lower, search branch_c_raising)
-
-pub returns-in-1 : goal.returns-in-1
-returns-in-1 t c = search (command_laws, rules)
 
 pub returns-in-2 : goal.returns-in-2
 returns-in-2 t c = search (command_laws, rules)

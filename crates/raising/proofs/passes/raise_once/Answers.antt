@@ -10,7 +10,7 @@ pub raise_state-more-requires : goal.raise_state-more-requires
 raise_state-more-requires c = search (raising_so, rules)
 
 pub loop-s-preserved : goal.loop-s-preserved
-loop-s-preserved c = (search (once_more, rules), search rules, search rules)
+loop-s-preserved c = search (once_more, rules)
 
 pub returns : goal.returns
 returns c = search (once_all, states_count, rules)

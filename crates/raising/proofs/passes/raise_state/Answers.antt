@@ -1,13 +1,6 @@
-use Rattle.design.proofs.Laws.{state_inside}
 use Rattle.raising.proofs.StateRules.{state_row_inside, state_raising, state_raises}
 use borrow.Author.Rules.{rules}
 use Rattle.raising.proofs.passes.raise_state.Goals as goal
-
-pub state_label-label-requires : goal.state_label-label-requires
-state_label-label-requires c = search (state_inside, rules)
-
-pub state_command-n-requires : goal.state_command-n-requires
-state_command-n-requires c = search (state_inside, rules)
 
 pub row-context-requires : goal.row-context-requires
 row-context-requires c = search (state_row_inside, rules)
