@@ -1,24 +1,22 @@
 -- What each call leaves, case by case of what it judged: a refusal leaves the areas as they were lent, and the bytes of an area of the right length are
 -- those of its values.
+use Rattle.std.specs.Prelude.{Err}
 use Prim.Native.Nat.{ℕ, ◌+◌, ◌*◌, ◌^◌, ◌≤◌, ◌<◌}
 use mathlib.Core.Path.{◌≡◌, sym, ◌∙◌, ap}
 use mathlib.Core.Bool.{Bool, true, false, not, ◌&&◌}
 use mathlib.Core.List.{List}
 use native.Mathlib.Omega.{arith}
 use lib.Dec.{eqb, ltb}
-use lib.ListN.{length, set, replicate, length-replicate}
+use lib.ListN.{length, set}
 use borrow.Author.Tests.{eq-eqb, eqb-true, ltb-true, lt-ltb, le-ltb}
 use mir.Syntax.{w64}
 use mir.Val.{Fits}
-use Rattle.model.specs.declared.Refusal.{Refusal}
+use Rattle.model.specs.declared.RefusedAt.{RefusedAt}
 use Rattle.model.specs.declared.Refusal.TheVariants.{NoPort, Area, PortValue}
-use Rattle.model.specs.declared.Answer.{Answer}
-use Rattle.model.specs.declared.Answer.TheVariants.{Accepted, Refused}
 use Rattle.model.specs.Limits.{word_length, target_length}
 use Rattle.model.specs.Image.{Design as Table, Register, AreBytes, design_of, register_at}
 use Rattle.model.specs.States.{is_port}
-use Rattle.model.specs.Parameters.{has_parameters}
-use Rattle.model.specs.Answers.{number_of}
+use Rattle.model.specs.Answers.{Answer, Accepted, Refused}
 use Rattle.model.specs.Verdict.{verdict, refused_at, ◌before◌}
 use Rattle.model.specs.Values.{fits, words_of, bytes_of}
 use Rattle.model.specs.Machine.{reset_areas}
@@ -26,15 +24,13 @@ use Rattle.model.specs.Calls.{Lent, Left, length_answer, register_area_answer, c
 use Rattle.model.proofs.Laws.Booleans.{not_true, not_false, and_first, and_second}
 use Rattle.model.proofs.Laws.Words.{bytes_of_words}
 use Rattle.design.specs.declared.Design.{Design}
-use Rattle.design.specs.Records.{register_in, register_end}
+use Rattle.design.specs.Records.{register_in}
 use Rattle.design.specs.Describes.{Describes}
 use Rattle.design.specs.Kept.{RecordsKept}
 use Rattle.design.specs.Words.{put_word}
 use Rattle.design.specs.Resets.{lends}
-use Rattle.design.specs.Scopes.{with_scopes, Scopes}
-use Rattle.design.proofs.Laws.{registers_count, registers_most, states_count, register_inside, register_in_lem}
+use Rattle.design.proofs.Laws.{registers_count, registers_most, states_count, register_in_lem}
 use Rattle.design.proofs.ResetRules.{states_few}
-use Rattle.design.proofs.ScopeRules.{empty_scopes, scopes_stay, no_parameters}
 use Rattle.design.proofs.WordRules.{words_put, length-put}
 use Rattle.design.proofs.WidthRules.{width_is}
 use Rattle.running.specs.Stages.{sound_on, run_sound}
@@ -137,18 +133,18 @@ module _ (d : Table) (registers : List ℕ) (r v : ℕ) where
   write_refuses h = rw h
 
   module _ (right : register_area_answer d registers ≡ Accepted 0) where
-    pub write_refuses_contents : {p : ℕ} → contents_answer d registers ≡ Refused Area p → left_as (Refused Area p) registers ≡ write_port_on d registers r v
+    pub write_refuses_contents : {why : RefusedAt} → contents_answer d registers ≡ Err why → left_as (Err why) registers ≡ write_port_on d registers r v
     unfolding write_port_on ◌before◌
     write_refuses_contents h = rw (right, h)
 
     module _ (fit : contents_answer d registers ≡ Accepted 0) where
-      pub write_refuses_port : port_answer d r ≡ Refused NoPort r → left_as (Refused NoPort r) registers ≡ write_port_on d registers r v
+      pub write_refuses_port : {why : RefusedAt} → why ≡ record { refusal = NoPort; place = r } → port_answer d r ≡ Refused NoPort r → left_as (Err why) registers ≡ write_port_on d registers r v
       unfolding write_port_on ◌before◌
-      write_refuses_port h = rw (right, fit, h)
+      write_refuses_port told h = rw (right, fit, h, told)
 
-      pub write_refuses_value : port_answer d r ≡ Accepted 0 → value_answer d r v ≡ Refused PortValue r → left_as (Refused PortValue r) registers ≡ write_port_on d registers r v
+      pub write_refuses_value : {why : RefusedAt} → why ≡ record { refusal = PortValue; place = r } → port_answer d r ≡ Accepted 0 → value_answer d r v ≡ Refused PortValue r → left_as (Err why) registers ≡ write_port_on d registers r v
       unfolding write_port_on ◌before◌
-      write_refuses_value h k = rw (right, fit, h, k)
+      write_refuses_value told h k = rw (right, fit, h, k, told)
 
 -- an area of the right length, as a port write judges it
 pub long_area : {image : List ℕ} {x : Design} (registers : List ℕ) → Describes image x → length registers ≡ 4 * x.registers → register_area_answer (design_of image) registers ≡ Accepted 0
@@ -158,9 +154,6 @@ long_area {image} registers d h = let count = registers_count d in rw (eq-eqb (l
 module _ {image : List ℕ} {x : Design} (known : RecordsKept image x) (r : ℕ) {w : Bool} (p : w ≡ is_writable (design_of image) r) (q : not w ≡ false) where
   pub port_register : r < x.registers
   port_register = let count = registers_count known.describes in let there = port_there (design_of image) r p q in omega arith
-
-  pub port_record : register_end x.registers_at r ≤ length image
-  port_record = register_inside known.describes port_register
 
   pub port_word : (registers : List ℕ) → length registers ≡ 4 * x.registers → 4 * r + 4 ≤ length registers
   port_word registers area = let there = port_register in omega arith
@@ -193,60 +186,36 @@ module _ {image : List ℕ} {x : Design} (known : RecordsKept image x) (r : ℕ)
         (ap (λ (area : List ℕ). left_as (Accepted 0) area) made)
 
 -- ---- run
--- a table of scopes for the most states
-pub scopes_room : {image : List ℕ} {x : Design} → Describes image x → 3 * x.states ≤ 192
-scopes_room d = let few = states_few d in omega arith
-
--- a fresh one has room for those of the design, and tells them where it has no parameters
-module _ {image table : List ℕ} {x : Design} (d : Describes image x) (fresh : table ≡ replicate {A = ℕ} 192 0) where
-  pub fresh_room : 3 * x.states ≤ length table
-  fresh_room = let room = scopes_room d in let long = ap length fresh ∙ length-replicate {A = ℕ} 192 0 in omega arith
-
-  module _ {b : Bool} (is : b ≡ has_parameters (design_of image)) (h : not b ≡ true) where
-    pub scopes_same : table ≡ with_scopes (design_of image) x.states table
-    scopes_same = scopes_stay (no_parameters (design_of image) (not_true b h) is) x.states fresh
-
-    pub scopes_fresh : Scopes (design_of image) table
-    scopes_fresh = rw fresh (empty_scopes d (no_parameters (design_of image) (not_true b h) is))
-
 pub run_refuses : (d : Table) (registers targets : List ℕ) (n : ℕ) → length_answer d (lends registers targets) ≡ Refused Area 0 → left_as (Refused Area 0) (lends registers targets) ≡ run_on d (lends registers targets) n
 unfolding run_on ◌before◌
 run_refuses d registers targets n h = rw h
 
 -- ---- run, behind the lengths
 module _ (d : Table) (registers targets : List ℕ) (n : ℕ) {a : Answer} where
-  pub run_refuses_unsound : {r : Refusal} {p : ℕ} → a ≡ Refused r p → a ≡ sound_on d (lends registers targets) → length_answer d (lends registers targets) ≡ Accepted 0 → left_as (Refused r p) (lends registers targets) ≡ run_on d (lends registers targets) n
-  unfolding run_on ◌before◌
-  run_refuses_unsound h judged right = rw (right, ← judged, h)
-
   pub run_passes : {left : Left Lent} {c : ℕ} → left ≡ run_sound d (lends registers targets) n → a ≡ Accepted c → a ≡ sound_on d (lends registers targets) → length_answer d (lends registers targets) ≡ Accepted 0 → left ≡ run_on d (lends registers targets) n
   unfolding run_on run_sound ◌before◌
   run_passes k h judged right = rw (right, ← judged, h) k
 
--- ---- numbers
-pub number_of_lem : {r q : Refusal} {n : ℕ} → r ≡ q → n ≡ number_of q → n ≡ number_of r
-number_of_lem e h = rw e h
-
 -- ---- the image first
 module _ (image : List ℕ) {a : Answer} (e : a ≡ verdict image) where
-  module _ {r : Refusal} {p : ℕ} (h : a ≡ Refused r p) where
-    pub refused_reset : (registers targets : List ℕ) → left_as (Refused r p) (lends registers targets) ≡ reset image (lends registers targets)
+  module _ {why : RefusedAt} (h : a ≡ Err why) where
+    pub refused_reset : (registers targets : List ℕ) → left_as (Err why) (lends registers targets) ≡ reset image (lends registers targets)
     unfolding reset reset_answer ◌before◌
     refused_reset registers targets = rw (← e, h)
 
-    pub refused_write : (registers : List ℕ) (n v : ℕ) → left_as (Refused r p) registers ≡ write_port image registers n v
+    pub refused_write : (registers : List ℕ) (n v : ℕ) → left_as (Err why) registers ≡ write_port image registers n v
     unfolding write_port write_port_answer ◌before◌
     refused_write registers n v = rw (← e, h)
 
-    pub refused_registers_length : Refused r p ≡ registers_length image
+    pub refused_registers_length : Err why ≡ registers_length image
     unfolding registers_length ◌before◌
     refused_registers_length = rw (← e, h)
 
-    pub refused_targets_length : Refused r p ≡ targets_length image
+    pub refused_targets_length : Err why ≡ targets_length image
     unfolding targets_length ◌before◌
     refused_targets_length = rw (← e, h)
 
-    pub refused_run : (registers targets : List ℕ) (n : ℕ) → left_as (Refused r p) (lends registers targets) ≡ run image (lends registers targets) n
+    pub refused_run : (registers targets : List ℕ) (n : ℕ) → left_as (Err why) (lends registers targets) ≡ run image (lends registers targets) n
     unfolding run run_answer ◌before◌
     refused_run registers targets n = rw (← e, h)
 

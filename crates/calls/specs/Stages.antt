@@ -1,6 +1,6 @@
 -- The calls of `Rattle.model.specs.Calls` from the point where the image is accepted on.
 use Rattle.std.specs.Prelude.{ℕ, List, length, set}
-use Rattle.model.specs.declared.Answer.TheVariants.{Accepted}
+use Rattle.model.specs.Answers.{Accepted}
 use Rattle.model.specs.Image.{Design as Table}
 use Rattle.model.specs.Verdict.{◌before◌}
 use Rattle.model.specs.Values.{words_of, bytes_of}

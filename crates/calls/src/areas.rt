@@ -1,11 +1,12 @@
 // The lengths of the areas that a host lends.
 ghost use Rattle.std.specs.Prelude.{◌*◌, ◌≤◌, ◌≡◌, ◌&&◌, eqb, length};
-ghost use Rattle.model.specs.declared.Answer.TheVariants.{Accepted};
+ghost use Rattle.model.specs.Answers.{Accepted};
 ghost use Rattle.model.specs.Limits.{word_length, target_length, registers_max, states_max};
 ghost use Rattle.model.specs.Image.{design_of};
 ghost use Rattle.model.specs.Rules.{Keeps};
 
 use design::Design;
+use design::image::Image;
 use model::Answer;
 
 // An area of so many bytes holds the registers.
@@ -37,8 +38,8 @@ pub fn registers_length(image: &[u8]) -> Answer
     requires { Keeps image.now }
     ensures { result ≡ Accepted (word_length * length (design_of image.now).registers) }
 {
-    let design = Design::read(image);
-    Answer::Accepted(Design::WORD_LENGTH * design.registers)
+    let image = Image::read(image);
+    Ok(Design::WORD_LENGTH * image.design.registers)
 }
 
 // The bytes that the targets and the bindings take, as a count.
@@ -46,6 +47,6 @@ pub fn targets_length(image: &[u8]) -> Answer
     requires { Keeps image.now }
     ensures { result ≡ Accepted (target_length * length (design_of image.now).states) }
 {
-    let design = Design::read(image);
-    Answer::Accepted(Design::TARGET_LENGTH * design.states)
+    let image = Image::read(image);
+    Ok(Design::TARGET_LENGTH * image.design.states)
 }

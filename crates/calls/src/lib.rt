@@ -2,7 +2,6 @@
 #![tactic(auto)]
 
 pub mod areas;
-pub mod numbers;
 mod ports;
 mod resets;
 pub mod runs;
@@ -25,53 +24,38 @@ pub fn check(image: &[u8]) -> Answer
 pub fn registers_length(image: &[u8]) -> Answer
     ensures { result ≡ registers_length_of image.now }
 {
-    let verdict = checker::verdict(image);
-    match verdict {
-        Answer::Refused(refusal, place) => Answer::Refused(refusal, place),
-        Answer::Accepted(_) => areas::registers_length(image),
-    }
+    checker::verdict(image)?;
+    areas::registers_length(image)
 }
 
 // The length in bytes of the area of targets and bindings that an image asks for.
 pub fn targets_length(image: &[u8]) -> Answer
     ensures { result ≡ targets_length_of image.now }
 {
-    let verdict = checker::verdict(image);
-    match verdict {
-        Answer::Refused(refusal, place) => Answer::Refused(refusal, place),
-        Answer::Accepted(_) => areas::targets_length(image),
-    }
+    checker::verdict(image)?;
+    areas::targets_length(image)
 }
 
 // Writes the reset values and the default targets, and clears the bindings behind them.
 pub fn reset(image: &[u8], registers: &mut [u8], targets: &mut [u8]) -> Answer
     ensures { left_as result (lends registers.new targets.new) ≡ reset_of image.now (lends registers.old targets.old) }
 {
-    let verdict = checker::verdict(image);
-    match verdict {
-        Answer::Refused(refusal, place) => Answer::Refused(refusal, place),
-        Answer::Accepted(_) => resets::reset(image, registers, targets),
-    }
+    checker::verdict(image)?;
+    resets::reset(image, registers, targets)
 }
 
 // Sets a register that is a port to a value.
 pub fn write_port(image: &[u8], registers: &mut [u8], register: u32, value: u32) -> Answer
     ensures { left_as result registers.new ≡ write_port_of image.now registers.old register value }
 {
-    let verdict = checker::verdict(image);
-    match verdict {
-        Answer::Refused(refusal, place) => Answer::Refused(refusal, place),
-        Answer::Accepted(_) => ports::write_port(image, registers, register, value),
-    }
+    checker::verdict(image)?;
+    ports::write_port(image, registers, register, value)
 }
 
 // Runs so many cycles.
 pub fn run(image: &[u8], registers: &mut [u8], targets: &mut [u8], count: u32) -> Answer
     ensures { left_as result (lends registers.new targets.new) ≡ run_of image.now (lends registers.old targets.old) count }
 {
-    let verdict = checker::verdict(image);
-    match verdict {
-        Answer::Refused(refusal, place) => Answer::Refused(refusal, place),
-        Answer::Accepted(_) => runs::run(image, registers, targets, count),
-    }
+    checker::verdict(image)?;
+    runs::run(image, registers, targets, count)
 }

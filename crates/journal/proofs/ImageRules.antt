@@ -1,5 +1,6 @@
 -- The image first: behind an accepted image the calls are those of `Stages`. What a run judges of lent areas a step back judges of the saved state, whose lengths are
 -- right where the journal has room for all that it counts.
+use Rattle.std.specs.Prelude.{None, Err}
 use Prim.Native.Nat.{ℕ, zero, suc, ◌+◌, ◌-◌, ◌*◌, ◌≤◌}
 use mathlib.Core.Path.{◌≡◌, refl, sym, ◌∙◌, ap}
 use mathlib.Core.Bool.{Bool, true, false}
@@ -8,11 +9,9 @@ use native.Mathlib.Omega.{arith}
 use lib.Dec.{leb}
 use lib.ListN.{length}
 use borrow.Author.Tests.{eq-eqb, leb-true}
-use Rattle.model.specs.declared.Found.TheVariants.{Nowhere}
-use Rattle.model.specs.declared.Refusal.{Refusal}
+use Rattle.model.specs.declared.RefusedAt.{RefusedAt}
 use Rattle.model.specs.declared.Refusal.TheVariants.{JournalArea, StepsBack}
-use Rattle.model.specs.declared.Answer.{Answer}
-use Rattle.model.specs.declared.Answer.TheVariants.{Accepted, Refused}
+use Rattle.model.specs.Answers.{Answer, Accepted}
 use Rattle.model.specs.Image.{Design as Table, design_of}
 use Rattle.model.specs.Verdict.{verdict, refused_at, at_zero_unless, ◌before◌}
 use Rattle.model.specs.Machine.{cycles, after_cycles}
@@ -31,15 +30,15 @@ use Rattle.journal.specs.Stages.{lends_journal, journalled_cycles, run_journalle
 -- areas that a refused run leaves are those lent, whatever it would make
 ran_as : (a behind : Answer) (lent : LentJournal) (made : Lent) (journal : List ℕ) → leaves (a before behind) lent (record { areas = (leaves a lent.areas made).lent; journal = journal }) ≡ leaves (a before behind) lent (record { areas = made; journal = journal })
 unfolding ◌before◌
-ran_as (Refused r p) behind lent made journal = refl
+ran_as (Err why) behind lent made journal = refl
 ran_as (Accepted n) behind lent made journal = refl
 
 -- what follows an accepted count follows what was judged before it
 count_between : (a b c behind : Answer) (n : ℕ) → ((a before b before c before Accepted n) before behind) ≡ (a before b before c before behind)
 unfolding ◌before◌
-count_between (Refused r p) b c behind n = refl
-count_between (Accepted i) (Refused r p) c behind n = refl
-count_between (Accepted i) (Accepted j) (Refused r p) behind n = refl
+count_between (Err why) b c behind n = refl
+count_between (Accepted i) (Err why) c behind n = refl
+count_between (Accepted i) (Accepted j) (Err why) behind n = refl
 count_between (Accepted i) (Accepted j) (Accepted k) behind n = refl
 
 module _ (image : List ℕ) {c : ℕ} (accepted : verdict image ≡ Accepted c) where
@@ -63,16 +62,16 @@ module _ (image : List ℕ) {c : ℕ} (accepted : verdict image ≡ Accepted c) 
 -- what is behind two answers counts only where they accept
 behind_both : (a b : Answer) {x y : Answer} → ((i j : ℕ) → a ≡ Accepted i → b ≡ Accepted j → x ≡ y) → (a before b before x) ≡ (a before b before y)
 unfolding ◌before◌
-behind_both (Refused r p) b h = refl
-behind_both (Accepted i) (Refused r p) h = refl
+behind_both (Err why) b h = refl
+behind_both (Accepted i) (Err why) h = refl
 behind_both (Accepted i) (Accepted j) h = h i j refl refl
 
 count_after : (a : Answer) (k : ℕ) → ((a before Accepted 0) before Accepted k) ≡ (a before Accepted k)
 unfolding ◌before◌
-count_after (Refused r p) k = refl
+count_after (Err why) k = refl
 count_after (Accepted i) k = refl
 
-unless_true : (b : Bool) → at_zero_unless b ≡ Nowhere → b ≡ true
+unless_true : (b : Bool) → at_zero_unless b ≡ None → b ≡ true
 unless_true true h = refl
 unless_true false h = let z : ◌≡◌ {A = ℕ} 0 1 = cc in absurd (omega arith)
 
@@ -135,12 +134,12 @@ module _ (image : List ℕ) {c : ℕ} (accepted : verdict image ≡ Accepted c) 
 
 -- ---- the calls
 module _ (image : List ℕ) {a : Answer} (e : a ≡ verdict image) where
-  module _ {r : Refusal} {p : ℕ} (h : a ≡ Refused r p) (registers targets journal : List ℕ) where
-    pub refused_run : (n : ℕ) → left_as (Refused r p) (lends_journal registers targets journal) ≡ run_journalled image (lends_journal registers targets journal) n
+  module _ {why : RefusedAt} (h : a ≡ Err why) (registers targets journal : List ℕ) where
+    pub refused_run : (n : ℕ) → left_as (Err why) (lends_journal registers targets journal) ≡ run_journalled image (lends_journal registers targets journal) n
     unfolding run_journalled run_journalled_answer run_answer ◌before◌
     refused_run n = rw (← e, h)
 
-    pub refused_step : (k : ℕ) → left_as (Refused r p) (lends_journal registers targets journal) ≡ step_back image (lends_journal registers targets journal) k
+    pub refused_step : (k : ℕ) → left_as (Err why) (lends_journal registers targets journal) ≡ step_back image (lends_journal registers targets journal) k
     unfolding step_back step_back_answer reset_answer ◌before◌
     refused_step k = rw (← e, h)
 

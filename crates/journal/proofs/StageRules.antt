@@ -1,4 +1,5 @@
 -- What each call with a journal leaves, case by case of what it judged: a refusal leaves all three areas as they were lent.
+use Rattle.std.specs.Prelude.{Err}
 use Prim.Native.Nat.{ℕ, ◌+◌, ◌*◌, ◌≤◌, ◌<◌}
 use mathlib.Core.Path.{◌≡◌, sym, ◌∙◌}
 use mathlib.Core.Bool.{Bool, true, false, not}
@@ -7,13 +8,11 @@ use native.Mathlib.Omega.{arith}
 use lib.Dec.{leb}
 use lib.ListN.{length}
 use borrow.Author.Tests.{leb-true, le-leb, lt-leb}
-use Rattle.model.specs.declared.Refusal.{Refusal}
+use Rattle.model.specs.declared.RefusedAt.{RefusedAt}
 use Rattle.model.specs.declared.Refusal.TheVariants.{Area, CycleCount, JournalArea, StepsBack}
-use Rattle.model.specs.declared.Answer.{Answer}
-use Rattle.model.specs.declared.Answer.TheVariants.{Accepted, Refused}
+use Rattle.model.specs.Answers.{Answer, Accepted, Refused}
 use Rattle.model.specs.Limits.{cycles_max}
 use Rattle.model.specs.Image.{Design as Table, AreBytes, design_of}
-use Rattle.model.specs.Rules.{Keeps}
 use Rattle.model.specs.Verdict.{refused_at, ◌before◌}
 use Rattle.model.specs.Machine.{cycles, after_cycles}
 use Rattle.model.specs.Calls.{length_answer, cycles_answer, areas_of, left_as, Left}
@@ -30,7 +29,6 @@ use Rattle.journal_model.specs.Calls.{room_answer, steps_answer, LentJournal}
 use Rattle.journal_model.specs.Rules.{RoomKeeps}
 use Rattle.journal_model.proofs.Laws.{room_iff}
 use Rattle.journal_saving.proofs.SavingRules.{saved_size}
-use Rattle.journal.specs.Returning.{Returning}
 use Rattle.journal.specs.Stages.{lends_journal, journalled_cycles, run_journalled_on, run_journalled_sound, step_back_on}
 
 -- ---- room
@@ -56,8 +54,8 @@ module _ (d : Table) (registers targets journal : List ℕ) (n : ℕ) where
   run_refuses h = rw h
 
   module _ {a : Answer} where
-    pub run_refuses_unsound : {r : Refusal} {p : ℕ} → a ≡ Refused r p → a ≡ sound_on d (lends registers targets) → length_answer d (lends registers targets) ≡ Accepted 0
-        → left_as (Refused r p) (lends_journal registers targets journal) ≡ run_journalled_on d (lends_journal registers targets journal) n
+    pub run_refuses_unsound : {why : RefusedAt} → a ≡ Err why → a ≡ sound_on d (lends registers targets) → length_answer d (lends registers targets) ≡ Accepted 0
+        → left_as (Err why) (lends_journal registers targets journal) ≡ run_journalled_on d (lends_journal registers targets journal) n
     unfolding run_journalled_on ◌before◌
     run_refuses_unsound h judged right = rw (right, ← judged, h)
 
@@ -104,20 +102,16 @@ module _ {image : List ℕ} {x : Design} (registers targets journal : List ℕ) 
   step_lacks_room h = rw (right, lacks_room known journal 0 room h)
 
   module _ (h : not r ≡ false) where
-    keeps : RoomKeeps (design_of image) journal 0
-    keeps = room_kept known journal 0 room h
+    pub step_room : RoomKeeps (design_of image) journal 0
+    step_room = room_kept known journal 0 room h
 
     pub step_counts : count_length ≤ length journal
-    step_counts = keeps.counts
+    step_counts = step_room.counts
 
     pub step_too_far : {n : ℕ} → n ≡ count_in journal → n < k → left_as (Refused StepsBack 0) (lends_journal registers targets journal) ≡ step_back_on (design_of image) (lends_journal registers targets journal) k
     unfolding step_back_on steps_answer refused_at ◌before◌
-    step_too_far counted l = rw (right, room_accepts (design_of image) journal 0 keeps, lt-leb k (count_in journal) (omega arith))
+    step_too_far counted l = rw (right, room_accepts (design_of image) journal 0 step_room, lt-leb k (count_in journal) (omega arith))
 
     pub step_none : k ≡ 0 → left_as (Accepted 0) (lends_journal registers targets journal) ≡ step_back_on (design_of image) (lends_journal registers targets journal) k
     unfolding step_back_on steps_answer refused_at ◌before◌
-    step_none e = rw (e, right, room_accepts (design_of image) journal 0 keeps, le-leb 0 (count_in journal) (omega arith))
-
-    pub step_returns : {n : ℕ} → n ≡ count_in journal → k ≤ n → (k ≡ 0 → ⊥) → Keeps image → Returning image x registers targets journal k
-    step_returns counted l some kept =
-        record { keeps = kept; describes = known; area = area; states = states; room = keeps; some = some; counted = omega arith }
+    step_none e = rw (e, right, room_accepts (design_of image) journal 0 step_room, le-leb 0 (count_in journal) (omega arith))

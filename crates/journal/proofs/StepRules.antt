@@ -1,4 +1,5 @@
 -- The state that a step back restores is judged, and taken, where it lies in the journal.
+use Rattle.std.specs.Prelude.{Err}
 use Prim.Native.Nat.{ℕ, zero, suc, ◌+◌, ◌-◌, ◌*◌, ◌^◌, ◌≤◌, ◌<◌}
 use mathlib.Core.Path.{◌≡◌, refl, sym, ◌∙◌, ap}
 use mathlib.Core.List.{List}
@@ -8,9 +9,8 @@ use lib.Seq.{length-take-le, drop-drop}
 use borrow.Author.Tests.{le-leb}
 use mir.Syntax.{w64}
 use mir.Val.{Fits}
-use Rattle.model.specs.declared.Refusal.{Refusal}
-use Rattle.model.specs.declared.Answer.{Answer}
-use Rattle.model.specs.declared.Answer.TheVariants.{Accepted, Refused}
+use Rattle.model.specs.declared.RefusedAt.{RefusedAt}
+use Rattle.model.specs.Answers.{Answer, Accepted}
 use Rattle.model.specs.Image.{Design as Table, design_of}
 use Rattle.model.specs.Verdict.{refused_at, ◌before◌}
 use Rattle.model.specs.Calls.{length_answer, left_as, leaves}
@@ -28,6 +28,8 @@ use Rattle.journal_model.proofs.Laws.{saved_back_bytes}
 use Rattle.journal_saving.specs.Bytes.{part_of}
 use Rattle.journal_saving.proofs.JournalRules.{count_put}
 use Rattle.journal_saving.proofs.SavingRules.{saved_size, one_inside}
+use Rattle.design.specs.declared.image.Image.{Image}
+use Rattle.design.specs.Images.{design_in}
 use Rattle.journal.specs.Returning.{Returning}
 use Rattle.journal.specs.Stages.{lends_journal, stepped_back, step_back_on}
 use Rattle.journal.proofs.StageRules.{room_accepts}
@@ -93,32 +95,32 @@ unfolding step_back_on steps_answer refused_at ◌before◌
 step_judges d lent zero some right room l = absurd (some refl)
 step_judges d lent (suc k) some right room l = rw (right, room_accepts d lent.journal 0 room, le-leb (suc k) (count_in lent.journal) l)
 
-module _ {image : List ℕ} {x : Design} {registers targets journal : List ℕ} {k : ℕ} (back : Returning image x registers targets journal k) where
+module _ {image : Image} {registers targets journal : List ℕ} {k : ℕ} (back : Returning image registers targets journal k) where
   pub back_fits : {n : ℕ} → n ≡ count_in journal → k ≤ n
   back_fits e = let counted = back.counted in omega arith
 
   pub back_counts : 4 ≤ length journal
   back_counts = back.room.counts
 
-  judges : step_back_on (design_of image) (lends_journal registers targets journal) k
-      ≡ leaves (sound_on (design_of image) (saved_back (design_of image) journal k) before Accepted k) (lends_journal registers targets journal) (stepped_back (design_of image) (lends_journal registers targets journal) k)
-  judges = step_judges (design_of image) (lends_journal registers targets journal) k back.some (right_lengths registers targets back.describes back.area back.states) back.room back.counted
+  judges : step_back_on (design_in image) (lends_journal registers targets journal) k
+      ≡ leaves (sound_on (design_in image) (saved_back (design_in image) journal k) before Accepted k) (lends_journal registers targets journal) (stepped_back (design_in image) (lends_journal registers targets journal) k)
+  judges = step_judges (design_in image) (lends_journal registers targets journal) k back.some (right_lengths registers targets image.describes back.area back.states) back.room back.counted
 
-  module _ {n at : ℕ} (counted : n ≡ count_in journal) (stands : at ≡ 4 + (4 * x.registers + 3 * x.states) * (n - k)) where
-    place_is : at ≡ count_length + saved_length (design_of image) * (count_in journal - k)
-    place_is = rw (saved_size back.describes, ← counted) stands
+  module _ {n at : ℕ} (counted : n ≡ count_in journal) (stands : at ≡ 4 + (4 * image.design.registers + 3 * image.design.states) * (n - k)) where
+    place_is : at ≡ count_length + saved_length (design_in image) * (count_in journal - k)
+    place_is = rw (saved_size image.describes, ← counted) stands
 
-    saved_is : saved_back (design_of image) journal k ≡ saved_of (design_of image) (drop at journal)
+    saved_is : saved_back (design_in image) journal k ≡ saved_of (design_in image) (drop at journal)
     saved_is =
-        saved_back_bytes (design_of image) journal k (positive k back.some) back.counted
-        ∙ ap (λ (place : ℕ). saved_of (design_of image) (drop place journal)) (sym place_is)
+        saved_back_bytes (design_in image) journal k (positive k back.some) back.counted
+        ∙ ap (λ (place : ℕ). saved_of (design_in image) (drop place journal)) (sym place_is)
 
-    pub saved_inside : at + saved_length (design_of image) ≤ length journal
+    pub saved_inside : at + saved_length (design_in image) ≤ length journal
     saved_inside =
         let some = positive k back.some in
         let counted' = back.counted in
         let all : count_in journal + 0 ≡ count_in journal - k + 1 + (k - 1) = omega arith in
-        let inside = one_inside (saved_length (design_of image)) (count_in journal - k) (k - 1) all in
+        let inside = one_inside (saved_length (design_in image)) (count_in journal - k) (k - 1) all in
         let here = place_is in
         let room = back.room.room in
         omega arith
@@ -126,23 +128,23 @@ module _ {image : List ℕ} {x : Design} {registers targets journal : List ℕ} 
     pub areas_inside : at + (length registers + length targets) ≤ length journal
     areas_inside =
         let inside = saved_inside in
-        let size = saved_size back.describes in
+        let size = saved_size image.describes in
         let area = back.area in
         let states = back.states in
         omega arith
 
-    pub step_unsound : {a : Answer} {r : Refusal} {p : ℕ} → a ≡ Refused r p → a ≡ sound_on (design_of image) (saved_of (design_of image) (drop at journal))
-        → left_as (Refused r p) (lends_journal registers targets journal) ≡ step_back_on (design_of image) (lends_journal registers targets journal) k
+    pub step_unsound : {a : Answer} {why : RefusedAt} → a ≡ Err why → a ≡ sound_on (design_in image) (saved_of (design_in image) (drop at journal))
+        → left_as (Err why) (lends_journal registers targets journal) ≡ step_back_on (design_in image) (lends_journal registers targets journal) k
     unfolding ◌before◌
     step_unsound h judged = rw (judges, saved_is, ← judged, h)
 
-    pub step_made : {a : Answer} {c : ℕ} (registers' targets' : List ℕ) {journal' : List ℕ} → a ≡ Accepted c → a ≡ sound_on (design_of image) (saved_of (design_of image) (drop at journal))
+    pub step_made : {a : Answer} {c : ℕ} (registers' targets' : List ℕ) {journal' : List ℕ} → a ≡ Accepted c → a ≡ sound_on (design_in image) (saved_of (design_in image) (drop at journal))
         → registers' ≡ part_of at (length registers) journal
         → targets' ≡ part_of (at + length registers) (length targets) journal
         → journal' ≡ put_word journal 0 (n - k)
-        → left_as (Accepted k) (lends_journal registers' targets' journal') ≡ step_back_on (design_of image) (lends_journal registers targets journal) k
+        → left_as (Accepted k) (lends_journal registers' targets' journal') ≡ step_back_on (design_in image) (lends_journal registers targets journal) k
     unfolding stepped_back ◌before◌
     step_made registers' targets' h judged taken taken' lowered =
-        let left = restored back.describes journal at registers targets taken taken' back.area back.states in
+        let left = restored image.describes journal at registers targets taken taken' back.area back.states in
         let count = lowered ∙ count_put journal (n - k) back.room.counts ∙ ap (λ (m : ℕ). recounted (m - k) journal) counted in
         rw (judges, saved_is, ← judged, h, ← left, ← count)

@@ -1,8 +1,7 @@
 -- The calls of `Rattle.journal_model.specs.Calls` from the point where the image is
 -- accepted on.
 use Rattle.std.specs.Prelude.{ℕ, zero, suc, ◌-◌, List, ◌++◌}
-use Rattle.model.specs.declared.Answer.{Answer}
-use Rattle.model.specs.declared.Answer.TheVariants.{Accepted}
+use Rattle.model.specs.Answers.{Answer, Accepted}
 use Rattle.model.specs.Image.{Design as Table}
 use Rattle.model.specs.Verdict.{◌before◌}
 use Rattle.model.specs.Machine.{cycles, after_cycles}

@@ -22,11 +22,8 @@ pub fn run_journalled(
 ) -> Answer
     ensures { left_as result (lends_journal registers.new targets.new journal.new) ≡ run_journalled_of image.now (lends_journal registers.old targets.old journal.old) count }
 {
-    let verdict = checker::verdict(image);
-    match verdict {
-        Answer::Refused(refusal, place) => Answer::Refused(refusal, place),
-        Answer::Accepted(_) => runs::run_journalled(image, registers, targets, journal, count),
-    }
+    checker::verdict(image)?;
+    runs::run_journalled(image, registers, targets, journal, count)
 }
 
 // Goes back to the areas as they were saved before the k-th last cycle that the journal counts.
@@ -39,9 +36,6 @@ pub fn step_back(
 ) -> Answer
     ensures { left_as result (lends_journal registers.new targets.new journal.new) ≡ step_back_of image.now (lends_journal registers.old targets.old journal.old) k }
 {
-    let verdict = checker::verdict(image);
-    match verdict {
-        Answer::Refused(refusal, place) => Answer::Refused(refusal, place),
-        Answer::Accepted(_) => steps::step_back(image, registers, targets, journal, k),
-    }
+    checker::verdict(image)?;
+    steps::step_back(image, registers, targets, journal, k)
 }

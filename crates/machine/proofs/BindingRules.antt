@@ -25,7 +25,7 @@ use Rattle.model.specs.Machine.{target_sound, gone_to}
 use Rattle.model.specs.Calls.{targets_in, bindings_in}
 use Rattle.model.proofs.Laws.Booleans.{decide, and_second, or_cases, true_or_false, cond_true, cond_false}
 use Rattle.model.proofs.Laws.Gotos.{length-gone}
-use Rattle.model.proofs.Laws.Passes.{Passed, passed_none, passed_more}
+use Rattle.model.proofs.Laws.Passes.{Passed, passed_more}
 use Rattle.model.proofs.Laws.States.{child_of}
 use Rattle.model.proofs.Laws.Paths.{path_root, path_child, path_above}
 use Rattle.model.proofs.Exact.Records.{register_iff}
@@ -36,7 +36,7 @@ use Rattle.design.specs.Describes.{Describes}
 use Rattle.design.specs.Kept.{StatesKept, ParametersKept, RecordsKept}
 use Rattle.design.proofs.Laws.{labels_count, registers_count, registers_most, states_count, register_in_lem, state_in_lem}
 use Rattle.design.proofs.ResetRules.{parent_lower}
-use Rattle.machine.specs.Bindings.{ArgumentsFit, Bound, Pointed, Gone, Packed, TargetsSound, may_bind}
+use Rattle.machine.specs.Bindings.{ArgumentsFit, Bound, Pointed, TargetsSound, may_bind}
 
 -- ---- a goto
 module _ (n t a b : ℕ) (area : List ℕ) where
@@ -122,53 +122,6 @@ pointed {image} {x} d t old {front} long e =
       bindings = rw (← count) (drop_at front (drop x.states old) x.states same);
       long = length_front old front x.states (same ∙ sym (length-take-le x.states old most));
     }
-
-pub gone_long : {d : Table} {t : ℕ} (n : ℕ) {before after : List ℕ} → Pointed d t before after → length before ≡ 3 * n → length after ≡ 3 * n
-gone_long n p e = p.long ∙ e
-
-pub gone_whole : {d : Table} {t a b : ℕ} {before between after : List ℕ} → Pointed d t before between → Bound d t a b between after → Gone d t a b before after
-gone_whole {d} {t} {a} {b} p q =
-    record {
-      targets = q.targets ∙ p.targets;
-      bindings = q.bindings ∙ ap (bound_by d t a b) p.bindings;
-      long = q.long ∙ p.long;
-    }
-
--- ---- the registers bound, in one number
-module _ (scopes : List ℕ) (states : ℕ) (area : List ℕ) (s : ℕ) where
-  pub packs_none : get_or scopes (3 * s) 0 ≡ 0 → Packed scopes states area s 0
-  packs_none e =
-      record {
-        first = rw (le-ltb 0 (get_or scopes (3 * s) 0) (omega arith)) refl;
-        second = rw (le-ltb 1 (get_or scopes (3 * s) 0) (omega arith)) refl;
-      }
-
-  pub packs_one : {v r : ℕ} → get_or scopes (3 * s) 0 ≡ 1 → v ≡ get_or scopes (3 * s + 1) 0 → r ≡ get_or area (states + v) 0 → r < 256 → Packed scopes states area s r
-  packs_one {v} {r} e f g small =
-      let low : r % 256 ≡ r = omega arith in
-      let none : r / 256 ≡ 0 = omega arith in
-      record {
-        first = rw (lt-ltb 0 (get_or scopes (3 * s) 0) (omega arith), ← f) (low ∙ g);
-        second = rw (le-ltb 1 (get_or scopes (3 * s) 0) (omega arith)) none;
-      }
-
-  pub packs_two :
-      {v w r q : ℕ}
-      → (get_or scopes (3 * s) 0 ≡ 0 → ⊥)
-      → (get_or scopes (3 * s) 0 ≡ 1 → ⊥)
-      → v ≡ get_or scopes (3 * s + 1) 0
-      → r ≡ get_or area (states + v) 0
-      → r < 256
-      → w ≡ get_or scopes (3 * s + 2) 0
-      → q ≡ get_or area (states + w) 0
-      → Packed scopes states area s (r + 256 * q)
-  packs_two {v} {w} {r} {q} z o f g small h k =
-      let low : (r + 256 * q) % 256 ≡ r = omega arith in
-      let high : (r + 256 * q) / 256 ≡ q = omega arith in
-      record {
-        first = rw (lt-ltb 0 (get_or scopes (3 * s) 0) (omega (arith, z)), ← f) (low ∙ g);
-        second = rw (lt-ltb 1 (get_or scopes (3 * s) 0) (omega (arith, z, o)), ← h) (high ∙ k);
-      }
 
 -- ---- labels
 module _ {image : List ℕ} {x : Design} (known : RecordsKept image x) where
@@ -317,12 +270,6 @@ module _ {image : List ℕ} {x : Design} (d : Describes image x) (area : List �
     kept_off e = rw (sym path ∙ ne_eqb s next e, ← (byte_is (2 * s) h k), ← (second_byte s i j)) (and_true (f && g))
 
 -- ---- the states along the targets
-pub behind_here : {s next r : ℕ} (area : List ℕ) → s ≡ next → r ≡ get_or area s 0 → r ≡ cond (eqb s next) (get_or area s 0) next
-behind_here {s} {next} area e h = h ∙ sym (cond_true (eqb s next) (get_or area s 0) next (eq-eqb s next e))
-
-pub behind_other : {s next : ℕ} (area : List ℕ) → (s ≡ next → ⊥) → next ≡ cond (eqb s next) (get_or area s 0) next
-behind_other {s} {next} area e = sym (cond_false (eqb s next) (get_or area s 0) next (ne_eqb s next e))
-
 -- the last state along the targets below s, whose target is the next
 pub record LastBelow (d : Table) (targets : List ℕ) (s next : ℕ) : Type 0 where
   pub last : ℕ
@@ -391,9 +338,6 @@ pub record Judged (d : Table) (area : List ℕ) (s next : ℕ) : Type 0 where
   pub passed : Passed (binding_sound d (targets_in d area) (bindings_in d area)) s
   pub path : ((s ≡ 0) × (next ≡ 0)) ⊎ LastBelow d (targets_in d area) s next
 
-pub judged_none : (d : Table) (area : List ℕ) → Judged d area 0 0
-judged_none d area = record { passed = passed_none; path = inl (refl, refl) }
-
 module _ {image : List ℕ} {x : Design} {area : List ℕ} {s next : ℕ} (so : Judged (design_of image) area s next) (known : RecordsKept image x) (sound : TargetsSound (design_of image) area) (l : s < x.states) where
   state_here : s < length (design_of image).states
   state_here = let count = states_count known.describes in omega arith
@@ -404,9 +348,6 @@ module _ {image : List ℕ} {x : Design} {area : List ℕ} {s next : ℕ} (so : 
       go : ((s ≡ 0) × (next ≡ 0)) ⊎ LastBelow (design_of image) (targets_in (design_of image) area) s next → eqb s next ≡ on_path (design_of image) (targets_in (design_of image) area) s
       go (inl (e, f)) = rw (e, f) (sym (path_root (design_of image) (targets_in (design_of image) area)))
       go (inr last) = last_here (design_of image) known.states (targets_in (design_of image) area) sound.sound state_here last
-
-  pub judged_inside : length area ≡ 3 * x.states → s < length area
-  judged_inside long = omega arith
 
   pub judged_more : {b : Bool} {r : ℕ} → b ≡ binding_sound (design_of image) (targets_in (design_of image) area) (bindings_in (design_of image) area) s → not b ≡ false → r ≡ cond (eqb s next) (get_or area s 0) next → Judged (design_of image) area (s + 1) r
   judged_more {b} {r} e h f = record { passed = passed_more so.passed e h; path = inr (go (ℕ_discrete s next) so.path) }
@@ -440,7 +381,5 @@ module _ {image : List ℕ} {x : Design} {area : List ℕ} {s next : ℕ} (so : 
           at_most : (last : LastBelow (design_of image) (targets_in (design_of image) area) s next) (q : ℕ) → q < s + 1 → on_path (design_of image) (targets_in (design_of image) area) q ≡ true → Dec (q ≡ s) → q ≤ last.last
           at_most last q b' on (yes e) = absurd (true_or_false (on_path (design_of image) (targets_in (design_of image) area) s) (rw e at on) (sym here ∙ ne_eqb s next other))
           at_most last q b' on (no e) = last.most q (omega (arith, e)) on
-
-pub ruleset pack_laws = (packs_none, packs_one, packs_two)
 
 pub ruleset own_laws = (own_none, own_one, own_two)

@@ -21,7 +21,6 @@ use Rattle.model.specs.Kinds.{CommandKind, skips, assigns, sequences, falls, goe
 use Rattle.model.specs.Parameters.{scope_of, within_bounds}
 use Rattle.model.specs.Scopes.{name_kept}
 use Rattle.model.specs.Trees.{Expr, constant, register, binary, Cmd, skip, assign, sequence, fall, goto, branch, expr_of_kind, cmd_of_kind, expr_step, expr_of, cmd_step, cmd_of, body_of}
-use Rattle.model.specs.Values.{words_of}
 use Rattle.model.specs.Bindings.{named, expr_with, cmd_with, bound_in, body_with, label_with, bound_sound}
 use Rattle.model.specs.Rules.{RegisterByte, ReadsScoped, Scoped, StructureKeeps, Keeps}
 use Rattle.model.specs.Machine.{Executed, exec}
@@ -40,9 +39,9 @@ use Rattle.design.specs.Records.{state_in}
 use Rattle.design.specs.Describes.{Describes}
 use Rattle.design.specs.Kept.{ParametersKept}
 use Rattle.design.proofs.Laws.{registers_count, registers_most, states_count}
-use Rattle.design.proofs.FieldRules.{body_is, body_below}
+use Rattle.design.proofs.FieldRules.{body_is, body_below, command_at_lem}
 use Rattle.design.proofs.BoundRules.{labels_few, parameter_number}
-use Rattle.machine_commands.specs.Executions.{ReadsFit, CommandFits, Executing, bound_of, executed_as, values_in}
+use Rattle.machine_commands.specs.Executions.{ReadsFit, CommandFits, Performing, bound_of, executed_as, values_in}
 use Rattle.machine.specs.Bindings.{Packable, Packed}
 use Rattle.machine.specs.Cycles.{Entered, Ends}
 
@@ -245,25 +244,26 @@ module _ {image : List ℕ} {x : Design} {scopes registers area : List ℕ} {s :
         rw (all_bound i ∙ mapped (λ v. get_or (bindings_in d area) v 0) (scope_of d s) i l) below
 
     module _ {c : ℕ} (e : c ≡ (state_in image x.states_at s).command) where
-      pub body_executing : Executing image x packed c
+      pub body_performing : Performing image x registers packed c
       unfolding body_of
-      body_executing =
+      body_performing =
           let d = design_of image in
           let count = registers_count here.known.describes in
           let most = registers_most here.known.describes in
           let structure = here.keeps.design.structure in
           record {
             known = here.known;
-            node = body_below here.known.describes here.state e here.known.states;
+            command = command_at_lem here.known.describes here.known.commands (body_below here.known.describes here.state e here.known.states) refl;
             fits = rw (body_is here.known.describes here.state e) (cmd_fits d s (bound_of packed) structure (omega arith) bound_exists (state_at d s).command (structure.scoped s state_is));
+            area = here.area;
           }
 
-      pub body_rule : (before after : List ℕ) {o : Outcome} → executed_as (words_of x.registers after) o ≡ exec (design_of image).registers (words_of x.registers before) (cmd_with (bound_of packed) (cmd_of (design_of image) c))
+      pub body_rule : (before after : List ℕ) {o : Outcome} → executed_as (values_in (design_of image) after) o ≡ exec (design_of image).registers (values_in (design_of image) before) (cmd_with (bound_of packed) (cmd_of (design_of image) c))
           → executed_as (values_in (design_of image) after) o ≡ exec (design_of image).registers (values_in (design_of image) before) (body_with (design_of image) (bindings_in (design_of image) area) s)
       unfolding body_of body_with
       body_rule before after h =
           let same = cmd_same (bound_of packed) (bound_in (design_of image) (bindings_in (design_of image) area) s) all_bound (cmd_of (design_of image) c) in
-          rw (← registers_count here.known.describes, ← body_is here.known.describes here.state e, ← same) h
+          rw (← body_is here.known.describes here.state e, ← same) h
 
 -- ---- how a body ends
 module _ {image : List ℕ} {x : Design} {scopes registers area : List ℕ} {s : ℕ} (here : Entered image x scopes registers area s) where
@@ -300,5 +300,5 @@ module _ {image : List ℕ} {x : Design} {scopes registers area : List ℕ} {s :
 
   -- from what the execution tells
   module _ {packed c : ℕ} (p : Packed scopes x.states area s packed) (e : c ≡ (state_in image x.states_at s).command) where
-    pub body_tells : (before after : List ℕ) {o : Outcome} → executed_as (words_of x.registers after) o ≡ exec (design_of image).registers (words_of x.registers before) (cmd_with (bound_of packed) (cmd_of (design_of image) c)) → Ends image x o
+    pub body_tells : (before after : List ℕ) {o : Outcome} → executed_as (values_in (design_of image) after) o ≡ exec (design_of image).registers (values_in (design_of image) before) (cmd_with (bound_of packed) (cmd_of (design_of image) c)) → Ends image x o
     body_tells before after h = body_ends before after (body_rule here p e before after h)

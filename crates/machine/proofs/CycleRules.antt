@@ -23,10 +23,10 @@ use Rattle.model.proofs.Independence.Relation.{Good}
 use Rattle.model.proofs.Independence.Path.{Live, live_sound, target_live, root_live, run_good}
 use Rattle.design.specs.declared.Design.{Design}
 use Rattle.design.proofs.Laws.{states_count}
-use Rattle.design.proofs.ResetRules.{states_few, state_fits}
+use Rattle.design.proofs.ResetRules.{states_few}
 use Rattle.machine_commands.specs.Executions.{executed_as, values_in}
-use Rattle.machine.specs.Bindings.{ArgumentsFit, Gone}
-use Rattle.machine.specs.Cycles.{Running, Entered, Ends, Cycled, areas_in, overwritten}
+use Rattle.machine.specs.Bindings.{Gone}
+use Rattle.machine.specs.Cycles.{Running, Entered, Cycled, areas_in, overwritten}
 use Rattle.machine.proofs.BodyRules.{accepted}
 
 -- ---- the walk as it is written
@@ -227,12 +227,6 @@ module _ {image : List ℕ} {x : Design} {table scopes registers₀ area₀ walk
   pub cycling_state : s < x.states
   cycling_state = let count = count_are in let state = c.so.state in omega arith
 
-  pub cycling_fits : s < 256
-  cycling_fits = state_fits c.running.known.describes cycling_state
-
-  pub cycling_inside : n < x.states → n < length walk
-  cycling_inside l = let long = c.long in let before = c.before in omega arith
-
   pub cycling_size : length area ≡ 3 * x.states
   cycling_size = rw c.same c.running.states
 
@@ -305,19 +299,15 @@ module _ {image : List ℕ} {x : Design} {table scopes registers₀ area₀ walk
           long = length-set walk n s ∙ c.long;
         }
 
-  pub cycling_full : x.states ≤ n → Cycled (cycle (design_of image) (areas_in (design_of image) registers₀ area₀)) (areas_in (design_of image) registers area) walk₀ walk n
-  cycling_full l = cycle_full c.so (let count = count_are in omega arith)
+  pub cycling_full : x.states ≤ n → Cycled (cycle (design_of image) (areas_in (design_of image) registers₀ area₀)) (areas_in (design_of image) registers area) walk₀ walk x.states
+  cycling_full l =
+      let count = count_are in
+      let bodies = c.so.bodies in
+      let all : n ≡ x.states = omega arith in
+      rw (← all) (cycle_full c.so (omega arith))
 
   pub full_running : x.states ≤ n → Running image x table scopes registers area
   full_running l = running_again c.running (cycling_full l) c.registers_long cycling_area
-
--- ---- a goto
-pub named_state : {image : List ℕ} {x : Design} {o : Outcome} {e : Ending} {t a b : ℕ} → Ends image x o → o ≡ Transferred e → e ≡ Goto t a b → t < x.states
-named_state {t = t} {a = a} {b = b} ends h k = ends.state t a b (h ∙ ap Transferred k)
-
--- what the body told stands first, so that it can be given: `search` does not come to it
-pub arguments_fit : {image : List ℕ} {x : Design} {o : Outcome} → Ends image x o → (e : Ending) (t a b : ℕ) → o ≡ Transferred e → e ≡ Goto t a b → ArgumentsFit image x t a b
-arguments_fit ends e t a b h k = ends.arguments t a b (h ∙ ap Transferred k)
 
 -- ---- so many cycles
 -- i cycles ran, and the others go on from here
@@ -373,12 +363,6 @@ pub run_begins : {image : List ℕ} {x : Design} {table scopes registers area wa
 run_begins count running long = record { ran = ran_begins count running; walk_long = long }
 
 module _ {image : List ℕ} {x : Design} {count i : ℕ} {table scopes registers₀ area₀ registers area walk : List ℕ} (so : RunSo image x table scopes count registers₀ area₀ i registers area walk) where
-  pub run_walk : 64 ≡ length walk
-  run_walk = sym so.walk_long
-
-  pub run_fits : i < count → Fits w32 count → Fits w32 (i + 1)
-  run_fits = ran_fits so.ran
-
   pub run_room : x.states ≤ length walk
   run_room = let few = states_few so.ran.running.known.describes in let long = so.walk_long in omega arith
 

@@ -1,4 +1,5 @@
 -- Where no state has a parameter and every byte of the bindings is 0, each state's bindings are sound: 0 is sound, and there are no parameters to bind.
+use Rattle.std.specs.Prelude.{None}
 use Prim.Native.Nat.{ℕ, ◌+◌, ◌*◌, ◌<◌}
 use mathlib.Core.Path.{◌≡◌, refl, sym, ◌∙◌, ap}
 use mathlib.Core.Bool.{Bool, true, false, ◌&&◌}
@@ -8,7 +9,6 @@ use lib.Dec.{eqb}
 use lib.ListN.{length, get_or}
 use lib.Seq.{get_or-drop}
 use borrow.Author.Tests.{eqb-true}
-use Rattle.model.specs.declared.Found.TheVariants.{Nowhere}
 use Rattle.model.specs.Indices.{tabulate_from, all_below, lowest_failing}
 use Rattle.model.specs.Image.{Design as Table, State, design_of, state_at}
 use Rattle.model.specs.Lattice.{implies}
@@ -73,7 +73,7 @@ module _ (d : Table) (area : List ℕ) (s : ℕ) (free : is_free d area s ≡ tr
       anyway false = refl
 
 pub free_nowhere : (d : Table) (area : List ℕ) {b : Bool} → b ≡ all_below (is_free d area) (length d.states) → b ≡ true
-    → Nowhere ≡ lowest_failing (binding_sound d (targets_in d area) (bindings_in d area)) (length d.states)
+    → None ≡ lowest_failing (binding_sound d (targets_in d area) (bindings_in d area)) (length d.states)
 free_nowhere d area e h =
     let n = length d.states in
     sym (failing_nowhere (binding_sound d (targets_in d area) (bindings_in d area)) n (λ s l. free_sound d area s (all_at (is_free d area) n (sym e ∙ h) s l)))

@@ -4,3 +4,4 @@ pub mod BindingRules
 pub mod FreeRules
 pub mod BodyRules
 pub mod CycleRules
+pub mod TableRules

@@ -11,7 +11,7 @@ use native.Mathlib.Decide.{dec_lt, ℕ_discrete}
 use lib.Dec.{eqb}
 use lib.ListN.{length, get_or, set, replicate, length-set, length-replicate, get_or-replicate}
 use lib.Seq.{get_or-set_same, get_or-set_other}
-use borrow.Author.Tests.{eq-eqb, ne_eqb}
+use borrow.Author.Tests.{ne_eqb}
 use Rattle.model.specs.Image.{Design as Table, design_of}
 use Rattle.model.specs.States.{parent, is_child, has_child, default_target, within}
 use Rattle.model.specs.Machine.{target_sound, cleared, gone_to}
@@ -83,12 +83,6 @@ module _ {image table : List ℕ} {x : Design} (d : Describes image x) (t : Defa
         rw (b, p, not_alone (design_of image) s (λ same. other (default_is l e ∙ same))) (sym (or_false (is_child (design_of image) s (get_or targets s 0))))
 
 -- ---- clearing
-pub chosen_unmarked : {mark : ℕ} (marked unmarked : ℕ) → mark ≡ 0 → unmarked ≡ cond (eqb mark 0) unmarked marked
-chosen_unmarked {mark} marked unmarked e = sym (cond_true (eqb mark 0) unmarked marked (eq-eqb mark 0 e))
-
-pub chosen_marked : {mark : ℕ} (marked unmarked : ℕ) → (mark ≡ 0 → ⊥) → marked ≡ cond (eqb mark 0) unmarked marked
-chosen_marked {mark} marked unmarked e = sym (cond_false (eqb mark 0) unmarked marked (ne_eqb mark 0 e))
-
 -- by a mark that is 1 where b holds
 chosen_by : {mark : ℕ} (b : Bool) (marked unmarked : ℕ) → mark ≡ cond b 1 0 → cond (eqb mark 0) unmarked marked ≡ cond b marked unmarked
 chosen_by true marked unmarked e = rw e
@@ -150,15 +144,6 @@ clear_begins {image} {table} {first} {marks} {x} {t} old d kept defaults e l m f
     }
 
 module _ {d : Table} {n t s : ℕ} {table first marks now : List ℕ} (c : ClearedSo d n table t first s marks now) where
-  pub clear_entry : s < n → s < length table
-  clear_entry l = let count = c.with.count in let long = c.with.defaults.long in omega arith
-
-  pub clear_inside : s < n → s < length now
-  clear_inside l = let long = c.so.long in let size = c.size in omega arith
-
-  pub clear_long : (old : List ℕ) → length old ≡ n → length now ≡ length old
-  clear_long old e = c.so.long ∙ c.size ∙ sym e
-
   -- the old entry of t does not count
   pub clear_all : (old : List ℕ) → length old ≡ n → first ≡ set old t (get_or table t 0) → n ≤ s → now ≡ cleared d t old
   unfolding cleared
@@ -235,6 +220,3 @@ module _ {image : List ℕ} {x : Design} (d : Describes image x) (t : ℕ) (old 
   pub gone_rule : {p : ℕ} → t < x.states → p ≡ (state_in image x.states_at t).parent → set now p t ≡ gone_to (design_of image) t old
   unfolding gone_to
   gone_rule l q = rw (e, parent_is d l q)
-
-  pub gone_long : (p : ℕ) → length (set now p t) ≡ length old
-  gone_long p = length-set now p t ∙ ap length e ∙ length-cleared (design_of image) t old

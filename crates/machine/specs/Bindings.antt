@@ -9,12 +9,16 @@ use Rattle.model.specs.Bindings.{bound_by}
 use Rattle.model.specs.Machine.{target_sound, gone_to}
 use Rattle.model.specs.Calls.{targets_in, bindings_in}
 use Rattle.design.specs.declared.Design.{Design}
+use Rattle.design.specs.declared.image.Image.{Image}
 use Rattle.design.specs.Scopes.{scope_length}
 
 -- the arguments that a goto to t binds are registers
 pub record ArgumentsFit (image : List ℕ) (x : Design) (t a b : ℕ) : Type 0 where
   pub first : 0 < (state_at (design_of image) t).parameters → a < x.registers
   pub second : 1 < (state_at (design_of image) t).parameters → b < x.registers
+
+abbrev pub ArgumentsFitIn : Image → ℕ → ℕ → ℕ → Type 0
+ArgumentsFitIn image t a b = ArgumentsFit image.bytes.now image.design t a b
 
 -- the area of the targets as a goto to t binds its arguments, and as it goes to t
 pub record Bound (d : Table) (t a b : ℕ) (before after : List ℕ) : Type 0 where

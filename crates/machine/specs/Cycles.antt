@@ -12,10 +12,12 @@ use Rattle.model.specs.Bindings.{bound_sound, binding_sound}
 use Rattle.model.specs.Machine.{Areas, Cycle, target_sound}
 use Rattle.model.specs.Calls.{targets_in, bindings_in}
 use Rattle.design.specs.declared.Design.{Design}
+use Rattle.design.specs.declared.image.Image.{Image}
 use Rattle.design.specs.Resets.{Defaults}
 use Rattle.design.specs.Scopes.{Scopes}
 use Rattle.design.specs.Kept.{RecordsKept}
 use Rattle.machine_commands.specs.Executions.{values_in}
+use Rattle.machine.specs.declared.tables.Tables.{Tables}
 use Rattle.machine.specs.Bindings.{ArgumentsFit}
 
 -- the image keeps the rules, tables have the default targets and the parameters in scope, the areas have their lengths, and values, targets and bindings are sound
@@ -44,6 +46,20 @@ pub record Entered (image : List ℕ) (x : Design) (in_scope registers targets :
 pub record Ends (image : List ℕ) (x : Design) (o : Outcome) : Type 0 where
   pub state : (t a b : ℕ) → o ≡ Transferred (Goto t a b) → t < x.states
   pub arguments : (t a b : ℕ) → o ≡ Transferred (Goto t a b) → ArgumentsFit image x t a b
+
+-- ---- the same, of an `Image`
+-- the tables are those of the image
+abbrev pub TablesIn : Image → Tables → Type 0
+TablesIn image tables = Defaults (design_of image.bytes.now) tables.defaults × Scopes (design_of image.bytes.now) tables.scopes
+
+abbrev pub RunningIn : Image → Tables → List ℕ → List ℕ → Type 0
+RunningIn image tables registers targets = Running image.bytes.now image.design tables.defaults tables.scopes registers targets
+
+abbrev pub EnteredIn : Image → List ℕ → List ℕ → List ℕ → ℕ → Type 0
+EnteredIn image in_scope registers targets s = Entered image.bytes.now image.design in_scope registers targets s
+
+abbrev pub EndsIn : Image → Outcome → Type 0
+EndsIn image o = Ends image.bytes.now image.design o
 
 -- the values of both areas
 abbrev pub areas_in : Table → List ℕ → List ℕ → Areas

@@ -1,36 +1,86 @@
--- The signed operations on the numbers as they are, in the forms in which the code has them.
-use Rattle.std.proofs.Common.{◌≡◌, ℕ, ◌-◌, ◌/◌, ◌%◌, ◌^◌, ◌<◌, ◌≤◌, nat_abs, sym, ◌∙◌, div-le_self, arith}
-use Rattle.model.specs.Signed.{signed_value, divided_signed}
-use Rattle.model.proofs.Laws.Signed.{shifted_low, shifted_high, magnitude_low, magnitude_high, magnitude_some, divided_by_zero, divided_low_low, divided_low_high, divided_high_low, divided_high_high}
+-- The signed operations: the library's integers of 32 bits are those of the definitions.
+use Rattle.std.proofs.Common.{◌≡◌, ℕ, zero, suc, ◌-◌, ◌/◌, ◌%◌, ◌^◌, ◌<◌, ◌≤◌, ℤ, pos, negsuc, neg_ℤ, nat_abs, refl, sym, ap, ◌∙◌, div-le_self, arith, to_z, of_z, w32, inl, inr}
+use Rattle.std.specs.Int.Signed.{lt_z, quot_z, shr_z}
+use Rattle.std.proofs.lemmas.Int.{of_z-to_z, to_z_pos}
+use borrow.Author.Tests.{le-ltb}
+use Rattle.model.specs.Signed.{signed_value, word_of, below_signed, shifted_right, divided_signed}
+use Rattle.model.proofs.Laws.Signed.{signed_low, signed_high, word_pos, word_negsuc, halves, magnitude_low, magnitude_high, divided}
 
--- ---- shift
--- what is shifted out leaves no more than there was
-pub complement_fits : (x m : ℕ) → (2 ^ 32 - 1 - x) / m ≤ 2 ^ 32 - 1
-complement_fits x m = let less : (2 ^ 32 - 1 - x) / m ≤ 2 ^ 32 - 1 - x = div-le_self (2 ^ 32 - 1 - x) m in omega arith
+signed_is : (x : ℕ) → x < 2 ^ 32 → to_z w32 x ≡ signed_value x
+signed_is x u =
+    elim (halves x) [
+      | inl l ↦ to_z_pos w32 x l ∙ sym (signed_low x l)
+      | inr l ↦
+          let distance : 2 ^ 32 - suc x ≡ 2 ^ 32 - 1 - x = omega arith in
+          rw (le-ltb x (2 ^ 31) l) (ap negsuc distance) ∙ sym (signed_high x l u)
+    ]
 
-pub ruleset shift_laws = (complement_fits, shifted_low, shifted_high)
+magnitude_most : (x : ℕ) → x < 2 ^ 32 → nat_abs (signed_value x) < 2 ^ 32
+magnitude_most x u =
+    elim (halves x) [
+      | inl l ↦ let m = magnitude_low x l in omega arith
+      | inr l ↦ let m = magnitude_high x l u in omega arith
+    ]
 
--- ---- division, by what the calls for the magnitudes ensure
-module _ (x y : ℕ) where
-  pub magnitude_complement : {n : ℕ} → 2 ^ 31 ≤ x → n ≡ (2 ^ 32 - x) % 2 ^ 32 → x < 2 ^ 32 → n ≡ nat_abs (signed_value x)
-  magnitude_complement l e u = e ∙ magnitude_high x l u
+word_is : (z : ℤ) → nat_abs z < 2 ^ 32 → of_z w32 z ≡ word_of z
+word_is (pos n) l = sym (word_pos n)
+word_is (negsuc n) l =
+    let distance : 2 ^ 32 - suc n ≡ 2 ^ 32 - 1 - n = omega arith in
+    distance ∙ sym (word_negsuc n (omega arith))
 
-  pub divisor_some : {b : ℕ} → b ≡ nat_abs (signed_value y) → (y ≡ 0 → ⊥) → y < 2 ^ 32 → 0 < b
-  divisor_some {b} e other v = let some : (b ≡ 0 → ⊥) = (λ z. magnitude_some y v other (sym e ∙ z)) in omega arith
+word_few : (z : ℤ) → nat_abs z < 2 ^ 32 → of_z w32 z < 2 ^ 32
+word_few (pos n) l = l
+word_few (negsuc n) l = let some : 2 ^ 32 - suc n < 2 ^ 32 = omega arith in some
 
-  module _ {a b : ℕ} (p : a ≡ nat_abs (signed_value x)) (q : b ≡ nat_abs (signed_value y)) (other : y ≡ 0 → ⊥) (u : x < 2 ^ 32) (v : y < 2 ^ 32) where
-    pub divides_low_low : x < 2 ^ 31 → y < 2 ^ 31 → a / b ≡ divided_signed x y
-    divides_low_low l m = rw (p, q) (divided_low_low x y other u v l m)
+abs_negated : (n : ℕ) → nat_abs (neg_ℤ (pos n)) ≡ n
+abs_negated zero = refl
+abs_negated (suc n) = refl
 
-    pub divides_high_high : 2 ^ 31 ≤ x → 2 ^ 31 ≤ y → a / b ≡ divided_signed x y
-    divides_high_high l m = rw (p, q) (divided_high_high x y other u v l m)
+quotient_abs : (a b : ℤ) → nat_abs (quot_z a b) ≡ nat_abs a / nat_abs b
+quotient_abs (pos a) (pos b) = refl
+quotient_abs (pos a) (negsuc b) = abs_negated (a / suc b)
+quotient_abs (negsuc a) (pos b) = abs_negated (suc a / b)
+quotient_abs (negsuc a) (negsuc b) = refl
 
-    pub divides_low_high : {n : ℕ} → n ≡ (2 ^ 32 - a / b) % 2 ^ 32 → x < 2 ^ 31 → 2 ^ 31 ≤ y → n ≡ divided_signed x y
-    divides_low_high e l m = e ∙ rw (p, q) (divided_low_high x y other u v l m)
+quotient_few : (a b : ℤ) → nat_abs a < 2 ^ 32 → nat_abs (quot_z a b) < 2 ^ 32
+quotient_few a b l =
+    let same = quotient_abs a b in
+    let less : nat_abs a / nat_abs b ≤ nat_abs a = div-le_self (nat_abs a) (nat_abs b) in
+    omega arith
 
-    pub divides_high_low : {n : ℕ} → n ≡ (2 ^ 32 - a / b) % 2 ^ 32 → 2 ^ 31 ≤ x → y < 2 ^ 31 → n ≡ divided_signed x y
-    divides_high_low e l m = e ∙ rw (p, q) (divided_high_low x y other u v l m)
+shifted_few : (z : ℤ) (m : ℕ) → nat_abs z < 2 ^ 32 → nat_abs (shr_z z m) < 2 ^ 32
+shifted_few (pos n) m l = let less : n / m ≤ n = div-le_self n m in omega arith
+shifted_few (negsuc n) m l = let less : n / m ≤ n = div-le_self n m in omega arith
 
-pub ruleset magnitude_laws = (magnitude_low, magnitude_complement)
+-- an integer that goes there and back
+there_and_back : (z : ℤ) → nat_abs z < 2 ^ 32 → of_z w32 (to_z w32 (of_z w32 z)) ≡ word_of z
+there_and_back z l = of_z-to_z w32 (of_z w32 z) (word_few z l) ∙ word_is z l
 
-pub ruleset divide_laws = (divided_by_zero, divisor_some, divides_low_low, divides_high_high, divides_low_high, divides_high_low)
+same_signed : (x : ℕ) → x < 2 ^ 32 → {a : ℤ} → a ≡ to_z w32 x → to_z w32 (of_z w32 a) ≡ signed_value x
+same_signed x u p = ap (λ (z : ℤ). to_z w32 (of_z w32 z)) p ∙ ap (to_z w32) (of_z-to_z w32 x u) ∙ signed_is x u
+
+module _ (x y : ℕ) (u : x < 2 ^ 32) {a : ℤ} (p : a ≡ to_z w32 x) where
+  pub below_lem : y < 2 ^ 32 → {b : ℤ} → b ≡ to_z w32 y → lt_z (to_z w32 (of_z w32 a)) (to_z w32 (of_z w32 b)) ≡ below_signed x y
+  unfolding below_signed
+  below_lem v {b} q =
+      ap (λ (z : ℤ). lt_z z (to_z w32 (of_z w32 b))) (same_signed x u p) ∙ ap (lt_z (signed_value x)) (same_signed y v q)
+
+  pub shifted_lem : {r : ℕ} → r ≡ of_z w32 (to_z w32 (of_z w32 (shr_z (to_z w32 (of_z w32 a)) (2 ^ (y % 32))))) → r ≡ shifted_right x y
+  unfolding shifted_right
+  shifted_lem e =
+      e
+      ∙ ap (λ (z : ℤ). of_z w32 (to_z w32 (of_z w32 (shr_z z (2 ^ (y % 32)))))) (same_signed x u p)
+      ∙ there_and_back (shr_z (signed_value x) (2 ^ (y % 32))) (shifted_few (signed_value x) (2 ^ (y % 32)) (magnitude_most x u))
+
+  pub divided_lem : (y ≡ 0 → ⊥) → y < 2 ^ 32 → {b q : ℤ} {r : ℕ} → b ≡ to_z w32 y → q ≡ to_z w32 (of_z w32 (quot_z (to_z w32 (of_z w32 a)) (to_z w32 (of_z w32 b)))) → r ≡ of_z w32 (to_z w32 (of_z w32 q)) → r ≡ divided_signed x y
+  divided_lem other v {b} s f e =
+      let signs : quot_z (to_z w32 (of_z w32 a)) (to_z w32 (of_z w32 b)) ≡ quot_z (signed_value x) (signed_value y) =
+      ap (λ (z : ℤ). quot_z z (to_z w32 (of_z w32 b))) (same_signed x u p) ∙ ap (quot_z (signed_value x)) (same_signed y v s) in
+      let few = quotient_few (signed_value x) (signed_value y) (magnitude_most x u) in
+      let n = of_z w32 (quot_z (signed_value x) (signed_value y)) in
+      let small : n < 2 ^ 32 = word_few (quot_z (signed_value x) (signed_value y)) few in
+      e
+      ∙ ap (λ (z : ℤ). of_z w32 (to_z w32 (of_z w32 z))) (f ∙ ap (λ (z : ℤ). to_z w32 (of_z w32 z)) signs)
+      ∙ ap (λ (k : ℕ). of_z w32 (to_z w32 k)) (of_z-to_z w32 n small)
+      ∙ there_and_back (quot_z (signed_value x) (signed_value y)) few
+      ∙ sym (divided x y other u v)

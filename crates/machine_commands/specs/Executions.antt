@@ -8,6 +8,7 @@ use Rattle.model.specs.Values.{words_of}
 use Rattle.model.specs.Bindings.{named}
 use Rattle.model.specs.Machine.{Executed}
 use Rattle.design.specs.declared.Design.{Design}
+use Rattle.design.specs.declared.image.Image.{Image}
 use Rattle.design.specs.Records.{node_in}
 use Rattle.design.specs.RecordsAt.{CommandAt, ExpressionAt}
 use Rattle.design.specs.Kept.{RecordsKept}
@@ -30,34 +31,38 @@ CommandFits d bound (fall n) = Unit {0}
 CommandFits d bound (goto n t a b) = Unit {0}
 CommandFits d bound (branch n e p q) = ReadsFit d bound e × CommandFits d bound p × CommandFits d bound q
 
-pub record Executing (image : List ℕ) (x : Design) (bound n : ℕ) : Type 0 where
+-- expression e is evaluated over the registers of an area, and command n runs on them
+pub record Evaluating (image : List ℕ) (x : Design) (registers : List ℕ) (bound e : ℕ) : Type 0 where
   pub known : RecordsKept image x
-  pub node : n < x.commands
-  pub fits : CommandFits (design_of image) (bound_of bound) (cmd_of (design_of image) n)
-
--- the same, where the recursion has the places of a design instead of the design: expression e is evaluated, and command n runs
-pub record Evaluating (image : List ℕ) (at : ℕ) (registers : List ℕ) (bound e : ℕ) : Type 0 where
-  pub design : Design
-  pub known : RecordsKept image design
-  pub expression : ExpressionAt image design at e
+  pub expression : ExpressionAt image x x.expressions_at e
   pub fits : ReadsFit (design_of image) (bound_of bound) (expr_of (design_of image) e)
-  pub area : length registers ≡ word_length * design.registers
+  pub area : length registers ≡ word_length * x.registers
 
-pub record Performing (image : List ℕ) (registers_at commands_at expressions_at : ℕ) (registers : List ℕ) (bound n : ℕ) : Type 0 where
-  pub design : Design
-  pub known : RecordsKept image design
-  pub command : CommandAt image design commands_at n
+pub record Performing (image : List ℕ) (x : Design) (registers : List ℕ) (bound n : ℕ) : Type 0 where
+  pub known : RecordsKept image x
+  pub command : CommandAt image x x.commands_at n
   pub fits : CommandFits (design_of image) (bound_of bound) (cmd_of (design_of image) n)
-  pub registers_begin : registers_at ≡ design.registers_at
-  pub expressions_begin : expressions_at ≡ design.expressions_at
-  pub area : length registers ≡ word_length * design.registers
+  pub area : length registers ≡ word_length * x.registers
 
 -- command n is a fall or a goto
-pub record Transferring (image : List ℕ) (at n : ℕ) : Type 0 where
-  pub design : Design
-  pub command : CommandAt image design at n
-  pub lowest : 3 ≤ (node_in image at n).kind
-  pub highest : (node_in image at n).kind < 5
+pub record Transferring (image : List ℕ) (x : Design) (n : ℕ) : Type 0 where
+  pub command : CommandAt image x x.commands_at n
+  pub lowest : 3 ≤ (node_in image x.commands_at n).kind
+  pub highest : (node_in image x.commands_at n).kind < 5
+
+-- ---- the same, of an `Image`
+abbrev pub EvaluatingIn : Image → List ℕ → ℕ → ℕ → Type 0
+EvaluatingIn image registers bound e = Evaluating image.bytes.now image.design registers bound e
+
+abbrev pub PerformingIn : Image → List ℕ → ℕ → ℕ → Type 0
+PerformingIn image registers bound n = Performing image.bytes.now image.design registers bound n
+
+abbrev pub TransferringIn : Image → ℕ → Type 0
+TransferringIn image n = Transferring image.bytes.now image.design n
+
+-- the kind of an expression
+abbrev pub expression_kind_in : Image → ℕ → ℕ
+expression_kind_in image e = (node_in image.bytes.now image.design.expressions_at e).kind
 
 -- the values of the registers
 abbrev pub values_in : Table → List ℕ → List ℕ

@@ -28,11 +28,8 @@ fn judge_records(trace: &[TraceRecord], begun: Judging) -> Judging
     ensures { result ≡ judged_to trace.now begun (length trace.now) }
 {
     let mut judged = begun;
-    let mut i = 0;
-    while i < trace.len() {
-        let record = record_at(trace, i);
+    for (i, record) in trace.iter().enumerate() {
         judged = judge_record(judged, i, record.cycle, record.register, record.value);
-        i += 1;
     }
     judged
 }
@@ -49,10 +46,10 @@ fn replay_records(
     requires { Judged image.now (lends registers.old targets.old) trace.now prepared judged }
     ensures { left_as result (lends registers.new targets.new) ≡ replay_of image.now (lends registers.old targets.old) trace.now prepared.count }
 {
+    // By number: over `&trace[..kept]` the bound of the slice was tried, and did not close.
     let kept = records_kept(prepared, judged, trace.len());
     let mut done = 0;
-    let mut i = 0;
-    while i < kept {
+    for i in 0..kept {
         let record = record_at(trace, i);
         done = replay_step(
             image,
@@ -64,7 +61,6 @@ fn replay_records(
             record.register,
             record.value,
         );
-        i += 1;
     }
     finish(image, prepared, registers, targets, judged, done)
 }

@@ -1,4 +1,5 @@
 -- How the records of a trace are judged, one by one: each leaves what is known in one of four ways, and what is known of the first i is what the definitions say of them.
+use Rattle.std.specs.Prelude.{Option, Some, None, Err}
 use Prim.Native.Nat.{ℕ, zero, suc, ◌+◌, ◌-◌, ◌≤◌}
 use mathlib.Core.Path.{◌≡◌, refl, sym, ◌∙◌, ap}
 use mathlib.Core.Bool.{Bool, true, false, ◌&&◌, not, cond}
@@ -6,12 +7,9 @@ use mathlib.Core.List.{List}
 use native.Mathlib.Omega.{arith}
 use lib.Dec.{leb, ltb, eqb}
 use lib.ListN.{length, get_or}
-use Rattle.model.specs.declared.Found.{Found}
-use Rattle.model.specs.declared.Found.TheVariants.{At, Nowhere}
 use Rattle.model.specs.declared.Refusal.{Refusal}
 use Rattle.model.specs.declared.Refusal.TheVariants.{TraceCycle}
-use Rattle.model.specs.declared.Answer.{Answer}
-use Rattle.model.specs.declared.Answer.TheVariants.{Accepted, Refused}
+use Rattle.model.specs.Answers.{Answer, Accepted, Refused}
 use Rattle.model.specs.Indices.{or_at, lowest, lowest_failing}
 use Rattle.model.specs.Image.{Design as Table}
 use Rattle.model.specs.Verdict.{◌before◌, refused_at}
@@ -34,30 +32,30 @@ use Rattle.replay_steps.proofs.PortRules.{Ports, port_below, ports_answer, ports
 -- ---- one record
 -- it comes behind one that 23 refuses; 23 refuses it; 13 or 17 refuse it or one before it; or it is kept
 data Step (s : Judging) (i c r v : ℕ) : Judging → Type 0 where
-  behind : {k : ℕ} → s.unordered ≡ At k → Step s i c r v s
-  breaks : s.unordered ≡ Nowhere → (leb s.previous c && ltb c s.count) ≡ false → Step s i c r v (unordered_at s i)
-  refused : {refusal : Refusal} {place : ℕ} → s.unordered ≡ Nowhere → (leb s.previous c && ltb c s.count) ≡ true
+  behind : {k : ℕ} → s.unordered ≡ Some k → Step s i c r v s
+  breaks : s.unordered ≡ None → (leb s.previous c && ltb c s.count) ≡ false → Step s i c r v (unordered_at s i)
+  refused : {refusal : Refusal} {place : ℕ} → s.unordered ≡ None → (leb s.previous c && ltb c s.count) ≡ true
       → (s.answer before port_at s.largest i r v) ≡ Refused refusal place
       → Step s i c r v (answering s c (Refused refusal place))
-  kept : {n : ℕ} → s.unordered ≡ Nowhere → (leb s.previous c && ltb c s.count) ≡ true → (s.answer before port_at s.largest i r v) ≡ Accepted n
+  kept : {n : ℕ} → s.unordered ≡ None → (leb s.previous c && ltb c s.count) ≡ true → (s.answer before port_at s.largest i r v) ≡ Accepted n
       → Step s i c r v (superseding s c r)
 
 step_made : (s : Judging) (i c r v : ℕ) → Step s i c r v (judged_next s i c r v)
 unfolding judged_next judged_port
 step_made s i c r v = go s.unordered refl
   where
-    port : (a : Answer) → (s.answer before port_at s.largest i r v) ≡ a → s.unordered ≡ Nowhere → (leb s.previous c && ltb c s.count) ≡ true → Step s i c r v (judged_as s c r a)
+    port : (a : Answer) → (s.answer before port_at s.largest i r v) ≡ a → s.unordered ≡ None → (leb s.previous c && ltb c s.count) ≡ true → Step s i c r v (judged_as s c r a)
     port (Accepted n) e none order = kept none order e
-    port (Refused refusal place) e none order = refused none order e
+    port (Err why) e none order = refused none order e
 
-    ordered : (b : Bool) → (leb s.previous c && ltb c s.count) ≡ b → s.unordered ≡ Nowhere
+    ordered : (b : Bool) → (leb s.previous c && ltb c s.count) ≡ b → s.unordered ≡ None
         → Step s i c r v (cond b (judged_as s c r (s.answer before port_at s.largest i r v)) (unordered_at s i))
     ordered true e none = port (s.answer before port_at s.largest i r v) refl none e
     ordered false e none = breaks none e
 
-    go : (f : Found) → s.unordered ≡ f → Step s i c r v (judged_in s i c r v f)
-    go (At k) e = behind e
-    go Nowhere e = ordered (leb s.previous c && ltb c s.count) refl e
+    go : (f : Option ℕ) → s.unordered ≡ f → Step s i c r v (judged_in s i c r v f)
+    go (Some k) e = behind e
+    go None e = ordered (leb s.previous c && ltb c s.count) refl e
 
 -- a record supersedes one at most
 step_counts : {s t : Judging} {i c r v : ℕ} → Step s i c r v t → t.superseded ≤ suc s.superseded
@@ -97,9 +95,9 @@ module _ (d : Table) (p : Prepared) (trace : List TraceRecord) where
     count : s.count ≡ p.count
     largest : s.largest ≡ p.largest
     unordered : s.unordered ≡ lowest_failing rule i
-    previous : s.unordered ≡ Nowhere → s.previous ≡ done_before trace i
-    answer : s.unordered ≡ Nowhere → s.answer ≡ ports_answer d trace i
-    tables : Rising p.count 0 trace → i ≤ length trace → s.unordered ≡ Nowhere → s.answer ≡ Accepted 0 → Tables trace i s
+    previous : s.unordered ≡ None → s.previous ≡ done_before trace i
+    answer : s.unordered ≡ None → s.answer ≡ ports_answer d trace i
+    tables : Rising p.count 0 trace → i ≤ length trace → s.unordered ≡ None → s.answer ≡ Accepted 0 → Tables trace i s
 
   known_start : Known 0 (judging_of p)
   unfolding judging_of lowest_failing lowest done_before
@@ -121,19 +119,19 @@ module _ (d : Table) (p : Prepared) (trace : List TraceRecord) where
     abbrev order : Bool
     order = leb s.previous r.cycle && ltb r.cycle s.count
 
-    order_is : s.unordered ≡ Nowhere → order ≡ rule i
+    order_is : s.unordered ≡ None → order ≡ rule i
     order_is none = rw (known.previous none, known.count) (order_rule trace p.count i)
 
     -- 23 so far
-    order_next : (f : Found) (b : Bool) → s.unordered ≡ f → rule i ≡ b → or_at f (not b) i ≡ lowest_failing rule (suc i)
+    order_next : (f : Option ℕ) (b : Bool) → s.unordered ≡ f → rule i ≡ b → or_at f (not b) i ≡ lowest_failing rule (suc i)
     unfolding lowest_failing lowest
     order_next f b found is = rw (← known.unordered, found, is)
 
     -- 13 and 17 so far
-    answer_next : s.unordered ≡ Nowhere → (s.answer before port_at s.largest i r.register r.value) ≡ ports_answer d trace (suc i)
+    answer_next : s.unordered ≡ None → (s.answer before port_at s.largest i r.register r.value) ≡ ports_answer d trace (suc i)
     answer_next none = rw (known.answer none, known.largest) (sym (ports_next d trace ports i))
 
-    accepted_next : {n : ℕ} → s.unordered ≡ Nowhere → (s.answer before port_at s.largest i r.register r.value) ≡ Accepted n → s.answer ≡ ports_answer d trace (suc i)
+    accepted_next : {n : ℕ} → s.unordered ≡ None → (s.answer before port_at s.largest i r.register r.value) ≡ Accepted n → s.answer ≡ ports_answer d trace (suc i)
     accepted_next {n} none e =
         let first = first_accepts s.answer (port_at s.largest i r.register r.value) e in
         let nothing : first.0 ≡ 0 = ports_count_nothing d trace i first.0 (sym (known.answer none) ∙ first.1) in
@@ -146,7 +144,7 @@ module _ (d : Table) (p : Prepared) (trace : List TraceRecord) where
         record {
           count = known.count;
           largest = known.largest;
-          unordered = e ∙ order_next (At k) (rule i) e refl;
+          unordered = e ∙ order_next (Some k) (rule i) e refl;
           previous = λ none. absurd (at_is_not_nowhere k (sym e ∙ none));
           answer = λ none. absurd (at_is_not_nowhere k (sym e ∙ none));
           tables = λ rising l none accepted. absurd (at_is_not_nowhere k (sym e ∙ none));
@@ -155,7 +153,7 @@ module _ (d : Table) (p : Prepared) (trace : List TraceRecord) where
         record {
           count = known.count;
           largest = known.largest;
-          unordered = order_next Nowhere false none (sym (order_is none) ∙ falls);
+          unordered = order_next None false none (sym (order_is none) ∙ falls);
           previous = λ other. absurd (at_is_not_nowhere i other);
           answer = λ other. absurd (at_is_not_nowhere i other);
           tables = λ rising l other accepted. absurd (at_is_not_nowhere i other);
@@ -164,7 +162,7 @@ module _ (d : Table) (p : Prepared) (trace : List TraceRecord) where
         record {
           count = known.count;
           largest = known.largest;
-          unordered = none ∙ order_next Nowhere true none (sym (order_is none) ∙ rises);
+          unordered = none ∙ order_next None true none (sym (order_is none) ∙ rises);
           previous = λ none. refl;
           answer = λ none. sym e ∙ answer_next none;
           tables = λ rising l none accepted. absurd (refused_is_not_accepted refusal place 0 accepted);
@@ -173,7 +171,7 @@ module _ (d : Table) (p : Prepared) (trace : List TraceRecord) where
         record {
           count = known.count;
           largest = known.largest;
-          unordered = none ∙ order_next Nowhere true none (sym (order_is none) ∙ rises);
+          unordered = none ∙ order_next None true none (sym (order_is none) ∙ rises);
           previous = λ none. refl;
           answer = λ none. accepted_next none e;
           tables = λ rising l none accepted. tables_next rising (omega arith) (port_below s.largest i r.register r.value (later_accepts s.answer (port_at s.largest i r.register r.value) e)) (known.tables rising (omega arith) none accepted);
@@ -197,20 +195,20 @@ module _ (d : Table) (p : Prepared) (trace : List TraceRecord) where
         known : Known (length trace) s
         known = known_all (length trace)
 
-        counts : Rising p.count 0 trace → s.unordered ≡ Nowhere → s.answer ≡ Accepted 0 → s.superseded ≡ superseded_in trace
+        counts : Rising p.count 0 trace → s.unordered ≡ None → s.answer ≡ Accepted 0 → s.superseded ≡ superseded_in trace
         counts rising none accepted = counted_all (known.tables rising (omega arith) none accepted).counted (omega arith) refl
 
-        behind_order : (a : Answer) → ports_answer d trace (length trace) ≡ a → Rising p.count 0 trace → s.unordered ≡ Nowhere
+        behind_order : (a : Answer) → ports_answer d trace (length trace) ≡ a → Rising p.count 0 trace → s.unordered ≡ None
             → (a before Accepted s.superseded) ≡ (a before Accepted (superseded_in trace))
-        behind_order (Refused refusal place) e rising none = refl
+        behind_order (Err why) e rising none = refl
         behind_order (Accepted n) e rising none =
             let nothing : n ≡ 0 = ports_count_nothing d trace (length trace) n e in
             ap Accepted (counts rising none (known.answer none ∙ e ∙ ap Accepted nothing))
 
-        go : (f : Found) → lowest_failing rule (length trace) ≡ f
+        go : (f : Option ℕ) → lowest_failing rule (length trace) ≡ f
             → (refused_at TraceCycle s.unordered before s.answer before Accepted s.superseded)
             ≡ (refused_at TraceCycle (lowest_failing rule (length trace)) before ports_answer d trace (length trace) before Accepted (superseded_in trace))
-        go (At k) e = rw (known.unordered, e)
-        go Nowhere e =
+        go (Some k) e = rw (known.unordered, e)
+        go None e =
             let none = known.unordered ∙ e in
             rw (none, e, known.answer none) (behind_order (ports_answer d trace (length trace)) refl (rising_found e) none)

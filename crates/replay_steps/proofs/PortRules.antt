@@ -1,5 +1,6 @@
 -- A record against the table of the ports' largest values. A port has a width of at least 1, so its largest value is not 0; an entry 0 says that there is no port, and a
 -- value is at most the largest exactly where it fits.
+use Rattle.std.specs.Prelude.{Option, Some, None}
 use Prim.Native.Nat.{ℕ, suc, ◌-◌, ◌^◌, ◌≤◌, ◌<◌}
 use mathlib.Core.Path.{◌≡◌, refl, sym, ◌∙◌}
 use mathlib.Core.Logic.{◌⊎◌, inl, inr}
@@ -9,11 +10,8 @@ use native.Mathlib.Omega.{arith}
 use lib.Dec.{leb, ltb}
 use lib.ListN.{length, get_or}
 use lib.Pow.{pow_mono}
-use Rattle.model.specs.declared.Found.{Found}
-use Rattle.model.specs.declared.Found.TheVariants.{At, Nowhere}
 use Rattle.model.specs.declared.Refusal.TheVariants.{NoPort, PortValue}
-use Rattle.model.specs.declared.Answer.{Answer}
-use Rattle.model.specs.declared.Answer.TheVariants.{Accepted, Refused}
+use Rattle.model.specs.Answers.{Answer, Accepted, Refused}
 use Rattle.model.specs.Limits.{registers_max}
 use Rattle.model.specs.Indices.{or_at, lowest, lowest_failing}
 use Rattle.model.specs.Image.{Design as Table, design_of, register_at}
@@ -124,29 +122,29 @@ port_below table i r v {n} e = go (ltb r registers_max && ltb 0 (get_or table r 
 
 -- ---- 13 and 17 of the first records
 module _ (d : Table) (trace : List TraceRecord) where
-  found_counts_nothing : (f : Found) → CountsNothing (record_answer d trace f)
+  found_counts_nothing : (f : Option ℕ) → CountsNothing (record_answer d trace f)
   unfolding record_answer
-  found_counts_nothing Nowhere n e = let same : Accepted 0 ≡ Accepted n = e in cc
-  found_counts_nothing (At i) n e = go (register_kept d trace i) e
+  found_counts_nothing None n e = let same : Accepted 0 ≡ Accepted n = e in cc
+  found_counts_nothing (Some i) n e = go (register_kept d trace i) e
     where
       go : (b : Bool) → cond b (Refused PortValue i) (Refused NoPort i) ≡ Accepted n → n ≡ 0
       go true h = absurd (refused_is_not_accepted _ _ _ h)
       go false h = absurd (refused_is_not_accepted _ _ _ h)
 
   -- what was found earlier, else what record i breaks
-  found_next : (i : ℕ) (f : Found) (a b : Bool) → register_kept d trace i ≡ a
+  found_next : (i : ℕ) (f : Option ℕ) (a b : Bool) → register_kept d trace i ≡ a
       → record_answer d trace (or_at f (not (a && b)) i) ≡ (record_answer d trace f before cond a (cond b (Accepted 0) (Refused PortValue i)) (Refused NoPort i))
   unfolding record_answer ◌before◌
-  found_next i (At k) a b e = go (register_kept d trace k)
+  found_next i (Some k) a b e = go (register_kept d trace k)
     where
       go : (w : Bool)
           → cond w (Refused PortValue k) (Refused NoPort k)
           ≡ (cond w (Refused PortValue k) (Refused NoPort k) before cond a (cond b (Accepted 0) (Refused PortValue i)) (Refused NoPort i))
       go true = refl
       go false = refl
-  found_next i Nowhere true true e = refl
-  found_next i Nowhere true false e = rw e
-  found_next i Nowhere false b e = rw e
+  found_next i None true true e = refl
+  found_next i None true false e = rw e
+  found_next i None false b e = rw e
 
   -- of the first i
   unfoldable pub ports_answer : ℕ → Answer

@@ -1,4 +1,5 @@
 -- What is prepared before the trace: the largest values of the ports, one by one, and what a replay answers at each thing that it judges first.
+use Rattle.std.specs.Prelude.{Err}
 use Prim.Native.Nat.{ℕ, ◌*◌, ◌-◌, ◌%◌, ◌^◌, ◌≤◌, ◌<◌}
 use mathlib.Core.Path.{◌≡◌, refl, sym, ◌∙◌, ap}
 use mathlib.Core.Bool.{Bool, true, false, not, cond}
@@ -12,9 +13,9 @@ use borrow.Author.Tests.{eq-eqb, ne_eqb, lt-ltb, le-ltb}
 use mir.Syntax.{w32}
 use mir.Val.{Fits}
 use Rattle.model.specs.declared.Refusal.{Refusal}
+use Rattle.model.specs.declared.RefusedAt.{RefusedAt}
 use Rattle.model.specs.declared.Refusal.TheVariants.{Area, CycleCount}
-use Rattle.model.specs.declared.Answer.{Answer}
-use Rattle.model.specs.declared.Answer.TheVariants.{Accepted, Refused}
+use Rattle.model.specs.Answers.{Answer, Accepted, Refused}
 use Rattle.model.specs.Indices.{filled_to}
 use Rattle.model.specs.Limits.{registers_max, cycles_max, width_max}
 use Rattle.model.specs.Image.{Design as Table, design_of}
@@ -29,10 +30,11 @@ use Rattle.design.specs.Describes.{Describes}
 use Rattle.design.specs.Kept.{RecordsKept}
 use Rattle.design.specs.Resets.{with_defaults, Filled, lends}
 use Rattle.design.specs.Scopes.{with_scopes}
-use Rattle.design.proofs.Laws.{registers_count, states_count, registers_few}
+use Rattle.design.proofs.Laws.{registers_count, registers_few}
 use Rattle.design.proofs.ResetRules.{filled_to_lem, filled_whole}
 use Rattle.design.proofs.ShiftRules.{shifted_ones}
 use Rattle.design.proofs.WidthRules.{width_is}
+use Rattle.machine.specs.declared.tables.Tables.{Tables}
 use Rattle.machine.specs.Cycles.{Running}
 use Rattle.running.specs.Stages.{sound_on}
 use Rattle.running.proofs.RunningRules.{sound_before}
@@ -129,37 +131,36 @@ module _ (image registers targets : List ℕ) (n : ℕ) {p : Prepared} where
         ports = λ m h. absurd (refused_not f k n made h);
       }
 
-  pub lengths_refused : p ≡ refused_with Area 0 n → length_answer (design_of image) (lends registers targets) ≡ Refused Area 0 → PreparingOn image (lends registers targets) n p
+  pub lengths_refused : {why : RefusedAt} → why ≡ record { refusal = Area; place = 0 } → p ≡ refused_with why.refusal why.place n → length_answer (design_of image) (lends registers targets) ≡ Refused Area 0 → PreparingOn image (lends registers targets) n p
   unfolding ◌before◌
-  lengths_refused made h = refuses made (rw h)
+  lengths_refused told made h = refuses made (rw h (ap (λ (x : RefusedAt). Refused x.refusal x.place) (sym told)))
 
   module _ {a : Answer} (right : length_answer (design_of image) (lends registers targets) ≡ Accepted 0) (judged : a ≡ sound_on (design_of image) (lends registers targets)) where
-    pub unsound_refused : {f : Refusal} {k : ℕ} → a ≡ Refused f k → p ≡ refused_with f k n → PreparingOn image (lends registers targets) n p
+    pub unsound_refused : {why : RefusedAt} → a ≡ Err why → p ≡ refused_with why.refusal why.place n → PreparingOn image (lends registers targets) n p
     unfolding ◌before◌
     unsound_refused h made = refuses made (rw (right, ← judged, h))
 
     module _ {c : ℕ} (sound : a ≡ Accepted c) {b : Bool} (e : b ≡ leb n cycles_max) where
-      pub count_refused : not b ≡ true → p ≡ refused_with CycleCount 0 n → PreparingOn image (lends registers targets) n p
+      pub count_refused : {why : RefusedAt} → why ≡ record { refusal = CycleCount; place = 0 } → not b ≡ true → p ≡ refused_with why.refusal why.place n → PreparingOn image (lends registers targets) n p
       unfolding ◌before◌ cycles_answer refused_at
-      count_refused h made = refuses made (rw (right, ← judged, sound, ← e, not_true b h))
+      count_refused told h made = refuses made (rw (right, ← judged, sound, ← e, not_true b h) (ap (λ (x : RefusedAt). Refused x.refusal x.place) (sym told)))
 
 -- all is accepted
-module _ {image : List ℕ} {x : Design} (describes : Describes image x) {table in_scope largest : List ℕ} (registers targets : List ℕ) (n : ℕ) where
+module _ {image : List ℕ} {x : Design} (describes : Describes image x) {tables : Tables} {largest : List ℕ} (registers targets : List ℕ) (n : ℕ) where
   pub all_prepared : {a : Answer} {c : ℕ} {b : Bool} → a ≡ sound_on (design_of image) (lends registers targets) → a ≡ Accepted c → length_answer (design_of image) (lends registers targets) ≡ Accepted 0 → b ≡ leb n cycles_max → not b ≡ false
-      → table ≡ with_defaults (design_of image) (replicate {A = ℕ} 64 0)
-      → in_scope ≡ with_scopes (design_of image) x.states (replicate {A = ℕ} 192 0)
+      → tables.defaults ≡ with_defaults (design_of image) (replicate {A = ℕ} 64 0)
+      → tables.scopes ≡ with_scopes (design_of image) (length (design_of image).states) (replicate {A = ℕ} 192 0)
       → largest ≡ filled_to (largest_of (design_of image)) x.registers (replicate {A = ℕ} 64 0)
-      → Running image x table in_scope registers targets
-      → PreparingOn image (lends registers targets) n (record { answer = Accepted n; count = n; design = x; defaults = table; scopes = in_scope; largest = largest })
+      → Running image x tables.defaults tables.scopes registers targets
+      → PreparingOn image (lends registers targets) n (record { answer = Accepted n; count = n; design = x; tables = tables; largest = largest })
   unfolding ◌before◌ cycles_answer refused_at accepted_with
   all_prepared {b = b} judged sound right e h defaults scopes ports running =
       let d = design_of image in
       let accepted : on_accepted d (lends registers targets) n ≡ Accepted n = rw (right, ← judged, sound, ← e, not_false b h) in
       let whole = described describes in
-      let scopes' = scopes ∙ ap (λ (k : ℕ). with_scopes d k (replicate {A = ℕ} 192 0)) (states_count describes) in
       let ports' = ports ∙ ap (λ (k : ℕ). filled_to (largest_of d) k (replicate {A = ℕ} 64 0)) (registers_count describes) in
-      let made : record { answer = Accepted n; count = n; design = x; defaults = table; scopes = in_scope; largest = largest } ≡ accepted_with image n n =
-      λ i. record { answer = Accepted n; count = n; design = whole i; defaults = defaults i; scopes = scopes' i; largest = ports' i }
+      let made : record { answer = Accepted n; count = n; design = x; tables = tables; largest = largest } ≡ accepted_with image n n =
+      λ i. record { answer = Accepted n; count = n; design = whole i; tables = record { defaults = defaults i; scopes = scopes i }; largest = ports' i }
       in
       record {
         is = made ∙ ap (prepared_as image n) (sym accepted);
@@ -171,16 +172,16 @@ module _ {image : List ℕ} {x : Design} (describes : Describes image x) {table 
 
 -- ---- the image first
 module _ (image : List ℕ) {a : Answer} (e : a ≡ verdict image) (lent : Lent) (n : ℕ) {p : Prepared} where
-  pub image_refused : {f : Refusal} {k : ℕ} → a ≡ Refused f k → p ≡ refused_with f k n → Preparing image lent n p
+  pub image_refused : {why : RefusedAt} → a ≡ Err why → p ≡ refused_with why.refusal why.place n → Preparing image lent n p
   unfolding run_answer ◌before◌
-  image_refused {f} {k} h made =
-      let refuses : run_answer image lent n ≡ Refused f k = rw (← e, h) in
+  image_refused {why} h made =
+      let refuses : run_answer image lent n ≡ Err why = rw (← e, h) in
       record {
         is = made ∙ ap (prepared_as image n) (sym refuses);
-        answer = refused_answer f k n made ∙ sym refuses;
-        count = refused_count f k n made;
-        running = λ m g. absurd (refused_not f k n made g);
-        ports = λ m g. absurd (refused_not f k n made g);
+        answer = refused_answer why.refusal why.place n made ∙ sym refuses;
+        count = refused_count why.refusal why.place n made;
+        running = λ m g. absurd (refused_not why.refusal why.place n made g);
+        ports = λ m g. absurd (refused_not why.refusal why.place n made g);
       }
 
   pub image_accepted : {c : ℕ} → a ≡ Accepted c → PreparingOn image lent n p → Preparing image lent n p

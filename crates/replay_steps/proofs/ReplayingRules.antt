@@ -1,12 +1,12 @@
 -- How the records of a trace are applied, one by one, and what the whole leaves. The answer is the replay's; where it accepts, cycles never fall and every record is for a
 -- port that its value fits, so each step can be made; where it refuses, no record is applied.
+use Rattle.std.specs.Prelude.{Err}
 use Prim.Native.Nat.{ℕ, suc, ◌-◌, ◌<◌}
 use mathlib.Core.Path.{◌≡◌, refl, sym, ◌∙◌, ap}
 use mathlib.Core.List.{List}
 use native.Mathlib.Omega.{arith}
 use lib.ListN.{length}
-use Rattle.model.specs.declared.Answer.{Answer}
-use Rattle.model.specs.declared.Answer.TheVariants.{Accepted, Refused}
+use Rattle.model.specs.Answers.{Answer, Accepted}
 use Rattle.model.specs.Image.{design_of}
 use Rattle.model.specs.Verdict.{◌before◌}
 use Rattle.model.specs.Machine.{after_last, after_cycles}
@@ -45,12 +45,12 @@ module _ (p : Prepared) (s : Judging) (records : ℕ) where
     where
       go : (a : Answer) → answer_of p s ≡ a → i < kept_by a records → (k : ℕ) × (answer_of p s ≡ Accepted k)
       go (Accepted k) e l = (k, e)
-      go (Refused refusal place) e l = absurd (omega arith)
+      go (Err why) e l = absurd (omega arith)
 
 -- ---- the answer
 module _ {image : List ℕ} {lent : Lent} {trace : List TraceRecord} {p : Prepared} {s : Judging} (j : Judged image lent trace p s) where
   -- where all before the trace is accepted, cycles can run
-  judged_running : {k : ℕ} → answer_of p s ≡ Accepted k → Running image p.design p.defaults p.scopes lent.registers lent.targets
+  judged_running : {k : ℕ} → answer_of p s ≡ Accepted k → Running image p.design p.tables.defaults p.tables.scopes lent.registers lent.targets
   unfolding answer_of
   judged_running e = let first = first_accepts p.answer (judged_answer s) e in j.prepared.running first.0 first.1
 
@@ -63,7 +63,7 @@ module _ {image : List ℕ} {lent : Lent} {trace : List TraceRecord} {p : Prepar
       behind = trace_answer trace p.count before records_answer (design_of image) trace before Accepted (superseded_in trace)
 
       go : (a : Answer) → p.answer ≡ a → (p.answer before judged_answer s) ≡ (run_answer image lent p.count before behind)
-      go (Refused refusal place) e = rw (← j.prepared.answer, e)
+      go (Err why) e = rw (← j.prepared.answer, e)
       go (Accepted k) e =
           let known = (j.prepared.running k e).known in
           rw (← j.prepared.answer, e, j.judged) (judged_answer_lem (design_of image) p trace (ports_known known (j.prepared.ports k e)))
@@ -115,7 +115,7 @@ module _ {image : List ℕ} {trace : List TraceRecord} {p : Prepared} {s : Judgi
       -- one more
       pub replaying_next : {n : ℕ} {registers' targets' : List ℕ} → n ≡ (record_at trace i).cycle
           → areas_in (design_of image) registers' targets' ≡ stepped (design_of image) ((record_at trace i).cycle - done) (record_at trace i).register (record_at trace i).value (areas_in (design_of image) registers targets)
-          → Running image p.design p.defaults p.scopes registers' targets'
+          → Running image p.design p.tables.defaults p.tables.scopes registers' targets'
           → Replaying image start trace p s (suc i) n registers' targets'
       unfolding done_before replayed_to
       replaying_next at steps running =
@@ -159,7 +159,7 @@ module _ {image : List ℕ} {trace : List TraceRecord} {p : Prepared} {s : Judgi
           made = lent_of (after_cycles (design_of image) (p.count - done) (areas_of (design_of image) (lends registers targets)))
 
           go : (b : Answer) → answer_of p s ≡ b → leaves (answer_of p s) (lends registers targets) made ≡ replay image start trace p.count
-          go (Refused refusal place) e =
+          go (Err why) e =
               let first : i ≡ 0 = last ∙ rw e in
               let same = r.none first in
               rw (← judged_replays r.judged, e, same.0, same.1)

@@ -1,4 +1,5 @@
 -- The step on a record, and the end. A value that fits its port leaves sound areas sound, and is a value of 32 bits, so its word is read back as it was put.
+use Rattle.std.specs.Prelude.{Err}
 use Prim.Native.Nat.{ℕ, ◌+◌, ◌*◌, ◌^◌, ◌≤◌, ◌<◌}
 use mathlib.Core.Path.{◌≡◌, sym, ◌∙◌, ap}
 use mathlib.Core.List.{List}
@@ -6,9 +7,8 @@ use native.Mathlib.Omega.{arith}
 use native.Mathlib.Nat.{lt_of_lt_of_le}
 use lib.ListN.{length, set}
 use lib.Pow.{pow_mono}
-use Rattle.model.specs.declared.Refusal.{Refusal}
-use Rattle.model.specs.declared.Answer.{Answer}
-use Rattle.model.specs.declared.Answer.TheVariants.{Accepted, Refused}
+use Rattle.model.specs.declared.RefusedAt.{RefusedAt}
+use Rattle.model.specs.Answers.{Answer, Accepted}
 use Rattle.model.specs.Image.{AreBytes, design_of}
 use Rattle.model.specs.Values.{words_of}
 use Rattle.model.specs.Machine.{after_cycles}
@@ -27,7 +27,7 @@ use Rattle.replay_steps.specs.Judging.{answer_of}
 use Rattle.replay_steps.specs.Replaying.{stepped, Stepping, Finishing}
 
 -- ---- a step, behind its cycles
-module _ {image : List ℕ} {p : Prepared} {registers₀ targets₀ registers targets : List ℕ} {done c r v : ℕ} (s : Stepping image p registers₀ targets₀ done c r v) (running : Running image p.design p.defaults p.scopes registers targets) where
+module _ {image : List ℕ} {p : Prepared} {registers₀ targets₀ registers targets : List ℕ} {done c r v : ℕ} (s : Stepping image p registers₀ targets₀ done c r v) (running : Running image p.design p.tables.defaults p.tables.scopes registers targets) where
   pub step_inside : 4 * r + 4 ≤ length registers
   step_inside =
       let count = registers_count running.known.describes in
@@ -53,7 +53,7 @@ module _ {image : List ℕ} {p : Prepared} {registers₀ targets₀ registers ta
     unfolding stepped
     step_areas k ran = rw (words_stepped, ← ran)
 
-    pub step_running : Running image p.design p.defaults p.scopes after targets
+    pub step_running : Running image p.design p.tables.defaults p.tables.scopes after targets
     step_running =
         record {
           known = running.known;
@@ -71,17 +71,17 @@ pub ruleset step_laws = (step_inside, step_areas, step_running)
 
 -- ---- the end
 module _ (p : Prepared) (s : Judging) {a : Answer} (told : a ≡ answer_of p s) where
-  pub finish_refuses : {refusal : Refusal} {place : ℕ} → a ≡ Refused refusal place → (registers targets : List ℕ) (made : Lent) → left_as (Refused refusal place) (lends registers targets) ≡ leaves (answer_of p s) (lends registers targets) made
+  pub finish_refuses : {why : RefusedAt} → a ≡ Err why → (registers targets : List ℕ) (made : Lent) → left_as (Err why) (lends registers targets) ≡ leaves (answer_of p s) (lends registers targets) made
   finish_refuses e registers targets made = rw (← told, e)
 
   module _ {k : ℕ} (accepts : a ≡ Accepted k) where
     pub finish_earlier : {image registers targets : List ℕ} {done : ℕ} → Finishing image p s registers targets done → done ≤ p.count
     finish_earlier f = f.earlier k (sym told ∙ accepts)
 
-    pub finish_running : {image registers targets : List ℕ} {done : ℕ} → Finishing image p s registers targets done → Running image p.design p.defaults p.scopes registers targets
+    pub finish_running : {image registers targets : List ℕ} {done : ℕ} → Finishing image p s registers targets done → Running image p.design p.tables.defaults p.tables.scopes registers targets
     finish_running f = f.running k (sym told ∙ accepts)
 
-    pub finish_makes : {image : List ℕ} (registers targets registers₀ targets₀ : List ℕ) (n : ℕ) → AreBytes registers → Running image p.design p.defaults p.scopes registers targets
+    pub finish_makes : {image : List ℕ} (registers targets registers₀ targets₀ : List ℕ) (n : ℕ) → AreBytes registers → Running image p.design p.tables.defaults p.tables.scopes registers targets
         → areas_in (design_of image) registers targets ≡ after_cycles (design_of image) n (areas_in (design_of image) registers₀ targets₀)
         → left_as (Accepted k) (lends registers targets) ≡ leaves (answer_of p s) (lends registers₀ targets₀) (lent_of (after_cycles (design_of image) n (areas_of (design_of image) (lends registers₀ targets₀))))
     unfolding areas_of

@@ -1,10 +1,7 @@
 -- The trace as it is judged, record by record, and what a replay answers once all are.
-use Rattle.std.specs.Prelude.{ℕ, zero, suc, ◌+◌, ◌&&◌, cond, List, leb, ltb, eqb, get_or, set, replicate}
-use Rattle.model.specs.declared.Found.{Found}
-use Rattle.model.specs.declared.Found.TheVariants.{At, Nowhere}
+use Rattle.std.specs.Prelude.{ℕ, zero, suc, ◌+◌, ◌&&◌, cond, List, leb, ltb, eqb, get_or, set, replicate, Option, Some, None, Err}
 use Rattle.model.specs.declared.Refusal.TheVariants.{NoPort, PortValue, TraceCycle}
-use Rattle.model.specs.declared.Answer.{Answer}
-use Rattle.model.specs.declared.Answer.TheVariants.{Accepted, Refused}
+use Rattle.model.specs.Answers.{Answer, Accepted, Refused}
 use Rattle.model.specs.Limits.{registers_max}
 use Rattle.model.specs.Verdict.{◌before◌, refused_at}
 use Rattle.replay_model.specs.declared.TraceRecord.{TraceRecord}
@@ -19,7 +16,7 @@ judging_of p =
       count = p.count;
       largest = p.largest;
       previous = 0;
-      unordered = Nowhere;
+      unordered = None;
       answer = Accepted 0;
       last = replicate registers_max 0;
       superseded = 0;
@@ -61,7 +58,7 @@ answering s c a =
 
 abbrev pub judged_as : Judging → ℕ → ℕ → Answer → Judging
 judged_as s c r (Accepted k) = superseding s c r
-judged_as s c r (Refused refusal place) = answering s c (Refused refusal place)
+judged_as s c r (Err why) = answering s c (Err why)
 
 -- a record in its order
 unfoldable pub judged_port : Judging → ℕ → ℕ → ℕ → ℕ → Judging
@@ -74,15 +71,15 @@ unordered_at s i =
       count = s.count;
       largest = s.largest;
       previous = s.previous;
-      unordered = At i;
+      unordered = Some i;
       answer = s.answer;
       last = s.last;
       superseded = s.superseded;
     }
 
-abbrev pub judged_in : Judging → ℕ → ℕ → ℕ → ℕ → Found → Judging
-judged_in s i c r v (At k) = s
-judged_in s i c r v Nowhere = cond (leb s.previous c && ltb c s.count) (judged_port s i c r v) (unordered_at s i)
+abbrev pub judged_in : Judging → ℕ → ℕ → ℕ → ℕ → Option ℕ → Judging
+judged_in s i c r v (Some k) = s
+judged_in s i c r v None = cond (leb s.previous c && ltb c s.count) (judged_port s i c r v) (unordered_at s i)
 
 -- record i: once 23 refuses one, none behind it counts
 unfoldable pub judged_next : Judging → ℕ → ℕ → ℕ → ℕ → Judging
@@ -102,7 +99,7 @@ answer_of p s = p.answer before judged_answer s
 
 abbrev pub kept_by : Answer → ℕ → ℕ
 kept_by (Accepted k) records = records
-kept_by (Refused refusal place) records = 0
+kept_by (Err why) records = 0
 
 -- how many of so many records are applied
 unfoldable pub records_kept : Prepared → Judging → ℕ → ℕ

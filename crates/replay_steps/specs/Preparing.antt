@@ -1,8 +1,7 @@
 -- What is judged before the trace, and the tables that stand beside the image.
-use Rattle.std.specs.Prelude.{ℕ, ◌-◌, ◌^◌, ◌<◌, ◌≡◌, cond, List, ltb, length, get_or, replicate}
+use Rattle.std.specs.Prelude.{ℕ, ◌-◌, ◌^◌, ◌<◌, ◌≡◌, cond, List, ltb, length, get_or, replicate, Err}
 use Rattle.model.specs.declared.Refusal.{Refusal}
-use Rattle.model.specs.declared.Answer.{Answer}
-use Rattle.model.specs.declared.Answer.TheVariants.{Accepted, Refused}
+use Rattle.model.specs.Answers.{Answer, Accepted, Refused}
 use Rattle.model.specs.Limits.{registers_max}
 use Rattle.model.specs.Indices.{filled_to}
 use Rattle.model.specs.Image.{Design as Table, Labels, Registers, States, Commands, Expressions, design_of, register_at, offset, count}
@@ -57,8 +56,7 @@ refused_with refusal place n =
             commands_at = 0;
             expressions_at = 0;
           };
-      defaults = replicate 64 0;
-      scopes = replicate 192 0;
+      tables = record { defaults = replicate 64 0; scopes = replicate 192 0 };
       largest = replicate 64 0;
     }
 
@@ -69,22 +67,25 @@ accepted_with image k n =
       answer = Accepted k;
       count = n;
       design = described_by image;
-      defaults = with_defaults (design_of image) (replicate 64 0);
-      scopes = with_scopes (design_of image) (length (design_of image).states) (replicate 192 0);
+      tables =
+          record {
+            defaults = with_defaults (design_of image) (replicate 64 0);
+            scopes = with_scopes (design_of image) (length (design_of image).states) (replicate 192 0);
+          };
       largest = filled_to (largest_of (design_of image)) (length (design_of image).registers) (replicate 64 0);
     }
 
 -- what is prepared, by the answer
 abbrev pub prepared_as : List ℕ → ℕ → Answer → Prepared
 prepared_as image n (Accepted k) = accepted_with image k n
-prepared_as image n (Refused refusal place) = refused_with refusal place n
+prepared_as image n (Err why) = refused_with why.refusal why.place n
 
 -- what a run would answer, with all that cycles ask for and the ports where that is an acceptance; and that they are so
 pub record Preparing (image : List ℕ) (lent : Lent) (n : ℕ) (p : Prepared) : Type 0 where
   pub is : p ≡ prepared_as image n (run_answer image lent n)
   pub answer : p.answer ≡ run_answer image lent n
   pub count : p.count ≡ n
-  pub running : (k : ℕ) → p.answer ≡ Accepted k → Running image p.design p.defaults p.scopes lent.registers lent.targets
+  pub running : (k : ℕ) → p.answer ≡ Accepted k → Running image p.design p.tables.defaults p.tables.scopes lent.registers lent.targets
   pub ports : (k : ℕ) → p.answer ≡ Accepted k → Largest (design_of image) p.largest
 
 -- what a run answers on an image that is accepted
@@ -96,5 +97,5 @@ pub record PreparingOn (image : List ℕ) (lent : Lent) (n : ℕ) (p : Prepared)
   pub is : p ≡ prepared_as image n (on_accepted (design_of image) lent n)
   pub answer : p.answer ≡ on_accepted (design_of image) lent n
   pub count : p.count ≡ n
-  pub running : (k : ℕ) → p.answer ≡ Accepted k → Running image p.design p.defaults p.scopes lent.registers lent.targets
+  pub running : (k : ℕ) → p.answer ≡ Accepted k → Running image p.design p.tables.defaults p.tables.scopes lent.registers lent.targets
   pub ports : (k : ℕ) → p.answer ≡ Accepted k → Largest (design_of image) p.largest

@@ -1,6 +1,6 @@
 -- The records of a trace as they are applied, one by one, each behind the cycles before it.
 use Rattle.std.specs.Prelude.{ℕ, zero, suc, ◌-◌, ◌<◌, ◌≤◌, ◌≡◌, List, length, set}
-use Rattle.model.specs.declared.Answer.TheVariants.{Accepted}
+use Rattle.model.specs.Answers.{Accepted}
 use Rattle.model.specs.Image.{Design as Table, design_of}
 use Rattle.model.specs.Values.{modulus}
 use Rattle.model.specs.Machine.{Areas, after_cycles}
@@ -37,14 +37,14 @@ pub record Judged (image : List ℕ) (lent : Lent) (trace : List TraceRecord) (p
 
 -- the step on a record
 pub record Stepping (image : List ℕ) (p : Prepared) (registers targets : List ℕ) (done c r v : ℕ) : Type 0 where
-  pub running : Running image p.design p.defaults p.scopes registers targets
+  pub running : Running image p.design p.tables.defaults p.tables.scopes registers targets
   pub earlier : done ≤ c
   pub port : r < length (design_of image).registers
   pub fits : v < modulus (design_of image).registers r
 
 -- the end
 pub record Finishing (image : List ℕ) (p : Prepared) (s : Judging) (registers targets : List ℕ) (done : ℕ) : Type 0 where
-  pub running : (k : ℕ) → answer_of p s ≡ Accepted k → Running image p.design p.defaults p.scopes registers targets
+  pub running : (k : ℕ) → answer_of p s ≡ Accepted k → Running image p.design p.tables.defaults p.tables.scopes registers targets
   pub earlier : (k : ℕ) → answer_of p s ≡ Accepted k → done ≤ p.count
 
 -- the first i records are applied, from the areas as they were lent
@@ -52,6 +52,6 @@ pub record Replaying (image : List ℕ) (start : Lent) (trace : List TraceRecord
   pub judged : Judged image start trace p s
   pub within : i ≤ records_kept p s (length trace)
   pub cycles : done ≡ done_before trace i
-  pub running : (k : ℕ) → answer_of p s ≡ Accepted k → Running image p.design p.defaults p.scopes registers targets
+  pub running : (k : ℕ) → answer_of p s ≡ Accepted k → Running image p.design p.tables.defaults p.tables.scopes registers targets
   pub areas : areas_in (design_of image) registers targets ≡ replayed_to (design_of image) trace (areas_in (design_of image) start.registers start.targets) i
   pub none : i ≡ 0 → (registers ≡ start.registers) × (targets ≡ start.targets)

@@ -4,7 +4,7 @@ ghost use Rattle.replay_steps.specs.Judging.{judging_of, port_at, superseding, a
 
 use crate::preparing::Prepared;
 use design::Design;
-use model::{Answer, Found, Refusal};
+use model::{Answer, Refusal, refused_at};
 
 // What is known of the records before one: the cycle of the last, the lowest that 23 refuses, 13 or 17
 // at the lowest that they refuse, for each port the last cycle and one, and how many are superseded.
@@ -13,7 +13,7 @@ pub struct Judging {
     pub count: u32,
     pub largest: [u32; Design::REGISTERS],
     pub previous: u32,
-    pub unordered: Found,
+    pub unordered: Option<usize>,
     pub answer: Answer,
     pub last: [u32; Design::REGISTERS],
     pub superseded: usize,
@@ -24,14 +24,13 @@ pub fn begin(prepared: Prepared) -> Judging
     ensures { result ≡ judging_of prepared }
 {
     let largest = prepared.largest;
-    let last = [0u32; Design::REGISTERS];
     Judging {
         count: prepared.count,
         largest,
         previous: 0,
-        unordered: Found::Nowhere,
-        answer: Answer::Accepted(0),
-        last,
+        unordered: None,
+        answer: Ok(0),
+        last: [0; Design::REGISTERS],
         superseded: 0,
     }
 }
@@ -49,16 +48,16 @@ fn judge_port(judged: Judging, i: usize, register: u32, value: u32) -> Answer
 {
     let r = register as usize;
     if Design::REGISTERS <= r {
-        return Answer::Refused(Refusal::NoPort, i);
+        return Err(Refusal::NoPort.at(i));
     }
     let largest = judged.largest[r];
     if largest == 0 {
-        return Answer::Refused(Refusal::NoPort, i);
+        return Err(Refusal::NoPort.at(i));
     }
     if largest < value {
-        return Answer::Refused(Refusal::PortValue, i);
+        return Err(Refusal::PortValue.at(i));
     }
-    Answer::Accepted(0)
+    Ok(0)
 }
 
 // A record in its order that names a port and fits it.
@@ -80,17 +79,10 @@ fn supersede(judged: Judging, cycle: u32, register: usize) -> Judging
 fn refuse(judged: Judging, cycle: u32, answer: Answer) -> Judging
     ensures { result ≡ answering judged cycle answer }
 {
-    let largest = judged.largest;
-    let unordered = judged.unordered;
-    let last = judged.last;
     Judging {
-        count: judged.count,
-        largest,
         previous: cycle,
-        unordered,
         answer,
-        last,
-        superseded: judged.superseded,
+        ..judged
     }
 }
 
@@ -98,17 +90,9 @@ fn refuse(judged: Judging, cycle: u32, answer: Answer) -> Judging
 fn refuse_order(judged: Judging, i: usize) -> Judging
     ensures { result ≡ unordered_at judged i }
 {
-    let largest = judged.largest;
-    let answer = judged.answer;
-    let last = judged.last;
     Judging {
-        count: judged.count,
-        largest,
-        previous: judged.previous,
-        unordered: Found::At(i),
-        answer,
-        last,
-        superseded: judged.superseded,
+        unordered: Some(i),
+        ..judged
     }
 }
 
@@ -117,13 +101,11 @@ fn judge_in_order(judged: Judging, i: usize, cycle: u32, register: u32, value: u
     requires { (cycle + 1 < 2 ^ 32) × (judged.superseded + 1 < 2 ^ 64) }
     ensures { result ≡ judged_port judged i cycle register value }
 {
-    let before = judged.answer;
-    if let Answer::Refused(refusal, place) = before {
-        return refuse(judged, cycle, Answer::Refused(refusal, place));
-    }
-    let own = judge_port(judged, i, register, value);
-    if let Answer::Refused(refusal, place) = own {
-        return refuse(judged, cycle, Answer::Refused(refusal, place));
+    let answer = judged
+        .answer
+        .and_then(|_| judge_port(judged, i, register, value));
+    if answer.is_err() {
+        return refuse(judged, cycle, answer);
     }
     supersede(judged, cycle, register as usize)
 }
@@ -133,8 +115,7 @@ pub fn judge_record(judged: Judging, i: usize, cycle: u32, register: u32, value:
     requires { judged.superseded + 1 < 2 ^ 64 }
     ensures { result ≡ judged_next judged i cycle register value }
 {
-    let unordered = judged.unordered;
-    if let Found::At(_) = unordered {
+    if judged.unordered.is_some() {
         return judged;
     }
     if !in_order(judged, cycle) {
@@ -147,28 +128,19 @@ pub fn judge_record(judged: Judging, i: usize, cycle: u32, register: u32, value:
 pub fn answer(prepared: Prepared, judged: Judging) -> Answer
     ensures { result ≡ answer_of prepared judged }
 {
-    let before = prepared.answer;
-    if let Answer::Refused(refusal, place) = before {
-        return Answer::Refused(refusal, place);
-    }
-    let unordered = judged.unordered;
-    if let Found::At(i) = unordered {
-        return Answer::Refused(Refusal::TraceCycle, i);
-    }
-    let port = judged.answer;
-    if let Answer::Refused(refusal, place) = port {
-        return Answer::Refused(refusal, place);
-    }
-    Answer::Accepted(judged.superseded)
+    prepared.answer?;
+    refused_at(Refusal::TraceCycle, judged.unordered)?;
+    judged.answer?;
+    Ok(judged.superseded)
 }
 
 // How many records are applied: all of so many, or none where the replay is refused.
 pub fn records_kept(prepared: Prepared, judged: Judging, records: usize) -> usize
     ensures { result ≡ records_kept_of prepared judged records }
 {
-    let answer = answer(prepared, judged);
-    match answer {
-        Answer::Refused(_, _) => 0,
-        Answer::Accepted(_) => records,
+    if answer(prepared, judged).is_ok() {
+        records
+    } else {
+        0
     }
 }

@@ -10,27 +10,22 @@ ghost use Rattle.replay_steps.specs.Replaying.{stepped, Stepping, Finishing};
 
 use crate::judging::{Judging, answer};
 use crate::preparing::Prepared;
+use design::image::Image;
 use design::words::put_word;
 use machine::cycle::cycles;
 use model::Answer;
 
 // So many cycles with the tables of a replay.
 fn run(image: &[u8], prepared: Prepared, registers: &mut [u8], targets: &mut [u8], count: u32)
-    requires { Running image.now prepared.design prepared.defaults prepared.scopes registers.old targets.old }
+    requires { Running image.now prepared.design prepared.tables.defaults prepared.tables.scopes registers.old targets.old }
     ensures targets_after { areas_in (design_of image.now) registers.new targets.new ≡ after_cycles (design_of image.now) count (areas_in (design_of image.now) registers.old targets.old) }
-    ensures running { Running image.now prepared.design prepared.defaults prepared.scopes registers.new targets.new }
+    ensures running { Running image.now prepared.design prepared.tables.defaults prepared.tables.scopes registers.new targets.new }
 {
-    let defaults = prepared.defaults;
-    let scopes = prepared.scopes;
-    cycles(
-        image,
-        prepared.design,
-        &defaults,
-        &scopes,
-        registers,
-        targets,
-        count,
-    );
+    let image = Image {
+        bytes: image,
+        design: prepared.design,
+    };
+    cycles(&image, &prepared.tables, registers, targets, count);
 }
 
 // From as many cycles as are done to the cycle of a record, and then its value for its port.
@@ -45,7 +40,7 @@ pub fn replay_step(
     value: u32,
 ) -> u32
     requires { Stepping image.now prepared registers.old targets.old done cycle register value }
-    ensures { (result ≡ cycle) × (areas_in (design_of image.now) registers.new targets.new ≡ stepped (design_of image.now) (cycle - done) register value (areas_in (design_of image.now) registers.old targets.old)) × Running image.now prepared.design prepared.defaults prepared.scopes registers.new targets.new }
+    ensures { (result ≡ cycle) × (areas_in (design_of image.now) registers.new targets.new ≡ stepped (design_of image.now) (cycle - done) register value (areas_in (design_of image.now) registers.old targets.old)) × Running image.now prepared.design prepared.tables.defaults prepared.tables.scopes registers.new targets.new }
 {
     run(image, prepared, registers, targets, cycle - done);
     put_word(registers, register as usize, value);
@@ -64,12 +59,7 @@ pub fn finish(
     requires { Finishing image.now prepared judged registers.old targets.old done }
     ensures { left_as result (lends registers.new targets.new) ≡ leaves (answer_of prepared judged) (lends registers.old targets.old) (lent_of (after_cycles (design_of image.now) (prepared.count - done) (areas_of (design_of image.now) (lends registers.old targets.old)))) }
 {
-    let told = answer(prepared, judged);
-    match told {
-        Answer::Refused(refusal, place) => Answer::Refused(refusal, place),
-        Answer::Accepted(superseded) => {
-            run(image, prepared, registers, targets, prepared.count - done);
-            Answer::Accepted(superseded)
-        }
-    }
+    let superseded = answer(prepared, judged)?;
+    run(image, prepared, registers, targets, prepared.count - done);
+    Ok(superseded)
 }

@@ -1,6 +1,7 @@
 -- What is judged of lent areas, and what a run on sound ones leaves: a refusal leaves the areas as they were lent, and the bytes of an area of the right
 -- length are those of its values.
-use Prim.Native.Nat.{ℕ, ◌+◌, ◌*◌, ◌^◌, ◌≤◌, ◌<◌}
+use Rattle.std.specs.Prelude.{Option, Some, None, Err}
+use Prim.Native.Nat.{ℕ, ◌*◌, ◌^◌, ◌<◌}
 use mathlib.Core.Path.{◌≡◌, refl, sym, ◌∙◌, ap}
 use mathlib.Core.Bool.{Bool, true, false, not}
 use mathlib.Core.List.{List}
@@ -9,11 +10,9 @@ use lib.Dec.{leb, ltb}
 use lib.ListN.{length, get_or, take, take-append-drop}
 use mir.Syntax.{w8}
 use mir.Val.{Fits}
-use Rattle.model.specs.declared.Found.{Found}
-use Rattle.model.specs.declared.Found.TheVariants.{At, Nowhere}
+use Rattle.model.specs.declared.RefusedAt.{RefusedAt}
 use Rattle.model.specs.declared.Refusal.TheVariants.{Area, CycleCount}
-use Rattle.model.specs.declared.Answer.{Answer}
-use Rattle.model.specs.declared.Answer.TheVariants.{Accepted, Refused}
+use Rattle.model.specs.Answers.{Answer, Accepted, Refused}
 use Rattle.model.specs.Limits.{cycles_max}
 use Rattle.model.specs.Indices.{lowest_failing}
 use Rattle.model.specs.Image.{Design as Table, AreBytes, word32_at, design_of}
@@ -29,11 +28,10 @@ use Rattle.model.proofs.Laws.Equivalences.{less_iff}
 use Rattle.model.proofs.Laws.Verdict.{first_accepts, later_accepts, found_nothing}
 use Rattle.model.proofs.Laws.Words.{bytes_of_words, length-words_of}
 use Rattle.model.proofs.Independence.Widths.{fitting_each}
-use Rattle.model.proofs.Exact.Records.{state_iff}
 use Rattle.design.specs.declared.Design.{Design}
 use Rattle.design.specs.Records.{register_in}
 use Rattle.design.specs.Describes.{Describes}
-use Rattle.design.specs.Kept.{StatesKept, RecordsKept}
+use Rattle.design.specs.Kept.{RecordsKept}
 use Rattle.design.specs.Resets.{Defaults, lends}
 use Rattle.design.specs.Scopes.{Scopes}
 use Rattle.design.proofs.Laws.{registers_count, states_count}
@@ -44,9 +42,6 @@ use Rattle.machine.specs.Cycles.{Running, areas_in}
 use Rattle.checker.proofs.Accepted.{accepted_known}
 use Rattle.running.specs.Stages.{sound_on, run_sound}
 
-pub states_kept : {image : List ℕ} → Keeps image → StatesKept (design_of image)
-states_kept {image} keeps = record { kept = λ s l. (state_iff (design_of image) s).1 (keeps.design.structure.states s l) }
-
 pub are_bytes : (bytes : List ℕ) → ((i : ℕ) → Fits w8 (get_or bytes i 0)) → AreBytes bytes
 are_bytes bytes h i = (h i).fits
 
@@ -56,52 +51,54 @@ pub image_known : {image : List ℕ} {x : Design} → Keeps image → Describes 
 image_known keeps describes = accepted_known keeps describes
 
 module _ {image : List ℕ} {x : Design} (known : RecordsKept image x) (registers : List ℕ) (area : length registers ≡ 4 * x.registers) {r : ℕ} (l : r < x.registers) where
-  pub word_inside : 4 * r + 4 ≤ length registers
-  word_inside = omega arith
-
   pub content_rule : {w v : ℕ} {b : Bool} → w ≡ (register_in image x.registers_at r).width → v ≡ word32_at registers (4 * r) → b ≡ ltb v (2 ^ w) → b ≡ content_kept (design_of image) registers r
   unfolding content_kept
   content_rule h g e =
       let count = registers_count known.describes in
       e ∙ rw (g, width_is known l h, words_at {n = length (design_of image).registers} {r = r} registers (omega arith) (omega arith))
 
-pub contents_refuse : (d : Table) (registers : List ℕ) {f : Found} {p : ℕ} → f ≡ At p → f ≡ lowest_failing (content_kept d registers) (length d.registers) → contents_answer d registers ≡ Refused Area p
+pub contents_refuse : (d : Table) (registers : List ℕ) {f : Option ℕ} {p : ℕ} → f ≡ Some p → f ≡ lowest_failing (content_kept d registers) (length d.registers) → contents_answer d registers ≡ Refused Area p
 unfolding contents_answer refused_at
 contents_refuse d registers h found = rw (← found, h)
 
-pub contents_fit : (d : Table) (registers : List ℕ) {f : Found} → f ≡ Nowhere → f ≡ lowest_failing (content_kept d registers) (length d.registers) → contents_answer d registers ≡ Accepted 0
+pub contents_fit : (d : Table) (registers : List ℕ) {f : Option ℕ} → f ≡ None → f ≡ lowest_failing (content_kept d registers) (length d.registers) → contents_answer d registers ≡ Accepted 0
 unfolding contents_answer refused_at
 contents_fit d registers h found = rw (← found, h)
 
 -- the targets stand in front in their area
-pub front_inside : {n : ℕ} (area : List ℕ) → length area ≡ 3 * n → n ≤ length area
-front_inside area e = omega arith
-
-pub front_unsound : {image : List ℕ} {x : Design} (area : List ℕ) {f : Found} → Describes image x → f ≡ lowest_failing (target_sound (design_of image) (take x.states area)) (length (design_of image).states)
+pub front_unsound : {image : List ℕ} {x : Design} (area : List ℕ) {f : Option ℕ} → Describes image x → f ≡ lowest_failing (target_sound (design_of image) (take x.states area)) (length (design_of image).states)
     → f ≡ lowest_failing (target_sound (design_of image) (targets_in (design_of image) area)) (length (design_of image).states)
 front_unsound {image} area d h = h ∙ ap (λ (n : ℕ). lowest_failing (target_sound (design_of image) (take n area)) (length (design_of image).states)) (states_count d)
 
--- ---- whether areas are sound
-module _ (d : Table) (registers targets : List ℕ) where
-  pub sound_refuses_contents : {p : ℕ} → contents_answer d registers ≡ Refused Area p → Refused Area p ≡ sound_on d (lends registers targets)
+-- ---- whether areas are sound: the pass over the contents, then that over the targets, then that over the bindings
+module _ (d : Table) (registers targets : List ℕ) {f : Option ℕ} {first : Answer} (large : f ≡ lowest_failing (content_kept d registers) (length d.registers)) (told : first ≡ refused_at Area f) where
+  pub contents_told : contents_answer d registers ≡ first
+  unfolding contents_answer
+  contents_told = sym (told ∙ ap (refused_at Area) large)
+
+  pub sound_refuses_contents : {why : RefusedAt} → first ≡ Err why → Err why ≡ sound_on d (lends registers targets)
   unfolding sound_on ◌before◌
-  sound_refuses_contents h = rw h
+  sound_refuses_contents h = rw (contents_told, h)
 
-  module _ {f : Found} where
-    pub sound_refuses_target : {p : ℕ} → f ≡ At p → f ≡ lowest_failing (target_sound d (targets_in d targets)) (length d.states) → contents_answer d registers ≡ Accepted 0 → Refused Area p ≡ sound_on d (lends registers targets)
-    unfolding sound_on targets_answer refused_at ◌before◌
-    sound_refuses_target h found fit = rw (fit, ← found, h)
+  module _ {n : ℕ} (fit : first ≡ Accepted n) {g : Option ℕ} {second : Answer} (unsound : g ≡ lowest_failing (target_sound d (targets_in d targets)) (length d.states)) (targets_told : second ≡ refused_at Area g) where
+    targets_are : targets_answer d (lends registers targets) ≡ second
+    unfolding targets_answer
+    targets_are = sym (targets_told ∙ ap (refused_at Area) unsound)
 
-    module _ {g : Found} (none : f ≡ Nowhere) (found : f ≡ lowest_failing (target_sound d (targets_in d targets)) (length d.states)) where
-      pub sound_refuses_binding : {p : ℕ} → g ≡ At p → g ≡ lowest_failing (binding_sound d (targets_in d targets) (bindings_in d targets)) (length d.states) → contents_answer d registers ≡ Accepted 0 → Refused Area p ≡ sound_on d (lends registers targets)
-      unfolding sound_on targets_answer bindings_answer refused_at ◌before◌
-      sound_refuses_binding h loose fit = rw (fit, ← found, none, ← loose, h)
+    pub sound_refuses_target : {why : RefusedAt} → second ≡ Err why → Err why ≡ sound_on d (lends registers targets)
+    unfolding sound_on ◌before◌
+    sound_refuses_target h = rw (contents_told, fit, targets_are, h)
 
-      pub sound_accepts : g ≡ Nowhere → g ≡ lowest_failing (binding_sound d (targets_in d targets) (bindings_in d targets)) (length d.states) → contents_answer d registers ≡ Accepted 0 → Accepted 0 ≡ sound_on d (lends registers targets)
-      unfolding sound_on targets_answer bindings_answer refused_at ◌before◌
-      sound_accepts tied loose fit = rw (fit, ← found, none, ← loose, tied)
+    pub sound_accepts :
+        {m : ℕ} {h : Option ℕ} {third : Answer}
+        → second ≡ Accepted m
+        → h ≡ lowest_failing (binding_sound d (targets_in d targets) (bindings_in d targets)) (length d.states)
+        → third ≡ refused_at Area h
+        → third ≡ sound_on d (lends registers targets)
+    unfolding sound_on bindings_answer ◌before◌
+    sound_accepts sound loose bindings_told = (bindings_told ∙ ap (refused_at Area) loose) ∙ rw (contents_told, fit, targets_are, sound)
 
-pub targets_sound : (d : Table) (area : List ℕ) {f : Found} → f ≡ Nowhere → f ≡ lowest_failing (target_sound d (targets_in d area)) (length d.states) → TargetsSound d area
+pub targets_sound : (d : Table) (area : List ℕ) {f : Option ℕ} → f ≡ None → f ≡ lowest_failing (target_sound d (targets_in d area)) (length d.states) → TargetsSound d area
 targets_sound d area none found = record { sound = failing_none (target_sound d (targets_in d area)) (length d.states) (sym found ∙ none) }
 
 -- what each of the three found where all accept
@@ -170,7 +167,7 @@ module _ (d : Table) (n : ℕ) {b : Bool} (e : b ≡ leb n cycles_max) where
 -- ---- the three answers of soundness
 before_together : (a b c : Answer) → ((a before b) before c) ≡ (a before b before c)
 unfolding ◌before◌
-before_together (Refused r p) b c = refl
+before_together (Err why) b c = refl
 before_together (Accepted n) b c = refl
 
 -- what is one answer here are three in a run

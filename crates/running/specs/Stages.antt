@@ -1,7 +1,6 @@
 -- The run of `Rattle.model.specs.Calls` from the point where the lengths are right on.
 use Rattle.std.specs.Prelude.{ℕ}
-use Rattle.model.specs.declared.Answer.{Answer}
-use Rattle.model.specs.declared.Answer.TheVariants.{Accepted}
+use Rattle.model.specs.Answers.{Answer, Accepted}
 use Rattle.model.specs.Image.{Design as Table}
 use Rattle.model.specs.Verdict.{◌before◌}
 use Rattle.model.specs.Machine.{after_cycles}

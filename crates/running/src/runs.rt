@@ -1,14 +1,15 @@
 // A run on sound areas.
 ghost use Rattle.std.specs.Prelude.{◌≡◌, leb};
+ghost use Rattle.design.specs.Images.{design_in};
 ghost use Rattle.model.specs.Limits.{cycles_max};
-ghost use Rattle.model.specs.Image.{design_of};
 ghost use Rattle.design.specs.Resets.{lends};
-ghost use Rattle.machine.specs.Cycles.{Running};
+ghost use Rattle.machine.specs.Cycles.{RunningIn};
 ghost use Rattle.running.specs.Stages.{run_sound as run_sound_of};
 ghost use Rattle.model.specs.Calls.{left_as};
 
-use design::Design;
+use design::image::Image;
 use machine::cycle::cycles;
+use machine::tables::Tables;
 use model::{Answer, Refusal};
 
 // The most cycles of a run.
@@ -23,20 +24,18 @@ pub fn count_kept(count: u32) -> bool
 
 // A run on sound areas.
 pub fn run_sound(
-    image: &[u8],
-    design: Design,
-    defaults: &[u8],
-    in_scope: &[u8],
+    image: &Image,
+    tables: &Tables,
     registers: &mut [u8],
     targets: &mut [u8],
     count: u32,
 ) -> Answer
-    requires { Running image.now design defaults.now in_scope.now registers.old targets.old }
-    ensures { left_as result (lends registers.new targets.new) ≡ run_sound_of (design_of image.now) (lends registers.old targets.old) count }
+    requires { RunningIn image.now tables.now registers.old targets.old }
+    ensures { left_as result (lends registers.new targets.new) ≡ run_sound_of (design_in image.now) (lends registers.old targets.old) count }
 {
     if !count_kept(count) {
-        return Answer::Refused(Refusal::CycleCount, 0);
+        return Err(Refusal::CycleCount.at(0));
     }
-    cycles(image, design, defaults, in_scope, registers, targets, count);
-    Answer::Accepted(count as usize)
+    cycles(image, tables, registers, targets, count);
+    Ok(count as usize)
 }

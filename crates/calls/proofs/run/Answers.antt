@@ -4,10 +4,10 @@ use borrow.Author.Rules.{rules}
 use Rattle.calls.proofs.run.Goals as goal
 
 pub run-requires : goal.run-requires
-run-requires c = search (accepted_keeps, rules)
+run-requires c = let was = c.in_ok-verdict.was in search (accepted_keeps, rules)
 
-pub returns-in-Refused : goal.returns-in-Refused
-returns-in-Refused c = search (refused_run, rules)
+pub returns-in_err-verdict : goal.returns-in_err-verdict
+returns-in_err-verdict c = let was = c.in_err-verdict.was in search (refused_run, rules)
 
-pub returns-in-Accepted : goal.returns-in-Accepted
-returns-in-Accepted c = search (accepted_run, rules)
+pub returns : goal.returns
+returns c = let was = c.in_ok-verdict.was in search (accepted_run, rules)

@@ -6,4 +6,4 @@ pub overflow_mul-result : goal.overflow_mul-result
 overflow_mul-result c = search (area_fits, rules)
 
 pub returns : goal.returns
-returns c = search (registers_bytes, rules)
+returns c = rw (← c.read-image.ensures) (search (registers_bytes, rules))

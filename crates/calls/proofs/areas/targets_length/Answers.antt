@@ -6,4 +6,4 @@ pub overflow_mul-result : goal.overflow_mul-result
 overflow_mul-result c = search (targets_fit, rules)
 
 pub returns : goal.returns
-returns c = search (targets_bytes, rules)
+returns c = rw (← c.read-image.ensures) (search (targets_bytes, rules))

@@ -1,6 +1,6 @@
 use Rattle.design.proofs.Laws.{registers_most}
 use Rattle.design.proofs.ResetRules.{states_few}
-use Rattle.calls.proofs.CallRules.{registers_long, targets_long, wrong_lengths, run_refuses}
+use Rattle.calls.proofs.CallRules.{wrong_lengths, run_refuses}
 use borrow.Author.Rules.{rules}
 use Rattle.calls.proofs.runs.run.Goals as goal
 
@@ -9,6 +9,3 @@ areas_kept-requires c = (search (registers_most, rules), search (states_few, rul
 
 pub returns-then-not-areas_kept : goal.returns-then-not-areas_kept
 returns-then-not-areas_kept c = search (run_refuses, wrong_lengths, rules)
-
-pub with_tables-requires : goal.with_tables-requires
-with_tables-requires c = (search rules, search rules, search (registers_long, rules), search (targets_long, rules))

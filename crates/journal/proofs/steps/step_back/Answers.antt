@@ -12,4 +12,4 @@ pub returns-then-not-areas_kept : goal.returns-then-not-areas_kept
 returns-then-not-areas_kept c = search (step_refuses, wrong_lengths, rules)
 
 pub step_on-requires : goal.step_on-requires
-step_on-requires c = (search rules, search rules, search (registers_long, rules), search (targets_long, rules))
+step_on-requires c = (rw c.read-image.ensures (search rules), search (registers_long, rules), search (targets_long, rules))

@@ -1,6 +1,6 @@
 use Rattle.design.proofs.Laws.{registers_most}
 use Rattle.design.proofs.ResetRules.{states_few}
-use Rattle.journal.proofs.StageRules.{step_lacks_room, step_counts, step_too_far, step_none, step_returns}
+use Rattle.journal.proofs.StageRules.{step_lacks_room, step_counts, step_too_far, step_none, step_room}
 use borrow.Author.Rules.{rules}
 use Rattle.journal.proofs.steps.step_on.Goals as goal
 
@@ -20,4 +20,6 @@ pub returns-then-k-eq0 : goal.returns-then-k-eq0
 returns-then-k-eq0 c = search (step_none, rules)
 
 pub step_counted-requires : goal.step_counted-requires
-step_counted-requires c = search (step_returns, rules)
+step_counted-requires c =
+    let counted = c.saved_count.ensures in
+    search (step_room, rules)

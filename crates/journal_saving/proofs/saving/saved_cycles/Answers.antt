@@ -1,7 +1,6 @@
-use native.Mathlib.Omega.{arith}
 use Rattle.design.proofs.Laws.{registers_most}
 use Rattle.design.proofs.ResetRules.{states_few}
-use Rattle.journal_saving.proofs.SavingRules.{saved_begins, saved_running, saved_room, saved_at_fits, saved_fits, saved_more, saved_registers_long, saved_targets_long, saved_journal_long, saved_areas, saved_done}
+use Rattle.journal_saving.proofs.SavingRules.{saved_begins, saved_running, saved_room, saved_at_fits, saved_more, saved_registers_long, saved_targets_long, saved_journal_long, saved_areas, saved_done}
 use borrow.Author.Rules.{rules}
 use Rattle.journal_saving.proofs.saving.saved_cycles.Goals as goal
 
@@ -16,12 +15,6 @@ saved_cycle-requires c = (search (saved_running, rules), search (saved_room, rul
 
 pub overflow_add-at : goal.overflow_add-at
 overflow_add-at c = search (saved_at_fits, rules)
-
-pub overflow_add-i : goal.overflow_add-i
-overflow_add-i c = search (saved_fits, rules)
-
-pub loop-i-smaller : goal.loop-i-smaller
-loop-i-smaller c = omega arith
 
 pub loop-i-preserved : goal.loop-i-preserved
 loop-i-preserved c = search (saved_more, rules)

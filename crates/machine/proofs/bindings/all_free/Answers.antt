@@ -1,25 +1,10 @@
-use Rattle.model.proofs.Laws.Passes.{pass_laws}
+use Rattle.model.specs.Image.{design_of}
+use Rattle.machine.specs.Bindings.{is_free}
 use Rattle.design.proofs.Laws.{states_count}
+use Rattle.model.proofs.Laws.Chains.{all_from_all}
+use mathlib.Core.Path.{refl}
 use borrow.Author.Rules.{rules}
 use Rattle.machine.proofs.bindings.all_free.Goals as goal
 
-pub loop-s-init : goal.loop-s-init
-loop-s-init c = search (pass_laws, rules)
-
-pub free-requires : goal.free-requires
-free-requires c = search (pass_laws, rules)
-
-pub returns-then-not-free : goal.returns-then-not-free
-returns-then-not-free c = search (pass_laws, states_count, rules)
-
-pub overflow_add-s : goal.overflow_add-s
-overflow_add-s c = search (pass_laws, states_count, rules)
-
-pub loop-s-smaller : goal.loop-s-smaller
-loop-s-smaller c = search (pass_laws, states_count, rules)
-
-pub loop-s-preserved : goal.loop-s-preserved
-loop-s-preserved c = search (pass_laws, rules)
-
 pub returns : goal.returns
-returns c = search (pass_laws, states_count, rules)
+returns c = rw (← states_count c.args.image.now.describes) (all_from_all _ (is_free (design_of c.args.image.now.bytes.now) c.args.area.now) c.all.ensures.ran (λ x b q k. search rules) refl)

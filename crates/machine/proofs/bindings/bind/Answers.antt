@@ -1,4 +1,4 @@
-use Rattle.machine.proofs.BindingRules.{binds_none, binds_one, binds_two, first_fits, second_fits, second_inside}
+use Rattle.machine.proofs.BindingRules.{binds_none, binds_one, binds_two, first_fits, second_fits}
 use borrow.Author.Rules.{rules}
 use Rattle.machine.proofs.bindings.bind.Goals as goal
 
@@ -13,9 +13,6 @@ returns-then-own-eq1 c = search (binds_one, rules)
 
 pub overflow_cast-area-2 : goal.overflow_cast-area-2
 overflow_cast-area-2 c = search second_fits
-
-pub bounds-area-at-2 : goal.bounds-area-at-2
-bounds-area-at-2 c = search (second_inside, rules)
 
 pub returns : goal.returns
 returns c = search (binds_two, rules)

@@ -1,9 +1,5 @@
-use Prim.Native.Nat.{◌-◌}
 use Rattle.machine.proofs.CycleRules.{RunSo}
 use Rattle.machine.proofs.cycle.cycles.Given as goal
 
 abbrev pub invariant-loop-i : goal.invariant-loop-i
-invariant-loop-i l = RunSo l.image l.design l.defaults l.scopes l.count l.initial.registers l.initial.area l.i l.registers l.area l.walk
-
-abbrev pub decreases-loop-i : goal.decreases-loop-i
-decreases-loop-i l = l.count - l.i
+invariant-loop-i l = RunSo l.image.bytes.now l.image.design l.tables.defaults l.tables.scopes l.count l.initial.registers l.initial.area l.i l.registers l.area l.walk

@@ -1,4 +1,4 @@
-use Rattle.machine.proofs.TargetRules.{state_few, parent_few, clear_begins, clear_entry, clear_inside, clear_more, clear_long, clear_all}
+use Rattle.machine.proofs.TargetRules.{state_few, parent_few, clear_begins, clear_more, clear_all}
 use Rattle.design.proofs.ResetRules.{entry_inside}
 use borrow.Author.Rules.{rules}
 use Rattle.machine.proofs.targets.clear.Goals as goal
@@ -15,23 +15,8 @@ loop-s-init c = search (clear_begins, rules)
 pub bounds-marks-p : goal.bounds-marks-p
 bounds-marks-p c = search (parent_few, rules)
 
-pub bounds-marks-s : goal.bounds-marks-s
-bounds-marks-s c = search (state_few, rules)
-
-pub bounds-defaults-s : goal.bounds-defaults-s
-bounds-defaults-s c = search (clear_entry, rules)
-
-pub bounds-targets-s : goal.bounds-targets-s
-bounds-targets-s c = search (clear_inside, rules)
-
-pub bounds-targets-s-in-loop-s : goal.bounds-targets-s-in-loop-s
-bounds-targets-s-in-loop-s c = search (clear_inside, rules)
-
 pub loop-s-preserved : goal.loop-s-preserved
 loop-s-preserved c = search (clear_more, rules)
-
-pub shape_of-targets : goal.shape_of-targets
-shape_of-targets c = search (clear_long, rules)
 
 pub returns : goal.returns
 returns c = search (clear_all, rules)

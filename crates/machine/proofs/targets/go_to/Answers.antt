@@ -1,5 +1,5 @@
 use Rattle.design.proofs.ResetRules.{state_fits}
-use Rattle.machine.proofs.TargetRules.{gone_inside, gone_rule, gone_long}
+use Rattle.machine.proofs.TargetRules.{gone_inside, gone_rule}
 use borrow.Author.Rules.{rules}
 use Rattle.machine.proofs.targets.go_to.Goals as goal
 
@@ -8,9 +8,6 @@ overflow_cast-targets c = search (state_fits, rules)
 
 pub bounds-targets-p : goal.bounds-targets-p
 bounds-targets-p c = search (gone_inside, rules)
-
-pub shape_of-targets : goal.shape_of-targets
-shape_of-targets c = search (gone_long, rules)
 
 pub returns : goal.returns
 returns c = search (gone_rule, rules)

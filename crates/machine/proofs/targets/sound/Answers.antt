@@ -3,14 +3,11 @@ use Rattle.design.proofs.ResetRules.{entry_inside}
 use borrow.Author.Rules.{rules}
 use Rattle.machine.proofs.targets.sound.Goals as goal
 
-pub bounds-targets-s : goal.bounds-targets-s
-bounds-targets-s c = search (entry_inside, rules)
-
 pub bounds-defaults-s : goal.bounds-defaults-s
 bounds-defaults-s c = search (entry_inside, rules)
 
-pub returns-then-wide-s : goal.returns-then-wide-s
-returns-then-wide-s c = search (sound_alone, rules)
+pub returns-then-from-s : goal.returns-then-from-s
+returns-then-from-s c = search (sound_alone, rules)
 
 pub returns : goal.returns
 returns c = search (sound_child, rules)

@@ -1,19 +1,10 @@
-use Rattle.model.proofs.Laws.Passes.{pass_laws}
+use Rattle.model.specs.Image.{design_of}
+use Rattle.model.specs.Machine.{target_sound}
 use Rattle.design.proofs.Laws.{states_count}
+use Rattle.model.proofs.Laws.Chains.{failing_from_find}
+use mathlib.Core.Path.{refl}
 use borrow.Author.Rules.{rules}
 use Rattle.machine.proofs.targets.unsound.Goals as goal
 
-pub loop-s-init : goal.loop-s-init
-loop-s-init c = search (pass_laws, rules)
-
-pub sound-requires : goal.sound-requires
-sound-requires c = search (pass_laws, rules)
-
-pub returns-then-not-sound : goal.returns-then-not-sound
-returns-then-not-sound c = search (states_count, pass_laws, rules)
-
-pub loop-s-preserved : goal.loop-s-preserved
-loop-s-preserved c = search (pass_laws, rules)
-
 pub returns : goal.returns
-returns c = search (states_count, pass_laws, rules)
+returns c = rw (← states_count c.args.image.now.describes) (failing_from_find _ (target_sound (design_of c.args.image.now.bytes.now) c.args.targets.now) c.find.ensures.ran (λ x b q k. search rules) refl)

@@ -15,4 +15,4 @@ judge_record-judged-requires c =
 pub loop-i-preserved : goal.loop-i-preserved
 unfolding judged_to
 loop-i-preserved c =
-    (rw (add-one, c.judge_record-judged.ensures, c.loop-i.invariant.0, c.record_at-record.ensures) refl, omega arith)
+    (rw (add-one, c.judge_record-judged.ensures, c.loop-i.invariant.0) refl, omega arith)

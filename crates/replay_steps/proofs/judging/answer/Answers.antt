@@ -1,15 +1,20 @@
-use Rattle.replay_steps.proofs.AnswerRules.{answer_laws}
+use Rattle.model.specs.Verdict.{◌before◌}
+use Rattle.replay_steps.specs.Judging.{judged_answer, answer_of}
 use borrow.Author.Rules.{rules}
 use Rattle.replay_steps.proofs.judging.answer.Goals as goal
 
-pub returns-in-Refused : goal.returns-in-Refused
-returns-in-Refused c = search (answer_laws, rules)
+pub returns-in_err-prepared : goal.returns-in_err-prepared
+unfolding answer_of judged_answer ◌before◌
+returns-in_err-prepared c = search rules
 
-pub returns-in-At : goal.returns-in-At
-returns-in-At c = search (answer_laws, rules)
+pub returns-in_err-refused_at : goal.returns-in_err-refused_at
+unfolding answer_of judged_answer ◌before◌
+returns-in_err-refused_at c = search rules
 
-pub returns-in-Refused-port : goal.returns-in-Refused-port
-returns-in-Refused-port c = search (answer_laws, rules)
+pub returns-in_err-judged : goal.returns-in_err-judged
+unfolding answer_of judged_answer ◌before◌
+returns-in_err-judged c = search rules
 
 pub returns : goal.returns
-returns c = search (answer_laws, rules)
+unfolding answer_of judged_answer ◌before◌
+returns c = search rules

@@ -1,15 +1,15 @@
-use Rattle.replay_steps.proofs.AnswerRules.{order_laws, cycle_fits}
+use Rattle.replay_steps.specs.Judging.{judged_next}
 use borrow.Author.Rules.{rules}
 use Rattle.replay_steps.proofs.judging.judge_record.Goals as goal
 
-pub returns-in-At : goal.returns-in-At
-returns-in-At c = search (order_laws, rules)
+pub returns-then-is_some : goal.returns-then-is_some
+unfolding judged_next
+returns-then-is_some c = search rules
 
 pub returns-then-not-in_order : goal.returns-then-not-in_order
-returns-then-not-in_order c = search (order_laws, rules)
-
-pub judge_in_order-requires : goal.judge_in_order-requires
-judge_in_order-requires c = (search (cycle_fits, rules), search rules)
+unfolding judged_next
+returns-then-not-in_order c = search rules
 
 pub returns : goal.returns
-returns c = search (order_laws, rules)
+unfolding judged_next
+returns c = search rules

@@ -7,7 +7,7 @@ pub loop-r-init : goal.loop-r-init
 loop-r-init c = (search (filled_none, rules), search rules)
 
 pub largest_value-requires : goal.largest_value-requires
-largest_value-requires c = (search rules, search rules, search rules)
+largest_value-requires c = (search rules, search rules)
 
 pub bounds-largest-r : goal.bounds-largest-r
 bounds-largest-r c = search (largest_inside, rules)

@@ -9,7 +9,7 @@ pub areas_kept-requires : goal.areas_kept-requires
 areas_kept-requires c = (search (registers_most, rules), search (states_few, rules))
 
 pub returns-then-not-areas_kept : goal.returns-then-not-areas_kept
-returns-then-not-areas_kept c = search (lengths_refused, wrong_lengths, rules)
+returns-then-not-areas_kept c = rw (← c.read-image.ensures) (search (lengths_refused, wrong_lengths, rules))
 
 pub prepare_on-requires : goal.prepare_on-requires
-prepare_on-requires c = (search rules, search rules, search (registers_long, rules), search (targets_long, rules))
+prepare_on-requires c = (rw c.read-image.ensures (search rules), search (registers_long, rules), search (targets_long, rules))

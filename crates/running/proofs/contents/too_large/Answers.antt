@@ -1,16 +1,10 @@
-use Rattle.model.proofs.Laws.Passes.{pass_laws}
+use Rattle.model.specs.Calls.{content_kept}
+use Rattle.model.specs.Image.{design_of}
 use Rattle.design.proofs.Laws.{registers_count}
+use Rattle.model.proofs.Laws.Chains.{failing_from_find}
 use borrow.Author.Rules.{rules}
 use Rattle.running.proofs.contents.too_large.Goals as goal
 
-pub loop-r-init : goal.loop-r-init
-loop-r-init c = search (pass_laws, rules)
-
-pub returns-then-not-content_kept : goal.returns-then-not-content_kept
-returns-then-not-content_kept c = search (pass_laws, registers_count, rules)
-
-pub loop-r-preserved : goal.loop-r-preserved
-loop-r-preserved c = search (pass_laws, rules)
-
 pub returns : goal.returns
-returns c = search (pass_laws, registers_count, rules)
+returns c =
+    failing_from_find _ (content_kept (design_of c.args.image.now.bytes.now) c.args.registers.now) c.find.ensures.ran (λ x b q k. search rules) (search (registers_count c.requires.0.describes))
