@@ -1,17 +1,10 @@
 // Tables of new numbers.
 ghost use Rattle.std.specs.Prelude.{◌<◌, ◌≡◌, length, get_or};
 
-// A number of 16 bits as an index.
-fn wide(n: u16) -> usize
-    ensures { result ≡ n }
-{
-    n as usize
-}
-
 // The new number of k.
 pub fn new_number(numbers: &[u16], k: usize) -> usize
     requires { k < length numbers.now }
     ensures { result ≡ get_or numbers.now k 0 }
 {
-    wide(numbers[k])
+    usize::from(numbers[k])
 }

@@ -1,9 +1,10 @@
 -- An order that has every node once is all that a table of so many entries begins with, so that new numbers had from the table are the places in the order.
 use Prim.Native.Nat.{ℕ, ◌≤◌, ◌<◌}
-use mathlib.Core.Path.{◌≡◌, sym, ◌∙◌, ap}
+use mathlib.Core.Path.{◌≡◌, refl, sym, ◌∙◌, ap}
 use mathlib.Core.List.{List}
 use native.Mathlib.Omega.{arith}
 use lib.ListN.{length, take}
+use Rattle.model.specs.Limits.{commands_max, expressions_max}
 use Rattle.model.specs.Image.{design_of}
 use Rattle.model.specs.Rules.{Keeps}
 use Rattle.design.specs.declared.Design.{Design as Described}
@@ -15,11 +16,17 @@ use Rattle.encoding.specs.Parts.{overwritten_at}
 use Rattle.filing_model.specs.Filed.{command_order, expression_order}
 use Rattle.filing_model.proofs.Counts.{Enumerates, enumerated_long}
 use Rattle.filing_model.proofs.Orders.{commands_enumerated, expressions_enumerated}
-use Rattle.filing_steps.specs.Tables.{EachBelow, Ordered, with_places, Numbered, tables_of, with_form, FormTables}
+use Rattle.filing_steps.specs.declared.tables.Orders.{Orders}
+use Rattle.filing_steps.specs.Tables.{EachBelow, Ordered, with_places, Numbered, with_form, FormTables}
 
 -- ---- an accepted image
-pub accepted_filing : {image : List ℕ} {x : Described} → Describes image x → Keeps image → Structured image x
-accepted_filing describes keeps = record { records = accepted_known keeps describes; structure = keeps.design.structure }
+pub read_keeps : {image read : List ℕ} → Keeps image → read ≡ image → Keeps read
+read_keeps keeps same = rw same keeps
+
+pub accepted_filing : {image read : List ℕ} {x : Described} → Keeps image → read ≡ image → Describes read x → Structured read x
+accepted_filing keeps same describes =
+    let kept = read_keeps keeps same in
+    record { records = accepted_known kept describes; structure = kept.design.structure }
 
 -- ---- a table that begins with an order of so many numbers
 module _ {order table : List ℕ} {count : ℕ} (all : Enumerates order count) (ordered : Ordered order table) where
@@ -54,18 +61,18 @@ module _ {image : List ℕ} {x : Described} (here : Structured image x) where
   pub expressions_reached : {table : List ℕ} → Ordered (expression_order (design_of image)) table → x.expressions ≤ length table
   expressions_reached ordered = reached expressions_all ordered
 
-  pub commands_below : {table : List ℕ} {room : ℕ} → Ordered (command_order (design_of image)) table → x.commands ≤ room → EachBelow room (take x.commands table)
-  commands_below ordered l = taken_below commands_all ordered l
+  pub commands_below : {table : List ℕ} {room : ℕ} → Ordered (command_order (design_of image)) table → commands_max ≤ room → EachBelow room (take x.commands table)
+  commands_below ordered l = taken_below commands_all ordered (omega (arith, commands_most describes))
 
-  pub expressions_below : {table : List ℕ} {room : ℕ} → Ordered (expression_order (design_of image)) table → x.expressions ≤ room → EachBelow room (take x.expressions table)
-  expressions_below ordered l = taken_below expressions_all ordered l
+  pub expressions_below : {table : List ℕ} {room : ℕ} → Ordered (expression_order (design_of image)) table → expressions_max ≤ room → EachBelow room (take x.expressions table)
+  expressions_below ordered l = taken_below expressions_all ordered (omega (arith, expressions_most describes))
 
-  pub form_tables : {commands command_numbers expressions expression_numbers : List ℕ}
-      → Ordered (command_order (design_of image)) commands
-      → Numbered (take x.commands commands) command_numbers
-      → Ordered (expression_order (design_of image)) expressions
-      → Numbered (take x.expressions expressions) expression_numbers
-      → FormTables (design_of image) commands command_numbers expressions expression_numbers
+  pub form_tables : {t : Orders}
+      → Ordered (command_order (design_of image)) t.commands
+      → Numbered (take x.commands t.commands) t.command_numbers
+      → Ordered (expression_order (design_of image)) t.expressions
+      → Numbered (take x.expressions t.expressions) t.expression_numbers
+      → FormTables (design_of image) t
   form_tables commands_ordered commands_numbered expressions_ordered expressions_numbered =
       record {
         commands_ordered = commands_ordered;
@@ -75,19 +82,16 @@ module _ {image : List ℕ} {x : Described} (here : Structured image x) where
       }
 
   pub form_filled :
-      (commands₀ command-numbers₀ expressions₀ expression-numbers₀ : List ℕ) {commands command_numbers expressions expression_numbers : List ℕ}
-      → commands ≡ overwritten_at 0 (command_order (design_of image)) commands₀
-      → Ordered (command_order (design_of image)) commands
-      → command_numbers ≡ with_places 0 (take x.commands commands) command-numbers₀
-      → expressions ≡ overwritten_at 0 (expression_order (design_of image)) expressions₀
-      → Ordered (expression_order (design_of image)) expressions
-      → expression_numbers ≡ with_places 0 (take x.expressions expressions) expression-numbers₀
-      → tables_of commands command_numbers expressions expression_numbers ≡ with_form (design_of image) (tables_of commands₀ command-numbers₀ expressions₀ expression-numbers₀)
+      (before : Orders) {after : Orders}
+      → after.commands ≡ overwritten_at 0 (command_order (design_of image)) before.commands
+      → Ordered (command_order (design_of image)) after.commands
+      → after.command_numbers ≡ with_places 0 (take x.commands after.commands) before.command_numbers
+      → after.expressions ≡ overwritten_at 0 (expression_order (design_of image)) before.expressions
+      → Ordered (expression_order (design_of image)) after.expressions
+      → after.expression_numbers ≡ with_places 0 (take x.expressions after.expressions) before.expression_numbers
+      → after ≡ with_form (design_of image) before
   unfolding with_form
-  form_filled commands₀ command-numbers₀ expressions₀ expression-numbers₀ {commands} {command_numbers} {expressions} {expression_numbers} a b c e f g =
-      let numbered : command_numbers ≡ with_places 0 (command_order (design_of image)) command-numbers₀ = c ∙ ap (λ (xs : List ℕ). with_places 0 xs command-numbers₀) (taken commands_all b) in
-      let numbered-too : expression_numbers ≡ with_places 0 (expression_order (design_of image)) expression-numbers₀ = g ∙ ap (λ (xs : List ℕ). with_places 0 xs expression-numbers₀) (taken expressions_all f) in
-      ap (λ (t : List ℕ). tables_of t command_numbers expressions expression_numbers) a
-      ∙ ap (λ (t : List ℕ). tables_of (overwritten_at 0 (command_order (design_of image)) commands₀) t expressions expression_numbers) numbered
-      ∙ ap (λ (t : List ℕ). tables_of (overwritten_at 0 (command_order (design_of image)) commands₀) (with_places 0 (command_order (design_of image)) command-numbers₀) t expression_numbers) e
-      ∙ ap (λ (t : List ℕ). tables_of (overwritten_at 0 (command_order (design_of image)) commands₀) (with_places 0 (command_order (design_of image)) command-numbers₀) (overwritten_at 0 (expression_order (design_of image)) expressions₀) t) numbered-too
+  form_filled before {after} a b c e f g =
+      let numbered : after.command_numbers ≡ with_places 0 (command_order (design_of image)) before.command_numbers = c ∙ ap (λ (xs : List ℕ). with_places 0 xs before.command_numbers) (taken commands_all b) in
+      let numbered-too : after.expression_numbers ≡ with_places 0 (expression_order (design_of image)) before.expression_numbers = g ∙ ap (λ (xs : List ℕ). with_places 0 xs before.expression_numbers) (taken expressions_all f) in
+      rw (← a, ← numbered, ← e, ← numbered-too) refl

@@ -1,113 +1,62 @@
 // The forms of two images compared byte by byte. Neither is written.
 ghost use Rattle.std.specs.Prelude.{◌≡◌};
-ghost use Rattle.model.specs.Image.{design_of};
+ghost use Rattle.design.specs.Images.{StructuredIn};
 ghost use Rattle.model.specs.Rules.{Keeps};
-ghost use Rattle.design.specs.Kept.{Structured};
 ghost use Rattle.filing_model.specs.Filed.{filed_image};
 ghost use Rattle.filing_model.specs.Order.{comes_before};
-ghost use Rattle.filing_steps.specs.Tables.{FormTables};
+ghost use Rattle.filing_steps.specs.Tables.{FormTablesIn};
 
 use crate::tables::fill;
 use design::Design;
+use design::image::Image;
 use filing_steps::bytes::form_byte;
+use filing_steps::tables::Orders;
 
 // Whether the form of the second image comes before that of the first, with the tables of both.
 fn second_before(
-    first: &[u8],
-    first_design: Design,
-    first_commands: &[u16],
-    first_command_numbers: &[u16],
-    first_expressions: &[u16],
-    first_expression_numbers: &[u16],
-    second: &[u8],
-    second_design: Design,
-    second_commands: &[u16],
-    second_command_numbers: &[u16],
-    second_expressions: &[u16],
-    second_expression_numbers: &[u16],
+    first: &Image,
+    first_orders: &Orders,
+    second: &Image,
+    second_orders: &Orders,
 ) -> bool
-    requires { Keeps first.now
-        × Structured first.now first_design
-        × FormTables (design_of first.now) first_commands.now first_command_numbers.now first_expressions.now first_expression_numbers.now
-        × Keeps second.now
-        × Structured second.now second_design
-        × FormTables (design_of second.now) second_commands.now second_command_numbers.now second_expressions.now second_expression_numbers.now }
-    ensures { result ≡ comes_before (filed_image second.now) (filed_image first.now) }
+    requires { Keeps first.now.bytes.now
+        × StructuredIn first.now
+        × FormTablesIn first.now first_orders.now
+        × Keeps second.now.bytes.now
+        × StructuredIn second.now
+        × FormTablesIn second.now second_orders.now }
+    ensures { result ≡ comes_before (filed_image second.now.bytes.now) (filed_image first.now.bytes.now) }
 {
-    let mut i = 0;
-    while (i < first.len()) & (i < second.len()) {
-        let one = form_byte(
-            first,
-            first_design,
-            first_commands,
-            first_command_numbers,
-            first_expressions,
-            first_expression_numbers,
-            i,
-        );
-        let other = form_byte(
-            second,
-            second_design,
-            second_commands,
-            second_command_numbers,
-            second_expressions,
-            second_expression_numbers,
-            i,
-        );
+    for i in 0..first.bytes.len().min(second.bytes.len()) {
+        let one = form_byte(first, first_orders, i);
+        let other = form_byte(second, second_orders, i);
         if other < one {
             return true;
         }
         if one < other {
             return false;
         }
-        i += 1;
     }
-    second.len() < first.len()
+    second.bytes.len() < first.bytes.len()
 }
 
 // The same, with the tables of the first image.
-fn second_before_first(
-    first: &[u8],
-    first_design: Design,
-    first_commands: &[u16],
-    first_command_numbers: &[u16],
-    first_expressions: &[u16],
-    first_expression_numbers: &[u16],
-    second: &[u8],
-) -> bool
-    requires { Keeps first.now
-        × Structured first.now first_design
-        × FormTables (design_of first.now) first_commands.now first_command_numbers.now first_expressions.now first_expression_numbers.now
+fn second_before_first(first: &Image, first_orders: &Orders, second: &[u8]) -> bool
+    requires { Keeps first.now.bytes.now
+        × StructuredIn first.now
+        × FormTablesIn first.now first_orders.now
         × Keeps second.now }
-    ensures { result ≡ comes_before (filed_image second.now) (filed_image first.now) }
+    ensures { result ≡ comes_before (filed_image second.now) (filed_image first.now.bytes.now) }
 {
-    let design = Design::read(second);
-    let mut commands = [0u16; Design::COMMANDS];
-    let mut command_numbers = [0u16; Design::COMMANDS];
-    let mut expressions = [0u16; Design::EXPRESSIONS];
-    let mut expression_numbers = [0u16; Design::EXPRESSIONS];
-    fill(
-        second,
-        design,
-        &mut commands,
-        &mut command_numbers,
-        &mut expressions,
-        &mut expression_numbers,
-    );
-    second_before(
-        first,
-        first_design,
-        first_commands,
-        first_command_numbers,
-        first_expressions,
-        first_expression_numbers,
-        second,
-        design,
-        &commands,
-        &command_numbers,
-        &expressions,
-        &expression_numbers,
-    )
+    let second = Image::read(second);
+    let mut orders = Orders {
+        commands: [0u16; Design::COMMANDS],
+        command_numbers: [0u16; Design::COMMANDS],
+        expressions: [0u16; Design::EXPRESSIONS],
+        expression_numbers: [0u16; Design::EXPRESSIONS],
+    };
+    fill(&second, &mut orders);
+    second_before(first, first_orders, &second, &orders)
 }
 
 // Whether the form of the second of two accepted images comes before that of the first.
@@ -115,26 +64,13 @@ pub fn second_earlier(first: &[u8], second: &[u8]) -> bool
     requires { Keeps first.now × Keeps second.now }
     ensures { result ≡ comes_before (filed_image second.now) (filed_image first.now) }
 {
-    let design = Design::read(first);
-    let mut commands = [0u16; Design::COMMANDS];
-    let mut command_numbers = [0u16; Design::COMMANDS];
-    let mut expressions = [0u16; Design::EXPRESSIONS];
-    let mut expression_numbers = [0u16; Design::EXPRESSIONS];
-    fill(
-        first,
-        design,
-        &mut commands,
-        &mut command_numbers,
-        &mut expressions,
-        &mut expression_numbers,
-    );
-    second_before_first(
-        first,
-        design,
-        &commands,
-        &command_numbers,
-        &expressions,
-        &expression_numbers,
-        second,
-    )
+    let first = Image::read(first);
+    let mut orders = Orders {
+        commands: [0u16; Design::COMMANDS],
+        command_numbers: [0u16; Design::COMMANDS],
+        expressions: [0u16; Design::EXPRESSIONS],
+        expression_numbers: [0u16; Design::EXPRESSIONS],
+    };
+    fill(&first, &mut orders);
+    second_before_first(&first, &orders, second)
 }

@@ -22,22 +22,15 @@ use model::Answer;
 pub fn file(image: &[u8], out: &mut [u8]) -> Answer
     ensures { left_as result out.new ≡ file_of image.now out.old }
 {
-    let verdict = checker::verdict(image);
-    match verdict {
-        Answer::Refused(refusal, place) => Answer::Refused(refusal, place),
-        Answer::Accepted(_) => file_accepted(image, out),
-    }
+    checker::verdict(image)?;
+    file_accepted(image, out)
 }
 
 // Whether an image is accepted.
 fn accepts(image: &[u8]) -> bool
     ensures { result ≡ accepts_in (verdict_of image.now) }
 {
-    let verdict = checker::verdict(image);
-    match verdict {
-        Answer::Refused(_, _) => false,
-        Answer::Accepted(_) => true,
-    }
+    checker::verdict(image).is_ok()
 }
 
 // Which of two images has the earlier form.

@@ -1,30 +1,27 @@
 // The tables of a filing: the orders of both families of nodes, and their new numbers.
-ghost use Rattle.std.specs.Prelude.{◌≤◌, ◌≡◌, length};
-ghost use Rattle.model.specs.Image.{design_of};
-ghost use Rattle.design.specs.Kept.{Structured};
-ghost use Rattle.filing_steps.specs.Tables.{tables_of, with_form, FormTables};
+ghost use Rattle.std.specs.Prelude.{◌≡◌};
+ghost use Rattle.design.specs.Images.{design_in, StructuredIn};
+ghost use Rattle.filing_steps.specs.Tables.{with_form, FormTablesIn};
 
-use design::Design;
+use design::image::Image;
 use filing_steps::numbering::number;
 use filing_steps::ordering::{order_commands, order_expressions};
+use filing_steps::tables::Orders;
 
-pub fn fill(
-    image: &[u8],
-    design: Design,
-    commands: &mut [u16],
-    command_numbers: &mut [u16],
-    expressions: &mut [u16],
-    expression_numbers: &mut [u16],
-)
-    requires { Structured image.now design
-        × (design.commands ≤ length commands.old)
-        × (design.commands ≤ length command_numbers.old)
-        × (design.expressions ≤ length expressions.old)
-        × (design.expressions ≤ length expression_numbers.old) }
-    ensures { (tables_of commands.new command_numbers.new expressions.new expression_numbers.new ≡ with_form (design_of image.now) (tables_of commands.old command_numbers.old expressions.old expression_numbers.old)) × FormTables (design_of image.now) commands.new command_numbers.new expressions.new expression_numbers.new }
+pub fn fill(image: &Image, orders: &mut Orders)
+    requires { StructuredIn image.now }
+    ensures { (orders.new ≡ with_form (design_in image.now) orders.old) × FormTablesIn image.now orders.new }
 {
-    order_commands(image, design, commands);
-    number(commands, design.commands, command_numbers);
-    order_expressions(image, design, commands, expressions);
-    number(expressions, design.expressions, expression_numbers);
+    order_commands(image, &mut orders.commands);
+    number(
+        &orders.commands,
+        image.design.commands,
+        &mut orders.command_numbers,
+    );
+    order_expressions(image, &orders.commands, &mut orders.expressions);
+    number(
+        &orders.expressions,
+        image.design.expressions,
+        &mut orders.expression_numbers,
+    );
 }

@@ -1,47 +1,30 @@
 // The filing form written into an output area.
 ghost use Rattle.std.specs.Prelude.{◌≤◌, ◌≡◌, length};
-ghost use Rattle.model.specs.Image.{design_of};
+ghost use Rattle.design.specs.Images.{StructuredIn};
 ghost use Rattle.model.specs.Rules.{Keeps};
-ghost use Rattle.design.specs.Kept.{Structured};
 ghost use Rattle.encoding.specs.Parts.{over};
 ghost use Rattle.filing_model.specs.Filed.{filed_image};
-ghost use Rattle.filing_steps.specs.Tables.{FormTables};
+ghost use Rattle.filing_steps.specs.Tables.{FormTablesIn};
 ghost use Rattle.filing.specs.Stages.{file_on};
 ghost use Rattle.model.specs.Calls.{left_as};
 
 use crate::tables::fill;
 use design::Design;
+use design::image::Image;
 use filing_steps::bytes::form_byte;
+use filing_steps::tables::Orders;
 use model::{Answer, Refusal};
 
 // All bytes of the form.
-fn write(
-    image: &[u8],
-    design: Design,
-    commands: &[u16],
-    command_numbers: &[u16],
-    expressions: &[u16],
-    expression_numbers: &[u16],
-    out: &mut [u8],
-)
-    requires { Keeps image.now
-        × Structured image.now design
-        × FormTables (design_of image.now) commands.now command_numbers.now expressions.now expression_numbers.now
-        × (length image.now ≤ length out.old) }
-    ensures { out.new ≡ over (filed_image image.now) out.old }
+fn write(image: &Image, orders: &Orders, out: &mut [u8])
+    requires { Keeps image.now.bytes.now
+        × StructuredIn image.now
+        × FormTablesIn image.now orders.now
+        × (length image.now.bytes.now ≤ length out.old) }
+    ensures { out.new ≡ over (filed_image image.now.bytes.now) out.old }
 {
-    let mut i = 0;
-    while i < image.len() {
-        out[i] = form_byte(
-            image,
-            design,
-            commands,
-            command_numbers,
-            expressions,
-            expression_numbers,
-            i,
-        );
-        i += 1;
+    for i in 0..image.bytes.len() {
+        out[i] = form_byte(image, orders, i);
     }
 }
 
@@ -50,28 +33,15 @@ fn write_accepted(image: &[u8], out: &mut [u8])
     requires { Keeps image.now × (length image.now ≤ length out.old) }
     ensures { out.new ≡ over (filed_image image.now) out.old }
 {
-    let design = Design::read(image);
-    let mut commands = [0u16; Design::COMMANDS];
-    let mut command_numbers = [0u16; Design::COMMANDS];
-    let mut expressions = [0u16; Design::EXPRESSIONS];
-    let mut expression_numbers = [0u16; Design::EXPRESSIONS];
-    fill(
-        image,
-        design,
-        &mut commands,
-        &mut command_numbers,
-        &mut expressions,
-        &mut expression_numbers,
-    );
-    write(
-        image,
-        design,
-        &commands,
-        &command_numbers,
-        &expressions,
-        &expression_numbers,
-        out,
-    );
+    let image = Image::read(image);
+    let mut orders = Orders {
+        commands: [0u16; Design::COMMANDS],
+        command_numbers: [0u16; Design::COMMANDS],
+        expressions: [0u16; Design::EXPRESSIONS],
+        expression_numbers: [0u16; Design::EXPRESSIONS],
+    };
+    fill(&image, &mut orders);
+    write(&image, &orders, out);
 }
 
 // Filing an accepted image. The form is as long as the image.
@@ -80,8 +50,8 @@ pub fn file_accepted(image: &[u8], out: &mut [u8]) -> Answer
     ensures { left_as result out.new ≡ file_on image.now out.old }
 {
     if out.len() < image.len() {
-        return Answer::Refused(Refusal::OutputArea, 0);
+        return Err(Refusal::OutputArea.at(0));
     }
     write_accepted(image, out);
-    Answer::Accepted(image.len())
+    Ok(image.len())
 }

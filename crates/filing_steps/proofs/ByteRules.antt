@@ -8,7 +8,7 @@ use lib.Seq.{get_or-take}
 use mir.Syntax.{w8}
 use mir.Val.{Fits}
 use Rattle.model.specs.Limits.{state_length, node_length}
-use Rattle.model.specs.Image.{Section, Labels, Registers, States, Commands, Expressions, record_length, count, size, Design as Table, State, Node, byte_at, design_of, state_at, command_at, expression_at}
+use Rattle.model.specs.Image.{Section, Labels, Registers, States, Commands, Expressions, record_length, offset, count, size, Design as Table, State, Node, byte_at, design_of, state_at, command_at, expression_at}
 use Rattle.model.specs.Kinds.{CommandKind, skips, assigns, sequences, falls, goes, branches, unknown_command, ExpressionKind, constants, reads, operates, unknown_expression, command_kind, expression_kind}
 use Rattle.model.specs.Rules.{Keeps}
 use Rattle.model.proofs.Exact.{verdict_exact}
@@ -332,6 +332,5 @@ module _ {image : List ℕ} {x : Design} (known : Structured image x) where
       ∙ ap (byte_at (image_of (filed (design_of image)))) place
 
 -- in front of the states, where every byte of the image is one
-pub form_front : (image : List ℕ) → ((i : ℕ) → Fits w8 (get_or image i 0)) → {x : Design} {i r : ℕ} → i < x.states_at → r ≡ byte_at image i → Structured image x → Keeps image → r ≡ byte_at (filed_image image) i
-form_front image bytes {i = i} l h known keeps =
-    h ∙ sym (filed_front image (λ j. (bytes j).fits) ((verdict_exact image).1 keeps) i (omega (arith, known.records.describes.states_at)))
+pub form_front : (image : List ℕ) → ((i : ℕ) → Fits w8 (get_or image i 0)) → {i r : ℕ} → i < offset image States → r ≡ byte_at image i → Keeps image → r ≡ byte_at (filed_image image) i
+form_front image bytes {i = i} l h keeps = h ∙ sym (filed_front image (λ j. (bytes j).fits) ((verdict_exact image).1 keeps) i l)

@@ -14,31 +14,15 @@ use Rattle.design.specs.Records.{node_in}
 use Rattle.design.specs.RecordsAt.{CommandAt, ExpressionAt}
 use Rattle.design.specs.Kept.{Structured}
 use Rattle.design.proofs.Laws.{expressions_count}
-use Rattle.design.proofs.FieldRules.{command_below, same_command, command_kind_is, command_kind_of, a_is, same_expression, expression_kind_is, expression_holds_lem, operation}
+use Rattle.design.proofs.FieldRules.{command_below, same_command, command_kind_is, command_kind_of, a_is, b_is, same_expression, first_is, second_is, expression_kind_is, expression_holds_lem, operation}
 use Rattle.renumbering.specs.Renumbering.{renumbered_command, renumbered_expression}
 use Rattle.filing_model.specs.Filed.{command_order, expression_order, new_command, new_expression, command_filed, expression_filed}
 use Rattle.filing_model.proofs.Counts.{enumerated}
 use Rattle.filing_model.proofs.Orders.{commands_enumerated, expressions_enumerated}
 use Rattle.filing_steps.specs.Tables.{Numbered}
-use Rattle.filing_steps.specs.Fields.{field_of, IsOperation}
+use Rattle.filing_steps.specs.Fields.{field_of, with_pair}
 
 -- ---- a field by its number
-module _ (image : List ℕ) (at n : ℕ) where
-  pub field_a : {f r : ℕ} → f ≡ 1 → r ≡ (node_in image at n).a → r ≡ field_of f (node_in image at n)
-  field_a e h = rw e h
-
-  pub field_b : {f r : ℕ} → f ≡ 2 → r ≡ (node_in image at n).b → r ≡ field_of f (node_in image at n)
-  field_b e h = rw e h
-
-  pub field_c : {f r : ℕ} → (f ≡ 1 → ⊥) → (f ≡ 2 → ⊥) → r ≡ (node_in image at n).c → r ≡ field_of f (node_in image at n)
-  field_c {f} {r} first second h = go f first second
-    where
-      go : (f : ℕ) → (f ≡ 1 → ⊥) → (f ≡ 2 → ⊥) → r ≡ field_of f (node_in image at n)
-      go zero first second = h
-      go (suc zero) first second = absurd (first refl)
-      go (suc (suc zero)) first second = absurd (second refl)
-      go (suc (suc (suc f))) first second = h
-
 -- what holds of a, b and c holds of each field
 by_field : (P : ℕ → Type 0) → P 1 → P 2 → P 3 → (f : ℕ) → 1 ≤ f → f ≤ 3 → P f
 by_field P a b c zero low high = absurd (omega arith)
@@ -46,6 +30,26 @@ by_field P a b c (suc zero) low high = a
 by_field P a b c (suc (suc zero)) low high = b
 by_field P a b c (suc (suc (suc zero))) low high = c
 by_field P a b c (suc (suc (suc (suc f)))) low high = absurd (omega arith)
+
+-- ---- a node whose parts are a and b
+module _ (x : Node) (numbers : List ℕ) (f : ℕ) where
+  pub pair_same : {r : ℕ} → f ≡ 3 → r ≡ field_of f x → r ≡ field_of f (with_pair numbers x)
+  pair_same q e = e ∙ ap (λ (g : ℕ). field_of g x) q ∙ ap (λ (g : ℕ). field_of g (with_pair numbers x)) (sym q)
+
+  pub pair_inside : {old : ℕ} → (f ≡ 3 → ⊥) → old ≡ field_of f x → 1 ≤ f → f ≤ 3 → x.a < length numbers → x.b < length numbers → old < length numbers
+  pair_inside other e low high a b =
+      rw e (by_field (λ g. (g ≡ 3 → ⊥) → field_of g x < length numbers) (λ o. a) (λ o. b) (λ o. absurd (o refl)) f low high other)
+
+  pub pair_new : {old r : ℕ} → (f ≡ 3 → ⊥) → r ≡ get_or numbers old 0 → old ≡ field_of f x → 1 ≤ f → f ≤ 3 → r ≡ field_of f (with_pair numbers x)
+  pair_new other new e low high =
+      new
+      ∙ ap (λ (m : ℕ). get_or numbers m 0) e
+      ∙ by_field (λ g. (g ≡ 3 → ⊥) → get_or numbers (field_of g x) 0 ≡ field_of g (with_pair numbers x)) (λ o. refl) (λ o. refl) (λ o. absurd (o refl)) f low high other
+
+  -- entries that are new numbers
+  pair_as : {a b r : ℕ} → r ≡ field_of f (with_pair numbers x) → get_or numbers x.a 0 ≡ a → get_or numbers x.b 0 ≡ b
+      → r ≡ field_of f (record { kind = x.kind; item = x.item; a = a; b = b; c = x.c })
+  pair_as e p q = rw (← p, ← q) e
 
 -- ---- fields under new numbers
 -- a node as it is filed, were it of a kind
@@ -67,14 +71,9 @@ module _ (d : Table) (y : Node) where
   assign_other (suc (suc zero)) other = refl
   assign_other (suc (suc (suc f))) other = refl
 
-  sequence_part : (f : ℕ) → 1 ≤ f → f ≤ 3 → (f ≡ 3 → ⊥) → field_of f (command_as d sequences y) ≡ new_command d (field_of f y)
+  sequence_is : command_as d sequences y ≡ (record { kind = y.kind; item = y.item; a = new_command d y.a; b = new_command d y.b; c = y.c })
   unfolding renumbered_command
-  sequence_part =
-      by_field (λ f. (f ≡ 3 → ⊥) → field_of f (command_as d sequences y) ≡ new_command d (field_of f y)) (λ other. refl) (λ other. refl) (λ other. absurd (other refl))
-
-  sequence_c : field_of 3 (command_as d sequences y) ≡ field_of 3 y
-  unfolding renumbered_command
-  sequence_c = refl
+  sequence_is = refl
 
   branch_a : field_of 1 (command_as d branches y) ≡ new_expression d (field_of 1 y)
   unfolding renumbered_command
@@ -85,14 +84,9 @@ module _ (d : Table) (y : Node) where
   branch_part =
       by_field (λ f. (f ≡ 1 → ⊥) → field_of f (command_as d branches y) ≡ new_command d (field_of f y)) (λ other. absurd (other refl)) (λ other. refl) (λ other. refl)
 
-  operation_part : (o : Operation) (f : ℕ) → 1 ≤ f → f ≤ 3 → (f ≡ 3 → ⊥) → field_of f (expression_as d (operates o) y) ≡ new_expression d (field_of f y)
+  operation_is : (o : Operation) → expression_as d (operates o) y ≡ (record { kind = y.kind; item = y.item; a = new_expression d y.a; b = new_expression d y.b; c = y.c })
   unfolding renumbered_expression
-  operation_part o =
-      by_field (λ f. (f ≡ 3 → ⊥) → field_of f (expression_as d (operates o) y) ≡ new_expression d (field_of f y)) (λ other. refl) (λ other. refl) (λ other. absurd (other refl))
-
-  operation_c : (o : Operation) → field_of 3 (expression_as d (operates o) y) ≡ field_of 3 y
-  unfolding renumbered_expression
-  operation_c o = refl
+  operation_is o = refl
 
   -- an expression of a lower kind is as it was
   plain_is : {k : ℕ} → k < 2 → expression_as d (expression_kind k) y ≡ y
@@ -129,6 +123,27 @@ module _ {image : List ℕ} {x : Design} (known : Structured image x) {numbers :
   expression_new {m} table l e = e ∙ table.entry m (enumerated (expressions_enumerated (design_of image) known.structure) m l)
 
 -- ---- a command
+-- its kind by the kind byte
+module _ {image : List ℕ} {x : Design} {place n k : ℕ} (here : CommandAt image x place n) where
+  pub is_assignment : k ≡ 1 → k ≡ (node_in image place n).kind → command_kind (command_at (design_of image) n).kind ≡ assigns
+  is_assignment q p = command_kind_of here assigns q p (kind_assigns refl)
+
+  pub is_sequence : k ≡ 2 → k ≡ (node_in image place n).kind → command_kind (command_at (design_of image) n).kind ≡ sequences
+  is_sequence q p = command_kind_of here sequences q p (kind_sequences refl)
+
+  pub is_branch : k ≡ 5 → k ≡ (node_in image place n).kind → command_kind (command_at (design_of image) n).kind ≡ branches
+  is_branch q p = command_kind_of here branches q p (kind_branches refl)
+
+  pub other_same : (f : ℕ) {r : ℕ} → (k ≡ 1 → ⊥) → (k ≡ 2 → ⊥) → (k ≡ 5 → ⊥) → k ≡ (node_in image place n).kind → r ≡ field_of f (node_in image place n)
+      → r ≡ field_of f (command_filed (design_of image) (command_at (design_of image) n))
+  other_same f one two five p e =
+      let y = command_at (design_of image) n in
+      let kind : y.kind ≡ k = command_kind_is here refl p in
+      e
+      ∙ ap (field_of f) (same_command here)
+      ∙ ap (field_of f) (sym (other_is (design_of image) y one two five))
+      ∙ ap (λ (j : ℕ). field_of f (command_as (design_of image) (command_kind j) y)) (sym kind)
+
 module _ {image : List ℕ} {x : Design} {place n : ℕ} (known : Structured image x) (here : CommandAt image x place n) where
   abbrev own : Node
   own = command_at (design_of image) n
@@ -169,31 +184,24 @@ module _ {image : List ℕ} {x : Design} {place n : ℕ} (known : Structured ima
       field_is f e ∙ sym (assign_other (design_of image) own f other) ∙ filed_as f assigns kind
 
   -- a sequence
-  sequence_below : {f old : ℕ} → (f ≡ 3 → ⊥) → old ≡ field_of f (node_in image place n) → 1 ≤ f → f ≤ 3 → command_kind own.kind ≡ sequences → old < length (design_of image).commands
-  sequence_below {f} other e low high kind =
-      rw (field_is f e) (lower (by_field (λ g. (g ≡ 3 → ⊥) → field_of g own < n) (λ o. (holds sequences kind).1) (λ o. (holds sequences kind).2) (λ o. absurd (o refl)) f low high other))
+  part_below : {m old : ℕ} → old ≡ m → m < n → old < length (design_of image).commands
+  part_below e l = rw e (lower l)
 
-  pub sequence_inside : {f old : ℕ} {numbers : List ℕ} → (f ≡ 3 → ⊥) → old ≡ field_of f (node_in image place n) → 1 ≤ f → f ≤ 3 → command_kind own.kind ≡ sequences
-      → Numbered (command_order (design_of image)) numbers
-      → old < length numbers
-  sequence_inside other e low high kind table = command_numbered known table (sequence_below other e low high kind)
+  pub sequence_a : {k : ℕ} {numbers : List ℕ} → k ≡ 2 → k ≡ (node_in image place n).kind → Numbered (command_order (design_of image)) numbers → (node_in image place n).a < length numbers
+  sequence_a q p table = command_numbered known table (part_below (a_is here refl) (holds sequences (is_sequence here q p)).1)
 
-  pub sequence_new : {f old r : ℕ} {numbers : List ℕ} → (f ≡ 3 → ⊥) → r ≡ get_or numbers old 0 → old ≡ field_of f (node_in image place n) → 1 ≤ f → f ≤ 3 → command_kind own.kind ≡ sequences
-      → Numbered (command_order (design_of image)) numbers
+  pub sequence_b : {k : ℕ} {numbers : List ℕ} → k ≡ 2 → k ≡ (node_in image place n).kind → Numbered (command_order (design_of image)) numbers → (node_in image place n).b < length numbers
+  sequence_b q p table = command_numbered known table (part_below (b_is here refl) (holds sequences (is_sequence here q p)).2)
+
+  pub sequence_new : (f : ℕ) {k r : ℕ} {numbers : List ℕ} → k ≡ 2 → k ≡ (node_in image place n).kind → Numbered (command_order (design_of image)) numbers
+      → r ≡ field_of f (with_pair numbers (node_in image place n))
       → r ≡ field_of f (command_filed (design_of image) own)
-  sequence_new {f} other new e low high kind table =
-      command_new known table (sequence_below other e low high kind) new
-      ∙ ap (new_command (design_of image)) (field_is f e)
-      ∙ sym (sequence_part (design_of image) own f low high other)
+  sequence_new f {k} {r} {numbers} q p table e =
+      let kind = is_sequence here q p in
+      let found : r ≡ field_of f (with_pair numbers own) = e ∙ ap (λ (y : Node). field_of f (with_pair numbers y)) (same_command here) in
+      pair_as own numbers f found (command_new known table (lower (holds sequences kind).1) refl) (command_new known table (lower (holds sequences kind).2) refl)
+      ∙ ap (field_of f) (sym (sequence_is (design_of image) own))
       ∙ filed_as f sequences kind
-
-  pub sequence_same : {f r : ℕ} → f ≡ 3 → r ≡ field_of f (node_in image place n) → command_kind own.kind ≡ sequences → r ≡ field_of f (command_filed (design_of image) own)
-  sequence_same {f} {r} q e kind =
-      let third : r ≡ field_of 3 own = field_is 3 (e ∙ ap (λ (g : ℕ). field_of g (node_in image place n)) q) in
-      third
-      ∙ sym (sequence_c (design_of image) own)
-      ∙ filed_as 3 sequences kind
-      ∙ ap (λ (g : ℕ). field_of g (command_filed (design_of image) own)) (sym q)
 
   -- an if
   condition_is : {f old : ℕ} → f ≡ 1 → old ≡ field_of f (node_in image place n) → old ≡ own.a
@@ -235,27 +243,6 @@ module _ {image : List ℕ} {x : Design} {place n : ℕ} (known : Structured ima
       ∙ sym (branch_part (design_of image) own f low high other)
       ∙ filed_as f branches kind
 
--- its kind by the kind byte
-module _ {image : List ℕ} {x : Design} {place n k : ℕ} (here : CommandAt image x place n) where
-  pub is_assignment : k ≡ 1 → k ≡ (node_in image place n).kind → command_kind (command_at (design_of image) n).kind ≡ assigns
-  is_assignment q p = command_kind_of here assigns q p (kind_assigns refl)
-
-  pub is_sequence : k ≡ 2 → k ≡ (node_in image place n).kind → command_kind (command_at (design_of image) n).kind ≡ sequences
-  is_sequence q p = command_kind_of here sequences q p (kind_sequences refl)
-
-  pub is_branch : k ≡ 5 → k ≡ (node_in image place n).kind → command_kind (command_at (design_of image) n).kind ≡ branches
-  is_branch q p = command_kind_of here branches q p (kind_branches refl)
-
-  pub other_same : (f : ℕ) {r : ℕ} → (k ≡ 1 → ⊥) → (k ≡ 2 → ⊥) → (k ≡ 5 → ⊥) → k ≡ (node_in image place n).kind → r ≡ field_of f (node_in image place n)
-      → r ≡ field_of f (command_filed (design_of image) (command_at (design_of image) n))
-  other_same f one two five p e =
-      let y = command_at (design_of image) n in
-      let kind : y.kind ≡ k = command_kind_is here refl p in
-      e
-      ∙ ap (field_of f) (same_command here)
-      ∙ ap (field_of f) (sym (other_is (design_of image) y one two five))
-      ∙ ap (λ (j : ℕ). field_of f (command_as (design_of image) (command_kind j) y)) (sym kind)
-
 -- ---- an expression
 module _ {image : List ℕ} {x : Design} {place e : ℕ} (here : ExpressionAt image x place e) where
   abbrev expression : Node
@@ -271,8 +258,8 @@ module _ {image : List ℕ} {x : Design} {place e : ℕ} (here : ExpressionAt im
   pub no_kind : {k : ℕ} → expression_kinds ≤ k → k ≡ (node_in image place e).kind → ⊥
   no_kind {k} l p = rw (no_expression_kind {k = k} l) at (expression_holds_lem here p)
 
-  pub is_operation_lem : {k : ℕ} → 2 ≤ k → k < expression_kinds → k ≡ (node_in image place e).kind → IsOperation expression
-  is_operation_lem low l p = let found = operation here l (omega arith) (λ q. omega arith) p in record { operation = found.0; is = found.1 }
+  operation_here : {k : ℕ} → 2 ≤ k → k < expression_kinds → k ≡ (node_in image place e).kind → (o : Operation) × (expression_kind expression.kind ≡ operates o)
+  operation_here low l p = let found = operation here l (omega arith) (λ q. omega arith) p in (found.0, found.1)
 
   pub plain_same : (f : ℕ) {k r : ℕ} → k < 2 → k ≡ (node_in image place e).kind → r ≡ field_of f (node_in image place e) → r ≡ field_of f (expression_filed (design_of image) expression)
   plain_same f {k} l p h =
@@ -281,38 +268,27 @@ module _ {image : List ℕ} {x : Design} {place e : ℕ} (here : ExpressionAt im
       ∙ ap (field_of f) (sym (plain_is (design_of image) expression l))
       ∙ ap (λ (j : ℕ). field_of f (expression_as (design_of image) (expression_kind j) expression)) (sym kind)
 
-  module _ (known : Structured image x) (operates-here : IsOperation expression) where
-    filed_operation : (f : ℕ)
-        → field_of f (expression_as (design_of image) (operates operates-here.operation) expression)
-        ≡ field_of f (expression_filed (design_of image) expression)
-    filed_operation f = ap (λ k. field_of f (expression_as (design_of image) k expression)) (sym operates-here.is)
+  module _ (known : Structured image x) {k : ℕ} {numbers : List ℕ} (low : 2 ≤ k) (high : k < expression_kinds) (p : k ≡ (node_in image place e).kind) (table : Numbered (expression_order (design_of image)) numbers) where
+    is : expression_kind expression.kind ≡ operates (operation_here low high p).0
+    is = (operation_here low high p).1
 
-    operand_below : {f old : ℕ} → (f ≡ 3 → ⊥) → old ≡ field_of f (node_in image place e) → 1 ≤ f → f ≤ 3 → old < length (design_of image).expressions
-    operand_below {f} {old} other h low high =
-        let holds : ExpressionHolds (design_of image) e (operates operates-here.operation) expression = rw operates-here.is at (known.structure.expressions e expression_below) in
-        let below : field_of f expression < e = by_field (λ g. (g ≡ 3 → ⊥) → field_of g expression < e) (λ o. holds.1) (λ o. holds.2) (λ o. absurd (o refl)) f low high other in
-        let own = expression_below in
-        let is = expression_field f h in
-        omega arith
+    operands : (expression.a < e) × (expression.b < e)
+    operands =
+        let holds : ExpressionHolds (design_of image) e (operates (operation_here low high p).0) expression = rw is at (known.structure.expressions e expression_below) in
+        (holds.1, holds.2)
 
-    pub operand_inside : {f old : ℕ} {numbers : List ℕ} → (f ≡ 3 → ⊥) → old ≡ field_of f (node_in image place e) → 1 ≤ f → f ≤ 3
-        → Numbered (expression_order (design_of image)) numbers
-        → old < length numbers
-    operand_inside other h low high table = expression_numbered known table (operand_below other h low high)
+    operand : {m old : ℕ} → old ≡ m → m < e → old < length (design_of image).expressions
+    operand q l = let own = expression_below in omega arith
 
-    pub operand_new : {f old r : ℕ} {numbers : List ℕ} → (f ≡ 3 → ⊥) → r ≡ get_or numbers old 0 → old ≡ field_of f (node_in image place e) → 1 ≤ f → f ≤ 3
-        → Numbered (expression_order (design_of image)) numbers
-        → r ≡ field_of f (expression_filed (design_of image) expression)
-    operand_new {f} other new h low high table =
-        expression_new known table (operand_below other h low high) new
-        ∙ ap (new_expression (design_of image)) (expression_field f h)
-        ∙ sym (operation_part (design_of image) expression operates-here.operation f low high other)
-        ∙ filed_operation f
+    pub operation_a : (node_in image place e).a < length numbers
+    operation_a = expression_numbered known table (operand (first_is here refl) operands.0)
 
-    pub operation_same : {f r : ℕ} → f ≡ 3 → r ≡ field_of f (node_in image place e) → r ≡ field_of f (expression_filed (design_of image) expression)
-    operation_same {f} {r} q h =
-        let third : r ≡ field_of 3 expression = expression_field 3 (h ∙ ap (λ (g : ℕ). field_of g (node_in image place e)) q) in
-        third
-        ∙ sym (operation_c (design_of image) expression operates-here.operation)
-        ∙ filed_operation 3
-        ∙ ap (λ (g : ℕ). field_of g (expression_filed (design_of image) expression)) (sym q)
+    pub operation_b : (node_in image place e).b < length numbers
+    operation_b = expression_numbered known table (operand (second_is here refl) operands.1)
+
+    pub operation_new : (f : ℕ) {r : ℕ} → r ≡ field_of f (with_pair numbers (node_in image place e)) → r ≡ field_of f (expression_filed (design_of image) expression)
+    operation_new f {r} h =
+        let found : r ≡ field_of f (with_pair numbers expression) = h ∙ ap (λ (y : Node). field_of f (with_pair numbers y)) (same_expression here) in
+        pair_as expression numbers f found (expression_new known table (operand refl operands.0) refl) (expression_new known table (operand refl operands.1) refl)
+        ∙ ap (field_of f) (sym (operation_is (design_of image) expression (operation_here low high p).0))
+        ∙ ap (λ (k : ExpressionKind). field_of f (expression_as (design_of image) k expression)) (sym is)

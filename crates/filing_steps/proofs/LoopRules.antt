@@ -6,7 +6,7 @@ use mathlib.Core.List.{List, [], ◌∷◌, ◌++◌, append-nil, append_assoc}
 use native.Mathlib.Omega.{arith}
 use native.Mathlib.Numerals.{add-one}
 use lib.ListN.{length, get_or, take, drop, length-append}
-use lib.Seq.{get_or-take, take_at}
+use lib.Seq.{take_at}
 use Rattle.model.specs.Indices.{join_below, join_each}
 use Rattle.model.specs.Image.{Design, design_of, state_at}
 use Rattle.model.specs.Nodes.{parts_of}
@@ -95,14 +95,6 @@ below_begins : (piece : ℕ → List ℕ) (count : ℕ) (before : List ℕ) → 
 unfolding join_below
 below_begins piece count before room = record { so = put_none before 0; most = omega arith; room = room; long = refl }
 
--- ---- a table that begins with an order
-module _ {order table : List ℕ} (told : Ordered order table) where
-  ordered_inside : {i : ℕ} → i < length order → i < length table
-  ordered_inside l = let long = told.long in omega arith
-
-  ordered_entry : (i : ℕ) → i < length order → get_or table i 0 ≡ get_or order i 0
-  ordered_entry i l = sym (get_or-take (length order) table i 0 l) ∙ ap (λ (xs : List ℕ). get_or xs i 0) told.begins
-
 -- ---- the commands, state by state
 abbrev pub body_piece : Design → ℕ → List ℕ
 body_piece d s = parts_first (parts_of d) (state_at d s).command
@@ -126,10 +118,9 @@ module _ {image : List ℕ} {x : Described} (here : Structured image x) where
       body_piece_lem : parts_first (parts_of (design_of image)) n ≡ body_piece (design_of image) s
       body_piece_lem = ap (λ (m : ℕ). parts_first (parts_of (design_of image)) m) (body_is here.records.describes l e)
 
-      pub body_ordering : OrderingCommand image x.commands_at n now k
+      pub body_ordering : OrderingCommand image x n now k
       body_ordering =
           record {
-            design = x;
             commands = here.records.commands;
             command = command_at_lem here.records.describes here.records.commands (body_below here.records.describes l e here.records.states) refl;
             room = rw body_piece_lem (below_room put.put l);
@@ -143,9 +134,6 @@ module _ {image : List ℕ} {x : Described} (here : Structured image x) where
 
     pub bodies_whole : x.states ≤ s → now ≡ overwritten_at 0 (command_order (design_of image)) before
     bodies_whole l = rw bodies_are at (below_whole put.put l)
-
-pub bodies_long : {image before now : List ℕ} {x : Described} {s k : ℕ} → BodiesPut image x before s k now → length now ≡ length before
-bodies_long put = put.put.long
 
 -- ---- the expressions, command by command in the commands' new order
 abbrev pub value_piece : Design → ℕ → List ℕ
@@ -168,33 +156,38 @@ module _ {image : List ℕ} {x : Described} (here : Structured image x) where
       let long = ap length values_are ∙ expressions_long (design_of image) here.structure in
       record { put = below_begins (value_piece (design_of image)) x.commands before (omega arith) }
 
-  module _ {commands : List ℕ} (told : Ordered (command_order (design_of image)) commands) {i : ℕ} (l : i < x.commands) where
-    pub command_entry : i < length commands
-    command_entry = ordered_inside told (omega (arith, order_long))
+  -- the table of commands begins with their order
+  module _ {commands : List ℕ} (told : Ordered (command_order (design_of image)) commands) where
+    commands_are : take x.commands commands ≡ command_order (design_of image)
+    commands_are = ap (λ (m : ℕ). take m commands) (sym order_long) ∙ told.begins
 
-    module _ {n : ℕ} (e : n ≡ get_or commands i 0) where
+    pub commands_begin : x.commands ≡ length (take x.commands commands)
+    commands_begin = sym (ap length commands_are ∙ order_long)
+
+  module _ {commands : List ℕ} (told : Ordered (command_order (design_of image)) commands) {i : ℕ} (l : i < length (take x.commands commands)) where
+    i_below : i < x.commands
+    i_below = let long = commands_begin told in omega arith
+
+    module _ {n : ℕ} (e : n ≡ get_or (take x.commands commands) i 0) where
       entry_is : n ≡ get_or (command_order (design_of image)) i 0
-      entry_is = e ∙ ordered_entry told i (omega (arith, order_long))
+      entry_is = e ∙ ap (λ (xs : List ℕ). get_or xs i 0) (commands_are told)
 
       pub entry_command : CommandAt image x x.commands_at n
       entry_command =
           let below : n < length (design_of image).commands =
-          rw entry_is (command_below (design_of image) here.structure (get_or (command_order (design_of image)) i 0) (entry_stands (command_order (design_of image)) i (omega (arith, order_long)))) in
+          rw entry_is (command_below (design_of image) here.structure (get_or (command_order (design_of image)) i 0) (entry_stands (command_order (design_of image)) i (omega (arith, order_long, i_below)))) in
           let count = commands_count here.records.describes in
           command_at_lem here.records.describes here.records.commands (omega arith) refl
 
       module _ {before now : List ℕ} {k : ℕ} (put : ValuesPut image x before i k now) where
         pub value_room : k + length (value_order (design_of image) n) ≤ length now
-        value_room = rw entry_is (below_room put.put l)
+        value_room = rw entry_is (below_room put.put i_below)
 
         pub values_next : {next : ℕ} {after : List ℕ} → PutFrom (value_order (design_of image) n) k now next after → ValuesPut image x before (i + 1) next after
-        values_next p = record { put = below_next put.put l (rw entry_is at p) }
+        values_next p = record { put = below_next put.put i_below (rw entry_is at p) }
 
   pub values_done : {before now : List ℕ} {i k : ℕ} → ValuesPut image x before i k now → x.commands ≤ i → Ordered (expression_order (design_of image)) now
   values_done put l = rw values_are at (below_done put.put l)
 
   pub values_whole : {before now : List ℕ} {i k : ℕ} → ValuesPut image x before i k now → x.commands ≤ i → now ≡ overwritten_at 0 (expression_order (design_of image)) before
   values_whole put l = rw values_are at (below_whole put.put l)
-
-pub values_long : {image before now : List ℕ} {x : Described} {i k : ℕ} → ValuesPut image x before i k now → length now ≡ length before
-values_long put = put.put.long

@@ -1,5 +1,5 @@
 -- New numbers, from the last entry to the first: an entry that is met again in front gets the lower place, which is its place in the order.
-use Prim.Native.Nat.{ℕ, suc, ◌+◌, ◌-◌, ◌*◌, ◌^◌, ◌≤◌, ◌<◌}
+use Prim.Native.Nat.{ℕ, suc, ◌+◌, ◌-◌, ◌≤◌, ◌<◌}
 use mathlib.Core.Path.{◌≡◌, refl, sym, ◌∙◌, ap}
 use mathlib.Core.Logic.{◌≢◌, ⊎_elim}
 use mathlib.Core.List.Memᴰ
@@ -8,13 +8,10 @@ use native.Mathlib.Omega.{arith}
 use native.Mathlib.Decide.{ℕ_discrete}
 use lib.ListN.{length, get_or, set, take, drop, length-set, drop_of_length-le}
 use lib.Seq.{get_or-take, get_or-set_same, get_or-set_other, length-take-le, drop-cons}
-use mir.Syntax.{w64}
-use mir.Val.{Fits}
 use borrow.Author.Tests.{eq-eqb, ne_eqb}
-use borrow.Author.Rules.{scaled_Fits}
 use Rattle.filing_model.specs.Filed.{place_in}
 use Rattle.filing_model.proofs.Places.{entry_stands}
-use Rattle.filing_steps.specs.Tables.{EachBelow, with_places, Numbered}
+use Rattle.filing_steps.specs.Tables.{EachBelow, with_places}
 
 place_here : {x n : ℕ} (xs : List ℕ) → x ≡ n → place_in (x ∷ xs) n ≡ 0
 unfolding place_in
@@ -39,9 +36,6 @@ numbered_begins {order} {before} {count} inside room =
     let none : drop count (take count order) ≡ [] = drop_of_length-le (take count order) {i = count} (let long = length-take-le count order inside in omega arith) in
     record { most = omega arith; inside = inside; room = room; long = refl; put = rw none refl; entry = λ n h. absurd (Memᴰ.not-nil (rw none at h)) }
 
-pub numbered_long : {order before now : List ℕ} {count k : ℕ} → NumberedFrom order count before k now → length now ≡ length before
-numbered_long so = so.long
-
 module _ {order before now : List ℕ} {count k : ℕ} (so : NumberedFrom order count before k now) where
   entry_below : (i : ℕ) → i < count → get_or order i 0 < length now
   entry_below i l =
@@ -50,17 +44,8 @@ module _ {order before now : List ℕ} {count k : ℕ} (so : NumberedFrom order 
       let here = so.room.below (get_or (take count order) i 0) (entry_stands (take count order) i (omega arith)) in
       rw so.long (rw (get_or-take count order i 0 l) at here)
 
-  pub last_inside : 0 < k → k - 1 < length order
-  last_inside l = let most = so.most in let inside = so.inside in omega arith
-
   pub last_below : {n : ℕ} → 0 < k → n ≡ get_or order (k - 1) 0 → n < length now
   last_below l e = rw e (entry_below (k - 1) (let most = so.most in omega arith))
-
-  pub last_fits : {n : ℕ} → 0 < k → n ≡ get_or order (k - 1) 0 → length before * 2 < 2 ^ 63 → Fits w64 (n * 2)
-  last_fits {n} l e room = scaled_Fits n (length before) 2 (rw so.long at (last_below l e)) room
-
-  pub last_small : count < 65536 → k - 1 < 65536
-  last_small l = let most = so.most in omega arith
 
   -- the entry in front of those that have their places
   last_first : (j : ℕ) → k ≡ suc j → drop j (take count order) ≡ get_or order j 0 ∷ drop k (take count order)
@@ -103,15 +88,3 @@ module _ {order before now : List ℕ} {count k : ℕ} (so : NumberedFrom order 
         put = rw e (more_put (k - 1) (omega arith));
         entry = λ m h. rw e (more_entry (k - 1) m (omega arith) h);
       }
-
-  pub places_put : k ≤ 0 → now ≡ with_places 0 (take count order) before
-  places_put l = let none : k ≡ 0 = omega arith in so.put ∙ rw none refl
-
-  pub numbered_done : k ≤ 0 → Numbered (take count order) now
-  numbered_done l = record { entry = entries; inside = λ n h. rw so.long (so.room.below n h) }
-    where
-      none : k ≡ 0
-      none = omega arith
-
-      entries : (n : ℕ) → Memᴰ n (take count order) → get_or now n 0 ≡ place_in (take count order) n
-      entries n h = so.entry n (rw none h) ∙ rw none (omega arith)

@@ -13,6 +13,7 @@ use Rattle.model.specs.Kinds.{CommandKind, skips, assigns, sequences, falls, goe
 use Rattle.model.specs.Nodes.{command_parts, expression_parts, parts_of, operands_of}
 use Rattle.model.proofs.Laws.Indices.{below_suc}
 use Rattle.model.proofs.Laws.Kinds.{kind_sequences, kind_branches, sequences_number, branches_number, expression_kinds, no_expression_kind, no_operation_zero, no_operation_one}
+use Rattle.design.specs.declared.Design.{Design as Described}
 use Rattle.design.specs.Records.{node_in}
 use Rattle.design.specs.RecordsAt.{CommandAt, ExpressionAt}
 use Rattle.design.proofs.Laws.{commands_most, expressions_most}
@@ -108,20 +109,20 @@ two_are : {xs : List ℕ} {a b p q : ℕ} → xs ≡ p ∷ q ∷ [] → a ≡ p 
 two_are e f g = rw (f, g) e
 
 -- ---- a command
-module _ {image order : List ℕ} {place n k : ℕ} (here : OrderingCommand image place n order k) where
+module _ {image order : List ℕ} {x : Described} {n k : ℕ} (here : OrderingCommand image x n order k) where
   abbrev command_tree : ℕ → List ℕ
   command_tree m = parts_first (parts_of (design_of image)) m
 
-  at : CommandAt image here.design place n
+  at : CommandAt image x x.commands_at n
   at = here.command
 
   pub command_small : n < 65536
   command_small = let most = commands_most at.describes in let below = at.node in omega arith
 
-  lower_ordering : (m : ℕ) {table : List ℕ} {j : ℕ} → m < n → j + length (command_tree m) ≤ length table → OrderingCommand image place m table j
-  lower_ordering m below room = record { design = here.design; commands = here.commands; command = lower_command at here.commands below; room = room }
+  lower_ordering : (m : ℕ) {table : List ℕ} {j : ℕ} → m < n → j + length (command_tree m) ≤ length table → OrderingCommand image x m table j
+  lower_ordering m below room = record { commands = here.commands; command = lower_command at here.commands below; room = room }
 
-  module _ {kind a b : ℕ} (e : kind ≡ 2) (f : kind ≡ (node_in image place n).kind) (g : a ≡ (node_in image place n).a) (h : b ≡ (node_in image place n).b) where
+  module _ {kind a b : ℕ} (e : kind ≡ 2) (f : kind ≡ (node_in image x.commands_at n).kind) (g : a ≡ (node_in image x.commands_at n).a) (h : b ≡ (node_in image x.commands_at n).b) where
     sequence_two : TreeOf (command_tree n) (command_tree a) (command_tree b) n
     sequence_two =
         record {
@@ -135,7 +136,7 @@ module _ {image order : List ℕ} {place n k : ℕ} (here : OrderingCommand imag
         }
 
     module _ {second : ℕ} {between : List ℕ} (p : PutFrom (command_tree a) k order second between) where
-      sequence_between : OrderingCommand image place b between second
+      sequence_between : OrderingCommand image x b between second
       sequence_between = lower_ordering b (sequence_b_below at e f h) (second_room sequence_two here.room p)
 
       module _ {whole : ℕ} {after : List ℕ} (q : PutFrom (command_tree b) second between whole after) where
@@ -145,7 +146,7 @@ module _ {image order : List ℕ} {place n k : ℕ} (here : OrderingCommand imag
         pub sequence_put : {end : ℕ} {last : List ℕ} → PutFrom (n ∷ []) whole after end last → PutFrom (command_tree n) k order end last
         sequence_put r = tree_put sequence_two here.room p q r
 
-  module _ {kind b c : ℕ} (e : kind ≡ 5) (f : kind ≡ (node_in image place n).kind) (g : b ≡ (node_in image place n).b) (h : c ≡ (node_in image place n).c) where
+  module _ {kind b c : ℕ} (e : kind ≡ 5) (f : kind ≡ (node_in image x.commands_at n).kind) (g : b ≡ (node_in image x.commands_at n).b) (h : c ≡ (node_in image x.commands_at n).c) where
     branch_two : TreeOf (command_tree n) (command_tree b) (command_tree c) n
     branch_two =
         record {
@@ -159,7 +160,7 @@ module _ {image order : List ℕ} {place n k : ℕ} (here : OrderingCommand imag
         }
 
     module _ {second : ℕ} {between : List ℕ} (p : PutFrom (command_tree b) k order second between) where
-      branch_between : OrderingCommand image place c between second
+      branch_between : OrderingCommand image x c between second
       branch_between = lower_ordering c (branch_c_below at e f h) (second_room branch_two here.room p)
 
       module _ {whole : ℕ} {after : List ℕ} (q : PutFrom (command_tree c) second between whole after) where
@@ -170,7 +171,7 @@ module _ {image order : List ℕ} {place n k : ℕ} (here : OrderingCommand imag
         branch_put r = tree_put branch_two here.room p q r
 
   -- a command without parts
-  module _ {kind : ℕ} (two : kind ≡ 2 → ⊥) (five : kind ≡ 5 → ⊥) (f : kind ≡ (node_in image place n).kind) where
+  module _ {kind : ℕ} (two : kind ≡ 2 → ⊥) (five : kind ≡ 5 → ⊥) (f : kind ≡ (node_in image x.commands_at n).kind) where
     command_alone : command_tree n ≡ n ∷ []
     command_alone =
         let byte : kind ≡ (command_at (design_of image) n).kind = sym (command_kind_is at refl f) in
@@ -191,68 +192,68 @@ module _ {image order : List ℕ} {place n k : ℕ} (here : OrderingCommand imag
 
 -- what is known at a part; the premises that are found first stand first
 pub sequence_first :
-    {image order : List ℕ} {place n k kind a : ℕ}
+    {image order : List ℕ} {x : Described} {n k kind a : ℕ}
     → kind ≡ 2
-    → OrderingCommand image place n order k
-    → kind ≡ (node_in image place n).kind
-    → a ≡ (node_in image place n).a
-    → OrderingCommand image place a order k
-sequence_first {image} {order} {place} {n} {k} {a = a} e here f g = lower_ordering here a (sequence_a_below here.command e f g) (first_room (sequence_two here e f g refl) k (length order) here.room)
+    → OrderingCommand image x n order k
+    → kind ≡ (node_in image x.commands_at n).kind
+    → a ≡ (node_in image x.commands_at n).a
+    → OrderingCommand image x a order k
+sequence_first {image} {order} {x} {n} {k} {a = a} e here f g = lower_ordering here a (sequence_a_below here.command e f g) (first_room (sequence_two here e f g refl) k (length order) here.room)
 
 pub sequence_second :
-    {image order between : List ℕ} {place n k second kind a b : ℕ}
+    {image order between : List ℕ} {x : Described} {n k second kind a b : ℕ}
     → kind ≡ 2
     → PutFrom (parts_first (parts_of (design_of image)) a) k order second between
-    → OrderingCommand image place n order k
-    → kind ≡ (node_in image place n).kind
-    → a ≡ (node_in image place n).a
-    → b ≡ (node_in image place n).b
-    → OrderingCommand image place b between second
+    → OrderingCommand image x n order k
+    → kind ≡ (node_in image x.commands_at n).kind
+    → a ≡ (node_in image x.commands_at n).a
+    → b ≡ (node_in image x.commands_at n).b
+    → OrderingCommand image x b between second
 sequence_second e p here f g h = sequence_between here e f g h p
 
 pub branch_first :
-    {image order : List ℕ} {place n k kind b : ℕ}
+    {image order : List ℕ} {x : Described} {n k kind b : ℕ}
     → kind ≡ 5
-    → OrderingCommand image place n order k
-    → kind ≡ (node_in image place n).kind
-    → b ≡ (node_in image place n).b
-    → OrderingCommand image place b order k
-branch_first {image} {order} {place} {n} {k} {b = b} e here f g = lower_ordering here b (branch_b_below here.command e f g) (first_room (branch_two here e f g refl) k (length order) here.room)
+    → OrderingCommand image x n order k
+    → kind ≡ (node_in image x.commands_at n).kind
+    → b ≡ (node_in image x.commands_at n).b
+    → OrderingCommand image x b order k
+branch_first {image} {order} {x} {n} {k} {b = b} e here f g = lower_ordering here b (branch_b_below here.command e f g) (first_room (branch_two here e f g refl) k (length order) here.room)
 
 pub branch_second :
-    {image order between : List ℕ} {place n k second kind b c : ℕ}
+    {image order between : List ℕ} {x : Described} {n k second kind b c : ℕ}
     → kind ≡ 5
     → PutFrom (parts_first (parts_of (design_of image)) b) k order second between
-    → OrderingCommand image place n order k
-    → kind ≡ (node_in image place n).kind
-    → b ≡ (node_in image place n).b
-    → c ≡ (node_in image place n).c
-    → OrderingCommand image place c between second
+    → OrderingCommand image x n order k
+    → kind ≡ (node_in image x.commands_at n).kind
+    → b ≡ (node_in image x.commands_at n).b
+    → c ≡ (node_in image x.commands_at n).c
+    → OrderingCommand image x c between second
 branch_second e p here f g h = branch_between here e f g h p
 
 -- ---- an expression
-module _ {image order : List ℕ} {place n k : ℕ} (here : OrderingExpression image place n order k) where
+module _ {image order : List ℕ} {x : Described} {n k : ℕ} (here : OrderingExpression image x n order k) where
   abbrev expression_tree : ℕ → List ℕ
   expression_tree m = parts_first (operands_of (design_of image)) m
 
-  stands : ExpressionAt image here.design place n
+  stands : ExpressionAt image x x.expressions_at n
   stands = here.expression
 
   pub expression_small : n < 65536
   expression_small = let most = expressions_most stands.describes in let below = stands.node in omega arith
 
-  lower_operand : (m : ℕ) {table : List ℕ} {j : ℕ} → m < n → j + length (expression_tree m) ≤ length table → OrderingExpression image place m table j
-  lower_operand m below room = record { design = here.design; expressions = here.expressions; expression = lower_expression stands here.expressions below; room = room }
+  lower_operand : (m : ℕ) {table : List ℕ} {j : ℕ} → m < n → j + length (expression_tree m) ≤ length table → OrderingExpression image x m table j
+  lower_operand m below room = record { expressions = here.expressions; expression = lower_expression stands here.expressions below; room = room }
 
   -- a kind that is none would not be kept
-  known_kind : {kind : ℕ} → kind ≡ (node_in image place n).kind → Dec (kind < expression_kinds) → kind < expression_kinds
+  known_kind : {kind : ℕ} → kind ≡ (node_in image x.expressions_at n).kind → Dec (kind < expression_kinds) → kind < expression_kinds
   known_kind f (yes l) = l
   known_kind {kind} f (no l) = absurd (rw (no_expression_kind {k = kind} (omega arith)) at (expression_holds_lem stands f))
 
-  pub no_kind : {kind : ℕ} → expression_kinds ≤ kind → kind ≡ (node_in image place n).kind → ⊥
+  pub no_kind : {kind : ℕ} → expression_kinds ≤ kind → kind ≡ (node_in image x.expressions_at n).kind → ⊥
   no_kind {kind} l f = let below = known_kind f (dec_lt kind expression_kinds) in omega arith
 
-  module _ {kind a b : ℕ} (other : 2 ≤ kind) (f : kind ≡ (node_in image place n).kind) (g : a ≡ (node_in image place n).a) (h : b ≡ (node_in image place n).b) where
+  module _ {kind a b : ℕ} (other : 2 ≤ kind) (f : kind ≡ (node_in image x.expressions_at n).kind) (g : a ≡ (node_in image x.expressions_at n).a) (h : b ≡ (node_in image x.expressions_at n).b) where
     kind_below : kind < expression_kinds
     kind_below = known_kind f (dec_lt kind expression_kinds)
 
@@ -274,7 +275,7 @@ module _ {image order : List ℕ} {place n k : ℕ} (here : OrderingExpression i
     second_falls m = rw m at b_below
 
     module _ {second : ℕ} {between : List ℕ} (p : PutFrom (expression_tree a) k order second between) where
-      operation_between : OrderingExpression image place b between second
+      operation_between : OrderingExpression image x b between second
       operation_between = lower_operand b b_below (second_room operation_two here.room p)
 
       module _ {whole : ℕ} {after : List ℕ} (q : PutFrom (expression_tree b) second between whole after) where
@@ -285,7 +286,7 @@ module _ {image order : List ℕ} {place n k : ℕ} (here : OrderingExpression i
         operation_put r = tree_put operation_two here.room p q r
 
   -- an expression without parts
-  module _ {kind : ℕ} (simple : kind < 2) (f : kind ≡ (node_in image place n).kind) where
+  module _ {kind : ℕ} (simple : kind < 2) (f : kind ≡ (node_in image x.expressions_at n).kind) where
     no_operation : (o : Operation) → expression_kind kind ≡ operates o → ⊥
     no_operation o e = ⊎_elim (λ (z : kind < 1). no_operation_zero (omega arith) o e) (λ (z : kind ≡ 1). no_operation_one z o e) (below_suc simple)
 
@@ -307,21 +308,21 @@ module _ {image order : List ℕ} {place n k : ℕ} (here : OrderingExpression i
 
 -- what is known at a part; the premises that are found first stand first
 pub operand_first :
-    {image order : List ℕ} {place n k kind a : ℕ}
+    {image order : List ℕ} {x : Described} {n k kind a : ℕ}
     → 2 ≤ kind
-    → OrderingExpression image place n order k
-    → kind ≡ (node_in image place n).kind
-    → a ≡ (node_in image place n).a
-    → OrderingExpression image place a order k
-operand_first {image} {order} {place} {n} {k} {a = a} other here f g = lower_operand here a (a_below here other f g refl) (first_room (operation_two here other f g refl) k (length order) here.room)
+    → OrderingExpression image x n order k
+    → kind ≡ (node_in image x.expressions_at n).kind
+    → a ≡ (node_in image x.expressions_at n).a
+    → OrderingExpression image x a order k
+operand_first {image} {order} {x} {n} {k} {a = a} other here f g = lower_operand here a (a_below here other f g refl) (first_room (operation_two here other f g refl) k (length order) here.room)
 
 pub operand_second :
-    {image order between : List ℕ} {place n k second kind a b : ℕ}
+    {image order between : List ℕ} {x : Described} {n k second kind a b : ℕ}
     → 2 ≤ kind
     → PutFrom (parts_first (operands_of (design_of image)) a) k order second between
-    → OrderingExpression image place n order k
-    → kind ≡ (node_in image place n).kind
-    → a ≡ (node_in image place n).a
-    → b ≡ (node_in image place n).b
-    → OrderingExpression image place b between second
+    → OrderingExpression image x n order k
+    → kind ≡ (node_in image x.expressions_at n).kind
+    → a ≡ (node_in image x.expressions_at n).a
+    → b ≡ (node_in image x.expressions_at n).b
+    → OrderingExpression image x b between second
 operand_second other p here f g h = operation_between here other f g h p

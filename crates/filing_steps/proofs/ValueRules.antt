@@ -86,10 +86,9 @@ pub value_ordering :
     → e ≡ (node_in image place n).a
     → Structured image x
     → k + length (value_order (design_of image) n) ≤ length order
-    → OrderingExpression image x.expressions_at e order k
+    → OrderingExpression image x e order k
 value_ordering {x = x} one at f g here room =
     record {
-      design = x;
       expressions = here.records.expressions;
       expression = expression_at_lem here.records.describes here.records.expressions (value_below at one f g) refl;
       room = rw (value_one at one f g) at room;

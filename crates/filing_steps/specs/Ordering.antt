@@ -3,6 +3,7 @@ use Rattle.std.specs.Prelude.{ℕ, ◌+◌, ◌≤◌, ◌≡◌, List, length}
 use Rattle.model.specs.Image.{design_of}
 use Rattle.model.specs.Nodes.{parts_of, operands_of}
 use Rattle.design.specs.declared.Design.{Design as Described}
+use Rattle.design.specs.declared.image.Image.{Image}
 use Rattle.design.specs.Kept.{CommandsKept, ExpressionsKept}
 use Rattle.design.specs.RecordsAt.{CommandAt, ExpressionAt}
 use Rattle.encoding.specs.Parts.{overwritten_at}
@@ -13,15 +14,19 @@ pub record PutFrom (numbers : List ℕ) (k : ℕ) (before : List ℕ) (next : �
   pub moved : next ≡ k + length numbers
   pub put : after ≡ overwritten_at k numbers before
 
--- what is known where a node is ordered; the recursion has the place of a design instead of the design
-pub record OrderingCommand (image : List ℕ) (place n : ℕ) (order : List ℕ) (k : ℕ) : Type 0 where
-  pub design : Described
+-- what is known where a node is ordered
+pub record OrderingCommand (image : List ℕ) (x : Described) (n : ℕ) (order : List ℕ) (k : ℕ) : Type 0 where
   pub commands : CommandsKept (design_of image)
-  pub command : CommandAt image design place n
+  pub command : CommandAt image x x.commands_at n
   pub room : k + length (parts_first (parts_of (design_of image)) n) ≤ length order
 
-pub record OrderingExpression (image : List ℕ) (place e : ℕ) (order : List ℕ) (k : ℕ) : Type 0 where
-  pub design : Described
+abbrev pub OrderingCommandIn : Image → ℕ → List ℕ → ℕ → Type 0
+OrderingCommandIn image n order k = OrderingCommand image.bytes.now image.design n order k
+
+pub record OrderingExpression (image : List ℕ) (x : Described) (e : ℕ) (order : List ℕ) (k : ℕ) : Type 0 where
   pub expressions : ExpressionsKept (design_of image)
-  pub expression : ExpressionAt image design place e
+  pub expression : ExpressionAt image x x.expressions_at e
   pub room : k + length (parts_first (operands_of (design_of image)) e) ≤ length order
+
+abbrev pub OrderingExpressionIn : Image → ℕ → List ℕ → ℕ → Type 0
+OrderingExpressionIn image e order k = OrderingExpression image.bytes.now image.design e order k

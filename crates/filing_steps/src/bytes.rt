@@ -1,16 +1,18 @@
 // The bytes of the filing form, each by itself: so the form can be written, and compared without being written.
 ghost use Rattle.std.specs.Prelude.{◌+◌, ◌*◌, ◌/◌, ◌%◌, ◌≤◌, ◌<◌, ◌≡◌, length};
+ghost use Rattle.design.specs.Images.{design_in, StructuredIn};
 ghost use Rattle.model.specs.Limits.{state_length, node_length};
-ghost use Rattle.model.specs.Image.{byte_at, design_of, state_at, command_at, expression_at};
+ghost use Rattle.model.specs.Image.{States, byte_at, offset, state_at, command_at, expression_at};
 ghost use Rattle.model.specs.Rules.{Keeps};
 ghost use Rattle.design.specs.Records.{node_end};
-ghost use Rattle.design.specs.Kept.{Structured};
 ghost use Rattle.encoding.specs.Encoding.{word16_bytes, state_bytes, node_bytes};
 ghost use Rattle.filing_model.specs.Filed.{command_order, expression_order, filed, filed_image};
-ghost use Rattle.filing_steps.specs.Tables.{Ordered, Numbered, FormTables};
+ghost use Rattle.filing_steps.specs.Tables.{Ordered, Numbered, FormTablesIn};
 
 use crate::fields::{command_field, expression_field};
+use crate::tables::Orders;
 use design::Design;
+use design::image::Image;
 use encoding::tables::new_number;
 
 // Byte o of a field of 16 bits, from its start or from the start of its record, in which fields stand at even places.
@@ -24,30 +26,30 @@ fn field_byte(n: usize, o: usize) -> u8
 }
 
 // The new number of the command of state s.
-fn new_body(image: &[u8], design: Design, command_numbers: &[u16], s: usize) -> usize
-    requires { Structured image.now design
-        × Numbered (command_order (design_of image.now)) command_numbers.now
-        × (s < design.states) }
-    ensures { (result ≡ (state_at (filed (design_of image.now)) s).command) × (result < 65536) }
+fn new_body(image: &Image, command_numbers: &[u16], s: usize) -> usize
+    requires { StructuredIn image.now
+        × Numbered (command_order (design_in image.now)) command_numbers.now
+        × (s < image.now.design.states) }
+    ensures { (result ≡ (state_at (filed (design_in image.now)) s).command) × (result < 65536) }
 {
-    let old = Design::state_command(image, design.states_at, s);
+    let old = image.state_command(s);
     new_number(command_numbers, old)
 }
 
 // Byte j of the states. The command of a state is bytes 2 and 3 of its record; all others are as they stand.
-fn state_byte(image: &[u8], design: Design, command_numbers: &[u16], j: usize) -> u8
-    requires { Structured image.now design
-        × Numbered (command_order (design_of image.now)) command_numbers.now
-        × (j < state_length * design.states) }
-    ensures { result ≡ byte_at (state_bytes (state_at (filed (design_of image.now)) (j / state_length))) (j % state_length) }
+fn state_byte(image: &Image, command_numbers: &[u16], j: usize) -> u8
+    requires { StructuredIn image.now
+        × Numbered (command_order (design_in image.now)) command_numbers.now
+        × (j < state_length * image.now.design.states) }
+    ensures { result ≡ byte_at (state_bytes (state_at (filed (design_in image.now)) (j / state_length))) (j % state_length) }
 {
     let s = j / Design::STATE_LENGTH;
     let o = j % Design::STATE_LENGTH;
     if o / 2 == 1 {
-        let body = new_body(image, design, command_numbers, s);
+        let body = new_body(image, command_numbers, s);
         return field_byte(body, o);
     }
-    image[design.states_at + j]
+    image.bytes[image.design.states_at + j]
 }
 
 // Byte o of node n as it stands, where nodes begin at a place.
@@ -60,89 +62,81 @@ fn node_byte(image: &[u8], at: usize, n: usize, o: usize) -> u8
 
 // Byte j of the commands.
 fn command_byte(
-    image: &[u8],
-    design: Design,
+    image: &Image,
     commands: &[u16],
     command_numbers: &[u16],
     expression_numbers: &[u16],
     j: usize,
 ) -> u8
-    requires { Structured image.now design
-        × Ordered (command_order (design_of image.now)) commands.now
-        × Numbered (command_order (design_of image.now)) command_numbers.now
-        × Numbered (expression_order (design_of image.now)) expression_numbers.now
-        × (j < node_length * design.commands) }
-    ensures { result ≡ byte_at (node_bytes (command_at (filed (design_of image.now)) (j / node_length))) (j % node_length) }
+    requires { StructuredIn image.now
+        × Ordered (command_order (design_in image.now)) commands.now
+        × Numbered (command_order (design_in image.now)) command_numbers.now
+        × Numbered (expression_order (design_in image.now)) expression_numbers.now
+        × (j < node_length * image.now.design.commands) }
+    ensures { result ≡ byte_at (node_bytes (command_at (filed (design_in image.now)) (j / node_length))) (j % node_length) }
 {
     let n = new_number(commands, j / Design::NODE_LENGTH);
     let o = j % Design::NODE_LENGTH;
     if o < 2 {
-        return node_byte(image, design.commands_at, n, o);
+        return node_byte(image.bytes, image.design.commands_at, n, o);
     }
-    let field = command_field(image, design, command_numbers, expression_numbers, n, o / 2);
+    let field = command_field(image, command_numbers, expression_numbers, n, o / 2);
     field_byte(field, o)
 }
 
-// Byte j of the expressions.
-fn expression_byte(
-    image: &[u8],
-    design: Design,
-    expressions: &[u16],
-    expression_numbers: &[u16],
-    j: usize,
-) -> u8
-    requires { Structured image.now design
-        × Ordered (expression_order (design_of image.now)) expressions.now
-        × Numbered (expression_order (design_of image.now)) expression_numbers.now
-        × (j < node_length * design.expressions) }
-    ensures { result ≡ byte_at (node_bytes (expression_at (filed (design_of image.now)) (j / node_length))) (j % node_length) }
+// Byte j of the expressions. Not one function with `command_byte`: what gives a field would be a closure, of which the
+// contract says again what `command_field` and `expression_field` promise.
+fn expression_byte(image: &Image, expressions: &[u16], expression_numbers: &[u16], j: usize) -> u8
+    requires { StructuredIn image.now
+        × Ordered (expression_order (design_in image.now)) expressions.now
+        × Numbered (expression_order (design_in image.now)) expression_numbers.now
+        × (j < node_length * image.now.design.expressions) }
+    ensures { result ≡ byte_at (node_bytes (expression_at (filed (design_in image.now)) (j / node_length))) (j % node_length) }
 {
     let e = new_number(expressions, j / Design::NODE_LENGTH);
     let o = j % Design::NODE_LENGTH;
     if o < 2 {
-        return node_byte(image, design.expressions_at, e, o);
+        return node_byte(image.bytes, image.design.expressions_at, e, o);
     }
-    let field = expression_field(image, design, expression_numbers, e, o / 2);
+    let field = expression_field(image, expression_numbers, e, o / 2);
     field_byte(field, o)
 }
 
-// Byte i of the form. Up to the states it is the image's.
-pub fn form_byte(
-    image: &[u8],
-    design: Design,
-    commands: &[u16],
-    command_numbers: &[u16],
-    expressions: &[u16],
-    expression_numbers: &[u16],
-    i: usize,
-) -> u8
-    requires { Keeps image.now
-        × Structured image.now design
-        × FormTables (design_of image.now) commands.now command_numbers.now expressions.now expression_numbers.now
-        × (i < length image.now) }
+// Byte i of the form in front of the states.
+fn front_byte(image: &[u8], i: usize) -> u8
+    requires { Keeps image.now × (i < offset image.now States) }
     ensures { result ≡ byte_at (filed_image image.now) i }
 {
-    if i < design.states_at {
-        return image[i];
+    image[i]
+}
+
+// Byte i of the form. Up to the states it is the image's.
+pub fn form_byte(image: &Image, orders: &Orders, i: usize) -> u8
+    requires { Keeps image.now.bytes.now
+        × StructuredIn image.now
+        × FormTablesIn image.now orders.now
+        × (i < length image.now.bytes.now) }
+    ensures { result ≡ byte_at (filed_image image.now.bytes.now) i }
+{
+    if i < image.design.states_at {
+        return front_byte(image.bytes, i);
     }
-    if i < design.commands_at {
-        return state_byte(image, design, command_numbers, i - design.states_at);
+    if i < image.design.commands_at {
+        return state_byte(image, &orders.command_numbers, i - image.design.states_at);
     }
-    if i < design.expressions_at {
+    if i < image.design.expressions_at {
         return command_byte(
             image,
-            design,
-            commands,
-            command_numbers,
-            expression_numbers,
-            i - design.commands_at,
+            &orders.commands,
+            &orders.command_numbers,
+            &orders.expression_numbers,
+            i - image.design.commands_at,
         );
     }
     expression_byte(
         image,
-        design,
-        expressions,
-        expression_numbers,
-        i - design.expressions_at,
+        &orders.expressions,
+        &orders.expression_numbers,
+        i - image.design.expressions_at,
     )
 }

@@ -6,3 +6,4 @@ pub mod bytes;
 pub mod fields;
 pub mod numbering;
 pub mod ordering;
+pub mod tables;

@@ -9,9 +9,7 @@ pub fn number(order: &[u16], count: usize, numbers: &mut [u16])
     requires { (count ≤ length order.now) × (count < 65536) × EachBelow (length numbers.old) (take count order.now) }
     ensures { (numbers.new ≡ with_places 0 (take count order.now) numbers.old) × Numbered (take count order.now) numbers.new }
 {
-    let mut k = count;
-    while 0 < k {
-        k -= 1;
+    for k in (0..count).rev() {
         let n = new_number(order, k);
         numbers[n] = k as u16;
     }

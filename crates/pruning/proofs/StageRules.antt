@@ -5,13 +5,13 @@ use mathlib.Core.List.{List}
 use native.Mathlib.Omega.{arith}
 use lib.ListN.{length}
 use borrow.Author.Tests.{le-leb, lt-leb}
-use Rattle.model.specs.declared.Refusal.{Refusal}
+use Rattle.model.specs.declared.RefusedAt.{RefusedAt}
+use Rattle.std.specs.Prelude.{Err}
 use Rattle.model.specs.declared.Refusal.TheVariants.{OutputArea}
-use Rattle.model.specs.declared.Answer.{Answer}
-use Rattle.model.specs.declared.Answer.TheVariants.{Accepted, Refused}
+use Rattle.model.specs.Answers.{Answer, Accepted, Refused}
 use Rattle.model.specs.Limits.{node_length}
 use Rattle.model.specs.Image.{Design, design_of}
-use Rattle.model.specs.Rules.{DirectoryKeeps, Keeps}
+use Rattle.model.specs.Rules.{Keeps}
 use Rattle.model.specs.Verdict.{◌before◌, refused_at, verdict}
 use Rattle.design.specs.declared.Design.{Design as Described}
 use Rattle.design.specs.Describes.{Describes}
@@ -26,38 +26,39 @@ use Rattle.pruning_model.specs.Calls.{prune_answer, prune}
 use Rattle.pruning_model.proofs.Closing.{closed_at_most}
 use Rattle.pruning_steps.specs.Marks.{Marked, Numbered, is_marked}
 use Rattle.pruning_steps.proofs.NumberingRules.{marked_closed, marked_numbered}
+use Rattle.pruning.specs.declared.tables.Tables.{Tables}
 use Rattle.pruning.specs.Tables.{AllMarked, AllNumbered, Resized, Result}
 use Rattle.pruning.specs.Stages.{prune_on}
 use Rattle.pruning.proofs.WritingRules.{states_left, commands_left, expressions_left, pruned_begin, result_length}
 use Rattle.model.specs.Calls.{left_as, Left}
 
 -- ---- an accepted image
-pub accepted_directory : {image : List ℕ} → Keeps image → DirectoryKeeps image
-accepted_directory keeps = keeps.directory
 
-pub accepted_pruning : {image : List ℕ} {x : Described} → Keeps image → Describes image x → Structured image x
-accepted_pruning keeps describes = record { records = accepted_known keeps describes; structure = keeps.design.structure }
+pub accepted_pruning : {image read : List ℕ} {x : Described} → Keeps image → read ≡ image → Describes read x → Structured read x
+accepted_pruning {read = read} keeps same describes =
+    let kept : Keeps read = rw same keeps in
+    record { records = accepted_known kept describes; structure = kept.design.structure }
 
 -- ---- what the tables give
-pub all_marked : {d : Design} {x : Described} {reached commands expressions : List ℕ}
-    → Marked (reached_in d) x.states reached
-    → Marked (command_stays d) x.commands commands
-    → Marked (expression_stays d) x.expressions expressions
-    → AllMarked d x reached commands expressions
+pub all_marked : {d : Design} {x : Described} {marks : Tables ℕ}
+    → Marked (reached_in d) x.states marks.states
+    → Marked (command_stays d) x.commands marks.commands
+    → Marked (expression_stays d) x.expressions marks.expressions
+    → AllMarked d x marks
 all_marked s c e = record { states_marked = s; commands_marked = c; expressions_marked = e }
 
-module _ {d : Design} {x : Described} {reached commands expressions : List ℕ} (marks : AllMarked d x reached commands expressions) where
-  pub all_numbered : {states_new commands_new expressions_new : List ℕ}
-      → Numbered (is_marked reached) x.states states_new
-      → Numbered (is_marked commands) x.commands commands_new
-      → Numbered (is_marked expressions) x.expressions expressions_new
-      → AllNumbered d x states_new commands_new expressions_new
-  all_numbered s c e =
-      record {
-        states_numbered = marked_numbered marks.states_marked s;
-        commands_numbered = marked_numbered marks.commands_marked c;
-        expressions_numbered = marked_numbered marks.expressions_marked e;
-      }
+pub all_numbered : {d : Design} {x : Described} {marks : Tables ℕ} {numbers : Tables ℕ}
+    → AllMarked d x marks
+    → Numbered (is_marked marks.states) x.states numbers.states
+    → Numbered (is_marked marks.commands) x.commands numbers.commands
+    → Numbered (is_marked marks.expressions) x.expressions numbers.expressions
+    → AllNumbered d x numbers
+all_numbered all s c e =
+    record {
+      states_numbered = marked_numbered all.states_marked s;
+      commands_numbered = marked_numbered all.commands_marked c;
+      expressions_numbered = marked_numbered all.expressions_marked e;
+    }
 
 -- no more than there were
 module _ {image : List ℕ} {x : Described} (here : Structured image x) where
@@ -70,18 +71,18 @@ module _ {image : List ℕ} {x : Described} (here : Structured image x) where
   pub expressions_fit : (marks : List ℕ) {n : ℕ} → n ≡ closed_up (is_marked marks) x.expressions → n ≤ 2048
   expressions_fit marks e = omega (arith, closed_at_most (is_marked marks) x.expressions, expressions_most here.records.describes)
 
-  pub resized_result : {r : Described} {s c e : ℕ} {reached commands expressions : List ℕ}
+  pub resized_result : {r : Described} {s c e : ℕ} {marks : Tables ℕ}
       → Resized x s c e r
-      → s ≡ closed_up (is_marked reached) x.states
-      → c ≡ closed_up (is_marked commands) x.commands
-      → e ≡ closed_up (is_marked expressions) x.expressions
-      → AllMarked (design_of image) x reached commands expressions
+      → AllMarked (design_of image) x marks
+      → s ≡ closed_up (is_marked marks.states) x.states
+      → c ≡ closed_up (is_marked marks.commands) x.commands
+      → e ≡ closed_up (is_marked marks.expressions) x.expressions
       → Result (design_of image) r
-  resized_result {r} {s} {c} {e} sized states commands expressions marks =
+  resized_result {r} {s} {c} {e} sized all states commands expressions =
       let describes = here.records.describes in
-      let states_are : s ≡ length (pruned (design_of image)).states = states ∙ marked_closed marks.states_marked x.states (omega arith) ∙ sym (states_left here) in
-      let commands_are : c ≡ length (pruned (design_of image)).commands = commands ∙ marked_closed marks.commands_marked x.commands (omega arith) ∙ sym (commands_left here) in
-      let expressions_are : e ≡ length (pruned (design_of image)).expressions = expressions ∙ marked_closed marks.expressions_marked x.expressions (omega arith) ∙ sym (expressions_left here) in
+      let states_are : s ≡ length (pruned (design_of image)).states = states ∙ marked_closed all.states_marked x.states (omega arith) ∙ sym (states_left here) in
+      let commands_are : c ≡ length (pruned (design_of image)).commands = commands ∙ marked_closed all.commands_marked x.commands (omega arith) ∙ sym (commands_left here) in
+      let expressions_are : e ≡ length (pruned (design_of image)).expressions = expressions ∙ marked_closed all.expressions_marked x.expressions (omega arith) ∙ sym (expressions_left here) in
       let begins = pruned_begin here in
       record {
         labels_counted = sized.labels ∙ labels_count describes;
@@ -112,7 +113,7 @@ module _ {image : List ℕ} {x : Described} (here : Structured image x) where
 
 -- ---- the whole
 module _ (image : List ℕ) {a : Answer} (is : a ≡ verdict image) where
-  pub verdict_refuses : {r : Refusal} {p : ℕ} (out : List ℕ) → a ≡ Refused r p → left_as (Refused r p) out ≡ prune image out
+  pub verdict_refuses : {why : RefusedAt} (out : List ℕ) → a ≡ Err why → left_as (Err why) out ≡ prune image out
   unfolding prune prune_answer ◌before◌
   verdict_refuses out h = rw (← is, h)
 

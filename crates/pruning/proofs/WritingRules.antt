@@ -8,11 +8,13 @@ use lib.Seq.{take_at, drop_at}
 use mir.Syntax.{w8}
 use mir.Val.{Fits}
 use Rattle.model.specs.Limits.{directory_length, label_length, register_length, state_length, node_length}
-use Rattle.model.specs.Image.{AreBytes, Labels, Registers, design_of}
+use Rattle.model.specs.Image.{AreBytes, Labels, Registers, States, offset, design_of}
+use Rattle.model.specs.Rules.{DirectoryKeeps}
+use Rattle.model.proofs.Laws.Images.{label_count, register_count}
 use Rattle.design.specs.declared.Design.{Design as Described}
 use Rattle.design.specs.Describes.{Describes}
 use Rattle.design.specs.Kept.{Structured}
-use Rattle.design.proofs.Laws.{labels_count, registers_count, states_count, commands_count, expressions_count}
+use Rattle.design.proofs.Laws.{states_count, commands_count, expressions_count}
 use Rattle.encoding.specs.Encoding.{records_bytes, row_bytes, register_bytes, state_bytes, node_bytes, states_at, image_length, directory_bytes, states_front, commands_front, expressions_front, image_of}
 use Rattle.encoding.specs.Encodable.{WithinLimits}
 use Rattle.encoding.specs.Parts.{overwritten_at, over}
@@ -28,6 +30,25 @@ use Rattle.pruning_model.proofs.Closing.{closed_at_most, length-staying}
 use Rattle.pruning_model.specs.Pruned.{state_written, command_written, expression_written}
 use Rattle.pruning.specs.Tables.{Result}
 use Rattle.pruning.specs.Parts.{kept_bytes, Near, ResultPut}
+
+module _ {image : List ℕ} (directory : DirectoryKeeps image) where
+  -- where the states begin
+  begin : offset image States ≡ states_at (design_of image)
+  begin =
+      let k = directory in
+      omega (arith, k.labels_at, k.registers_at, k.states_at, section_sized image Labels (k.sections Labels), section_sized image Registers (k.sections Registers), label_count image, register_count image)
+
+  -- labels and registers, as they stand in the image
+  kept_is : AreBytes image → take (offset image States - directory_length) (drop directory_length image) ≡ kept_bytes (design_of image)
+  unfolding image_of
+  kept_is bytes =
+      let d = design_of image in
+      let rest = records_bytes state_bytes d.states ++ records_bytes node_bytes d.commands ++ records_bytes node_bytes d.expressions in
+      let whole : image ≡ directory_bytes d ++ (kept_bytes d ++ rest) = sym (design_image image bytes directory) ∙ simp append_assoc in
+      let behind : drop directory_length image ≡ kept_bytes d ++ rest = ap (drop directory_length) whole ∙ drop_at (directory_bytes d) (kept_bytes d ++ rest) directory_length (directory_sized d) in
+      let long : length (kept_bytes d) ≡ offset image States - directory_length =
+      simp length-append (omega (arith, begin, length-records row_encodes d.rows, length-records register_encodes d.registers)) in
+      ap (take (offset image States - directory_length)) behind ∙ take_at (kept_bytes d) rest (offset image States - directory_length) long
 
 module _ {image : List ℕ} {x : Described} (here : Structured image x) where
   describes : Describes image x
@@ -66,9 +87,7 @@ module _ {image : List ℕ} {x : Described} (here : Structured image x) where
 
   -- ---- where the states begin
   pub states_begin : x.states_at ≡ states_at (design_of image)
-  states_begin =
-      let k = describes.directory in
-      omega (arith, describes.states_at, k.labels_at, k.registers_at, k.states_at, section_sized image Labels (k.sections Labels), section_sized image Registers (k.sections Registers), describes.labels, describes.registers, labels_count describes, registers_count describes)
+  states_begin = describes.states_at ∙ begin describes.directory
 
   pub front_short : x.states_at < 1024
   front_short = omega (arith, states_begin, limits.labels_most, limits.registers_most)
@@ -76,18 +95,6 @@ module _ {image : List ℕ} {x : Described} (here : Structured image x) where
   pub pruned_begin : x.states_at ≡ states_at (pruned (design_of image))
   unfolding pruned
   pruned_begin = states_begin
-
-  -- labels and registers, as they stand in the image
-  kept_is : AreBytes image → take (x.states_at - directory_length) (drop directory_length image) ≡ kept_bytes (design_of image)
-  unfolding image_of
-  kept_is bytes =
-      let d = design_of image in
-      let rest = records_bytes state_bytes d.states ++ records_bytes node_bytes d.commands ++ records_bytes node_bytes d.expressions in
-      let whole : image ≡ directory_bytes d ++ (kept_bytes d ++ rest) = sym (design_image image bytes describes.directory) ∙ simp append_assoc in
-      let behind : drop directory_length image ≡ kept_bytes d ++ rest = ap (drop directory_length) whole ∙ drop_at (directory_bytes d) (kept_bytes d ++ rest) directory_length (directory_sized d) in
-      let long : length (kept_bytes d) ≡ x.states_at - directory_length =
-      simp length-append (omega (arith, states_begin, length-records row_encodes d.rows, length-records register_encodes d.registers)) in
-      ap (take (x.states_at - directory_length)) behind ∙ take_at (kept_bytes d) rest (x.states_at - directory_length) long
 
   module _ {r : Described} (result : Result (design_of image) r) where
     -- ---- the lengths of the result
@@ -197,8 +204,10 @@ module _ {image : List ℕ} {x : Described} (here : Structured image x) where
         put_behind 0 out (expressions_front d) expressions f (e ∙ ap (λ n. overwritten_at n expressions one) here) (omega arith) ∙ over_beginning (image_of d) out
 
 -- labels and registers copied, where every byte of the image is one
-pub kept_put : (image : List ℕ) → ((i : ℕ) → Fits w8 (get_or image i 0)) → {x : Described} {after : List ℕ} (out : List ℕ)
-    → Structured image x
-    → after ≡ overwritten_at directory_length (take (x.states_at - directory_length) (drop directory_length image)) out
+pub kept_put : (image : List ℕ) → ((i : ℕ) → Fits w8 (get_or image i 0)) → {end : ℕ} {after : List ℕ} (out : List ℕ)
+    → DirectoryKeeps image
+    → end ≡ offset image States
+    → after ≡ overwritten_at directory_length (take (end - directory_length) (drop directory_length image)) out
     → after ≡ overwritten_at directory_length (kept_bytes (design_of image)) out
-kept_put image bytes out here e = e ∙ ap (λ part. overwritten_at directory_length part out) (kept_is here (λ i. (bytes i).fits))
+kept_put image bytes out keeps at e =
+    e ∙ ap (λ n. overwritten_at directory_length (take (n - directory_length) (drop directory_length image)) out) at ∙ ap (λ part. overwritten_at directory_length part out) (kept_is keeps (λ i. (bytes i).fits))

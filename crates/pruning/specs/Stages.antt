@@ -1,7 +1,7 @@
 -- The call from the point where the image is accepted on.
 use Rattle.std.specs.Prelude.{ℕ, List, leb, length}
 use Rattle.model.specs.declared.Refusal.TheVariants.{OutputArea}
-use Rattle.model.specs.declared.Answer.TheVariants.{Accepted}
+use Rattle.model.specs.Answers.{Accepted}
 use Rattle.model.specs.Verdict.{◌before◌, refused_at, at_zero_unless}
 use Rattle.encoding.specs.Parts.{over}
 use Rattle.pruning_model.specs.Pruned.{pruned_image}

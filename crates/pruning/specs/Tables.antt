@@ -1,25 +1,34 @@
 -- The tables of a pruning, and the directory of its result.
-use Rattle.std.specs.Prelude.{ℕ, ◌+◌, ◌*◌, ◌≡◌, List, length}
+use Rattle.std.specs.Prelude.{ℕ, ◌+◌, ◌*◌, ◌≡◌, length}
 use Rattle.model.specs.Limits.{state_length, node_length}
 use Rattle.model.specs.Image.{Design}
 use Rattle.design.specs.declared.Design.{Design as Described}
+use Rattle.design.specs.declared.image.Image.{Image}
+use Rattle.design.specs.Images.{design_in}
 use Rattle.encoding.specs.Encoding.{states_at, commands_at, expressions_at}
 use Rattle.pruning_model.specs.Reached.{reached}
 use Rattle.pruning_model.specs.Pruned.{command_stays, expression_stays, pruned}
 use Rattle.pruning_steps.specs.Marks.{Marked, Numbered}
+use Rattle.pruning.specs.declared.tables.Tables.{Tables}
 
 module _ (d : Design) (x : Described) where
   -- which states are reached, and which nodes stay
-  pub record AllMarked (states commands expressions : List ℕ) : Type 0 where
-    pub states_marked : Marked (reached d) x.states states
-    pub commands_marked : Marked (command_stays d) x.commands commands
-    pub expressions_marked : Marked (expression_stays d) x.expressions expressions
+  pub record AllMarked (marks : Tables ℕ) : Type 0 where
+    pub states_marked : Marked (reached d) x.states marks.states
+    pub commands_marked : Marked (command_stays d) x.commands marks.commands
+    pub expressions_marked : Marked (expression_stays d) x.expressions marks.expressions
 
   -- their new numbers
-  pub record AllNumbered (states commands expressions : List ℕ) : Type 0 where
-    pub states_numbered : Numbered (reached d) x.states states
-    pub commands_numbered : Numbered (command_stays d) x.commands commands
-    pub expressions_numbered : Numbered (expression_stays d) x.expressions expressions
+  pub record AllNumbered (numbers : Tables ℕ) : Type 0 where
+    pub states_numbered : Numbered (reached d) x.states numbers.states
+    pub commands_numbered : Numbered (command_stays d) x.commands numbers.commands
+    pub expressions_numbered : Numbered (expression_stays d) x.expressions numbers.expressions
+
+abbrev pub AllMarkedIn : Image → Tables ℕ → Type 0
+AllMarkedIn image marks = AllMarked (design_in image) image.design marks
+
+abbrev pub AllNumberedIn : Image → Tables ℕ → Type 0
+AllNumberedIn image numbers = AllNumbered (design_in image) image.design numbers
 
 -- so many states, commands and expressions instead of those of a design
 pub record Resized (x : Described) (states commands expressions : ℕ) (result : Described) : Type 0 where

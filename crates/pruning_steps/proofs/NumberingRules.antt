@@ -9,7 +9,6 @@ use native.Mathlib.Numerals.{add-one}
 use native.Mathlib.Decide.{dec_lt}
 use lib.Dec.{eqb}
 use lib.ListN.{length, get_or, replicate, length-replicate, get_or-replicate, get_or-eq_default}
-use borrow.Author.Tests.{eq-eqb, ne_eqb}
 use Rattle.model.specs.Values.{one_or_zero}
 use Rattle.model.specs.Indices.{filled_to}
 use Rattle.design.specs.Resets.{Filled}
@@ -19,11 +18,6 @@ use Rattle.pruning_model.proofs.Closing.{closed_at_most}
 use Rattle.pruning_steps.specs.Marks.{Marked, is_marked, Numbered}
 
 -- ---- one number more
-pub one_counted : (mark next : ℕ) → mark ≡ 1 → next + 1 ≡ next + one_or_zero (eqb mark 1)
-one_counted mark next e = rw (eq-eqb mark 1 e)
-
-pub none_counted : (mark next : ℕ) → (mark ≡ 1 → ⊥) → next ≡ next + one_or_zero (eqb mark 1)
-none_counted mark next h = rw (ne_eqb mark 1 h) (omega arith)
 
 -- ---- the loop
 module _ (stays : ℕ → Bool) where

@@ -1,20 +1,18 @@
 -- The states that are marked are those that are reached: only a state that a reached one leads to is found, and a state that was gone through leads to none that was not
 -- found. So where none waits, what is marked is closed, and holds all that is reached. Each state is gone through once, so those that were not become fewer.
-use Prim.Native.Nat.{ℕ, zero, suc, ◌+◌, ◌≤◌, ◌<◌}
+use Rattle.std.specs.Prelude.{Option, Some, None}
+use Prim.Native.Nat.{ℕ, zero, suc, ◌≤◌, ◌<◌}
 use mathlib.Core.Path.{◌≡◌, refl, sym, ◌∙◌, ap}
 use mathlib.Core.Logic.{◌≢◌, ◌⊎◌, inl, inr, ⊎_elim}
 use mathlib.Core.Bool.{Bool, true, false, not}
 use mathlib.Core.List.Memᴰ
 use mathlib.Core.List.{List, [], ◌∷◌, ◌++◌, Memᴰ}
 use native.Mathlib.Omega.{arith}
-use native.Mathlib.Numerals.{add-one}
 use native.Mathlib.Decide.{ℕ_discrete, dec_lt}
 use lib.Dec.{eqb}
 use lib.ListN.{length, get_or, set, replicate, length-set, length-replicate}
 use lib.Seq.{get_or-set_same, get_or-set_other, set_out}
 use borrow.Author.Tests.{eqb-true, eq-eqb, ne_eqb}
-use Rattle.model.specs.declared.Found.{Found}
-use Rattle.model.specs.declared.Found.TheVariants.{At, Nowhere}
 use Rattle.model.specs.Indices.{lowest, filled_to}
 use Rattle.model.specs.Limits.{states_max}
 use Rattle.model.specs.Image.{Design, States, design_of, command_at}
@@ -24,8 +22,7 @@ use Rattle.model.specs.Trees.{cmd_of, body_of}
 use Rattle.model.specs.Rules.{StructureKeeps, CommandHolds}
 use Rattle.model.specs.Values.{one_or_zero}
 use Rattle.model.proofs.Laws.Booleans.{decide, true_or_false, not_true}
-use Rattle.model.proofs.Laws.Indices.{extend, lowest_at, lowest_none, lowest_nowhere, lowest_found, filled_is}
-use Rattle.model.proofs.Laws.Passes.{Missed}
+use Rattle.model.proofs.Laws.Indices.{lowest_at, lowest_none, filled_is}
 use Rattle.model.proofs.Laws.States.{child_of, default_cases}
 use Rattle.model.proofs.Laws.Trees.{cmd_skip, cmd_assign, cmd_sequence, cmd_fall, cmd_goto, cmd_branch}
 use Rattle.design.specs.declared.Design.{Design as Described}
@@ -127,45 +124,48 @@ all_marked marks (t ∷ ts) k m l z =
     (Memᴰ.cases_cons m)
 
 -- ---- a command, from its parts
-module _ {image marks : List ℕ} {place n child : ℕ} (here : Finding image place n child marks) where
-  at : CommandAt image here.design place n
+module _ {image marks : List ℕ} {x : Described} {n child : ℕ} (here : Finding image x n child marks) where
+  at : CommandAt image x x.commands_at n
   at = here.command
+
+  pub finding_below : n < x.commands
+  finding_below = at.node
 
   -- the states that it names have entries
   pub child_inside : child < length marks
   child_inside = let long = here.long in let state = here.state in omega arith
 
-  pub goto_inside : {k t : ℕ} → k ≡ 4 → k ≡ (node_in image place n).kind → t ≡ (node_in image place n).item → t < length marks
+  pub goto_inside : {k t : ℕ} → k ≡ 4 → k ≡ (node_in image x.commands_at n).kind → t ≡ (node_in image x.commands_at n).item → t < length marks
   goto_inside kind byte f = let long = here.long in let state = named_state at kind byte f in omega arith
 
   -- what is known at a part
-  part_finding : {m : ℕ} {now : List ℕ} → m < n → length now ≡ length marks → Finding image place m child now
+  part_finding : {m : ℕ} {now : List ℕ} → m < n → length now ≡ length marks → Finding image x m child now
   part_finding lower same =
       let long = here.long in
-      record { design = here.design; commands = here.commands; command = lower_command at here.commands lower; state = here.state; long = omega arith }
+      record { commands = here.commands; command = lower_command at here.commands lower; state = here.state; long = omega arith }
 
   all_long : {now : List ℕ} (ts : List ℕ) → now ≡ found_all marks ts → length now ≡ length marks
   all_long ts e = ap length e ∙ length-all marks ts
 
-  pub first_finding : {k a : ℕ} → k ≡ 2 → k ≡ (node_in image place n).kind → a ≡ (node_in image place n).a → Finding image place a child marks
+  pub first_finding : {k a : ℕ} → k ≡ 2 → k ≡ (node_in image x.commands_at n).kind → a ≡ (node_in image x.commands_at n).a → Finding image x a child marks
   first_finding kind byte f = part_finding (sequence_a_below at kind byte f) refl
 
-  pub second_finding : {k b : ℕ} {now : List ℕ} (ts : List ℕ) → k ≡ 2 → k ≡ (node_in image place n).kind → b ≡ (node_in image place n).b → now ≡ found_all marks ts → Finding image place b child now
+  pub second_finding : {k b : ℕ} {now : List ℕ} (ts : List ℕ) → k ≡ 2 → k ≡ (node_in image x.commands_at n).kind → b ≡ (node_in image x.commands_at n).b → now ≡ found_all marks ts → Finding image x b child now
   second_finding ts kind byte f e = part_finding (sequence_b_below at kind byte f) (all_long ts e)
 
-  pub then_finding : {k b : ℕ} → k ≡ 5 → k ≡ (node_in image place n).kind → b ≡ (node_in image place n).b → Finding image place b child marks
+  pub then_finding : {k b : ℕ} → k ≡ 5 → k ≡ (node_in image x.commands_at n).kind → b ≡ (node_in image x.commands_at n).b → Finding image x b child marks
   then_finding kind byte f = part_finding (branch_b_below at kind byte f) refl
 
-  pub else_finding : {k c : ℕ} {now : List ℕ} (ts : List ℕ) → k ≡ 5 → k ≡ (node_in image place n).kind → c ≡ (node_in image place n).c → now ≡ found_all marks ts → Finding image place c child now
+  pub else_finding : {k c : ℕ} {now : List ℕ} (ts : List ℕ) → k ≡ 5 → k ≡ (node_in image x.commands_at n).kind → c ≡ (node_in image x.commands_at n).c → now ≡ found_all marks ts → Finding image x c child now
   else_finding ts kind byte f e = part_finding (branch_c_below at kind byte f) (all_long ts e)
 
   -- what a command finds
   pub sequence_finds :
       {k a b : ℕ} {middle after : List ℕ}
       → k ≡ 2
-      → k ≡ (node_in image place n).kind
-      → a ≡ (node_in image place n).a
-      → b ≡ (node_in image place n).b
+      → k ≡ (node_in image x.commands_at n).kind
+      → a ≡ (node_in image x.commands_at n).a
+      → b ≡ (node_in image x.commands_at n).b
       → middle ≡ found_all marks (leads_to child (cmd_of (design_of image) a))
       → after ≡ found_all middle (leads_to child (cmd_of (design_of image) b))
       → after ≡ found_all marks (leads_to child (cmd_of (design_of image) n))
@@ -180,9 +180,9 @@ module _ {image marks : List ℕ} {place n child : ℕ} (here : Finding image pl
   pub branch_finds :
       {k b c : ℕ} {middle after : List ℕ}
       → k ≡ 5
-      → k ≡ (node_in image place n).kind
-      → b ≡ (node_in image place n).b
-      → c ≡ (node_in image place n).c
+      → k ≡ (node_in image x.commands_at n).kind
+      → b ≡ (node_in image x.commands_at n).b
+      → c ≡ (node_in image x.commands_at n).c
       → middle ≡ found_all marks (leads_to child (cmd_of (design_of image) b))
       → after ≡ found_all middle (leads_to child (cmd_of (design_of image) c))
       → after ≡ found_all marks (leads_to child (cmd_of (design_of image) n))
@@ -194,11 +194,11 @@ module _ {image marks : List ℕ} {place n child : ℕ} (here : Finding image pl
       let parts : p ++ q ≡ leads_to child (cmd_of (design_of image) n) = rw (tree, ← (b_is at fb), ← (c_is at fc)) refl in
       second ∙ ap (λ (m : List ℕ). found_all m q) first ∙ found_append marks p q ∙ ap (found_all marks) parts
 
-  pub fall_finds : {k : ℕ} {after : List ℕ} → k ≡ 3 → k ≡ (node_in image place n).kind → after ≡ found marks child → after ≡ found_all marks (leads_to child (cmd_of (design_of image) n))
+  pub fall_finds : {k : ℕ} {after : List ℕ} → k ≡ 3 → k ≡ (node_in image x.commands_at n).kind → after ≡ found marks child → after ≡ found_all marks (leads_to child (cmd_of (design_of image) n))
   unfolding command_kind leads_to found_all
   fall_finds kind byte e = e ∙ rw (cmd_fall (design_of image) n (command_kind_of at falls kind byte refl)) refl
 
-  pub goto_finds : {k t : ℕ} {after : List ℕ} → k ≡ 4 → k ≡ (node_in image place n).kind → t ≡ (node_in image place n).item → after ≡ found marks t → after ≡ found_all marks (leads_to child (cmd_of (design_of image) n))
+  pub goto_finds : {k t : ℕ} {after : List ℕ} → k ≡ 4 → k ≡ (node_in image x.commands_at n).kind → t ≡ (node_in image x.commands_at n).item → after ≡ found marks t → after ≡ found_all marks (leads_to child (cmd_of (design_of image) n))
   unfolding command_kind leads_to found_all
   goto_finds kind byte f e = e ∙ rw (cmd_goto (design_of image) n (command_kind_of at goes kind byte refl), ← (item_is at f)) refl
 
@@ -214,43 +214,23 @@ module _ {image marks : List ℕ} {place n child : ℕ} (here : Finding image pl
   leads_nowhere (suc (suc (suc (suc (suc zero))))) e a b c d h = absurd (d refl)
   leads_nowhere (suc (suc (suc (suc (suc (suc k)))))) e a b c d h = absurd h
 
-  pub other_finds : {k : ℕ} → (k ≡ 2 → ⊥) → (k ≡ 3 → ⊥) → (k ≡ 4 → ⊥) → (k ≡ 5 → ⊥) → k ≡ (node_in image place n).kind → marks ≡ found_all marks (leads_to child (cmd_of (design_of image) n))
+  pub other_finds : {k : ℕ} → (k ≡ 2 → ⊥) → (k ≡ 3 → ⊥) → (k ≡ 4 → ⊥) → (k ≡ 5 → ⊥) → k ≡ (node_in image x.commands_at n).kind → marks ≡ found_all marks (leads_to child (cmd_of (design_of image) n))
   other_finds {k} a b c d p = leads_nowhere k (sym (command_kind_is at refl p)) a b c d (command_holds_lem at refl p)
 
-pub ruleset finding_laws = (child_inside, goto_inside, sequence_finds, branch_finds, fall_finds, goto_finds, other_finds)
+pub ruleset finding_laws = (finding_below, child_inside, goto_inside, sequence_finds, branch_finds, fall_finds, goto_finds, other_finds)
 
 -- ---- the lowest state that waits
 module _ (marks : List ℕ) where
-  pub waits_here : {n s : ℕ} → Missed (waits marks) s → s < n → get_or marks s 0 ≡ 2 → At s ≡ lowest (waits marks) n
-  waits_here {n} {s} so l e =
-      let some = lowest_found (waits marks) n s l (eq-eqb (get_or marks s 0) 2 e) in
-      let is = lowest_at (waits marks) n some.0 some.1 in
-      sym (some.1 ∙ ap At (same some.0 is.passes is.none_lower (dec_lt s some.0) (dec_lt some.0 s)))
-    where
-      same : (i : ℕ) → waits marks i ≡ true → ((k : ℕ) → k < i → waits marks k ≡ false) → Dec (s < i) → Dec (i < s) → i ≡ s
-      same i t none (yes b) c = absurd (true_or_false (waits marks s) (eq-eqb (get_or marks s 0) 2 e) (none s b))
-      same i t none (no b) (yes c) = absurd (true_or_false (waits marks i) t (so.fails i c))
-      same i t none (no b) (no c) = omega arith
-
-  pub waits_not_here : {s : ℕ} → Missed (waits marks) s → (get_or marks s 0 ≡ 2 → ⊥) → Missed (waits marks) (s + 1)
-  waits_not_here {s} so h = record { fails = λ k l. extend s so.fails (ne_eqb (get_or marks s 0) 2 h) k (rw (add-one s) at l) }
-
-  pub waits_nowhere : {n s : ℕ} → Missed (waits marks) s → n ≤ s → Nowhere ≡ lowest (waits marks) n
-  waits_nowhere {n} so l = sym (lowest_nowhere (waits marks) n (λ k b. so.fails k (omega arith)))
-
-  found_waits : {n s : ℕ} {f : Found} → f ≡ At s → f ≡ lowest (waits marks) n → (s < n) × (get_or marks s 0 ≡ 2)
+  found_waits : {n s : ℕ} {f : Option ℕ} → f ≡ Some s → f ≡ lowest (waits marks) n → (s < n) × (get_or marks s 0 ≡ 2)
   found_waits {n} {s} e h = let is = lowest_at (waits marks) n s (sym h ∙ e) in (is.below, eqb-true (get_or marks s 0) 2 is.passes)
 
-  pub waiting_state : {n s : ℕ} {f : Found} → f ≡ At s → f ≡ lowest (waits marks) n → s < n
+  pub waiting_state : {n s : ℕ} {f : Option ℕ} → f ≡ Some s → f ≡ lowest (waits marks) n → s < n
   waiting_state e h = (found_waits e h).0
 
-  none_waits : {n : ℕ} {f : Found} → f ≡ Nowhere → f ≡ lowest (waits marks) n → (k : ℕ) → k < n → get_or marks k 0 ≢ 2
+  none_waits : {n : ℕ} {f : Option ℕ} → f ≡ None → f ≡ lowest (waits marks) n → (k : ℕ) → k < n → get_or marks k 0 ≢ 2
   none_waits {n} e h k l z = true_or_false (waits marks k) (eq-eqb (get_or marks k 0) 2 z) (lowest_none (waits marks) n (sym h ∙ e) k l)
 
 -- ---- a state is gone through
-pub through_long : {after : List ℕ} (marks ts : List ℕ) (s : ℕ) → after ≡ found_all (set marks s 1) ts → length after ≡ length marks
-through_long marks ts s e = ap length e ∙ length-all (set marks s 1) ts ∙ length-set marks s 1
-
 module _ {image : List ℕ} {x : Described} (here : Structured image x) where
   pub default_inside : {defaults : List ℕ} {s : ℕ} → Defaults (design_of image) defaults → s < x.states → s < length defaults
   default_inside told l = entry_inside here.records.describes told l
@@ -272,12 +252,11 @@ module _ {image : List ℕ} {x : Described} (here : Structured image x) where
       → Defaults (design_of image) defaults
       → s < x.states
       → x.states ≤ length marks
-      → Finding image x.commands_at n child (set marks s 1)
+      → Finding image x n child (set marks s 1)
   body_finding marks {s} {n} {child} e f told l long =
       let count = states_count here.records.describes in
       let same = length-set marks s 1 in
       record {
-        design = x;
         commands = here.records.commands;
         command = command_at_lem here.records.describes here.records.commands (body_below here.records.describes l e here.records.states) refl;
         state = rw (child_is l told f) (default_state (omega arith));
@@ -316,10 +295,6 @@ undone marks n = closed_up (left marks) n
 -- it is as long as it was
 pub reaching_same : {d : Design} {old marks : List ℕ} → Reaching d marks → old ≡ replicate {A = ℕ} states_max 0 → length marks ≡ length old
 reaching_same so e = so.whole ∙ sym (ap length e ∙ length-replicate {A = ℕ} states_max 0)
-
--- a table in which only the root is found
-pub root_inside : {marks : List ℕ} → marks ≡ replicate {A = ℕ} states_max 0 → 0 < length marks
-root_inside e = let fresh = ap length e ∙ length-replicate {A = ℕ} states_max 0 in omega arith
 
 pub reaching_begins : {image marks : List ℕ} {x : Described} → Structured image x → marks ≡ replicate {A = ℕ} states_max 0 → Reaching (design_of image) (set marks 0 2)
 reaching_begins {image} {marks} here e =
@@ -493,8 +468,8 @@ module _ {image : List ℕ} {x : Described} (here : Structured image x) where
   reaching_long so = let count = states_count here.records.describes in let long = so.long in omega arith
 
   pub reaching_more :
-      {marks after : List ℕ} {s : ℕ} {f : Found}
-      → f ≡ At s
+      {marks after : List ℕ} {s : ℕ} {f : Option ℕ}
+      → f ≡ Some s
       → f ≡ lowest (waits marks) x.states
       → Reaching (design_of image) marks
       → after ≡ found_all (set marks s 1) (successors (design_of image) s)
@@ -506,8 +481,8 @@ module _ {image : List ℕ} {x : Described} (here : Structured image x) where
       rw after_is (reaching_next (design_of image) here.structure marks s so (omega arith) is.1)
 
   pub reaching_less :
-      {marks after : List ℕ} {s : ℕ} {f : Found}
-      → f ≡ At s
+      {marks after : List ℕ} {s : ℕ} {f : Option ℕ}
+      → f ≡ Some s
       → f ≡ lowest (waits marks) x.states
       → Reaching (design_of image) marks
       → after ≡ found_all (set marks s 1) (successors (design_of image) s)
@@ -518,7 +493,7 @@ module _ {image : List ℕ} {x : Described} (here : Structured image x) where
       let below = is.0 in
       rw after_is (undone_next (design_of image) here.structure marks s so (omega arith) is.1 x.states below)
 
-  pub reaching_ends : {marks : List ℕ} {f : Found} → f ≡ Nowhere → f ≡ lowest (waits marks) x.states → Reaching (design_of image) marks → Marked (reached (design_of image)) x.states marks
+  pub reaching_ends : {marks : List ℕ} {f : Option ℕ} → f ≡ None → f ≡ lowest (waits marks) x.states → Reaching (design_of image) marks → Marked (reached (design_of image)) x.states marks
   reaching_ends {marks} e h so =
       let count = states_count here.records.describes in
       let long = so.long in
@@ -529,8 +504,8 @@ module _ {image : List ℕ} {x : Described} (here : Structured image x) where
 
   -- a state that does not exist is not reached, so that its entry stays
   pub reaching_whole :
-      {old marks : List ℕ} {f : Found}
-      → f ≡ Nowhere
+      {old marks : List ℕ} {f : Option ℕ}
+      → f ≡ None
       → f ≡ lowest (waits marks) x.states
       → Reaching (design_of image) marks
       → old ≡ replicate {A = ℕ} states_max 0

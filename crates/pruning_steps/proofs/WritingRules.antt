@@ -2,18 +2,20 @@
 use Prim.Native.Nat.{ℕ, suc, ◌+◌, ◌*◌, ◌≤◌, ◌<◌}
 use mathlib.Core.Path.{◌≡◌, refl, sym, ◌∙◌, ap}
 use mathlib.Core.Logic.{◌⊎◌, inl, inr, ⊎_elim}
-use mathlib.Core.Bool.{Bool, true, false, not, cond}
+use mathlib.Core.Bool.{Bool, true, false, cond}
 use mathlib.Core.List.{List, [], ◌∷◌, ◌++◌, map, map-append, append-nil}
 use native.Mathlib.Omega.{arith}
 use native.Mathlib.Numerals.{add-one}
 use native.Mathlib.Nat.{add-zero, mul-le-mul_left}
 use native.Mathlib.Decide.{ℕ_discrete, dec_lt}
+use lib.Dec.{eqb}
 use lib.ListN.{length, get_or, take, length-map}
 use lib.Seq.{length-take-le, take-suc, take_all}
 use Rattle.model.specs.Limits.{state_length, node_length}
 use Rattle.model.specs.Image.{State, Node, no_state, no_node, design_of, state_at, command_at, expression_at}
 use Rattle.model.specs.Kinds.{CommandKind, assigns, sequences, goes, branches, ExpressionKind, Operation, operates, command_kind, expression_kind}
-use Rattle.model.proofs.Laws.Booleans.{decide, not_true, not_false}
+use Rattle.model.specs.Values.{one_or_zero}
+use Rattle.model.proofs.Laws.Booleans.{decide}
 use Rattle.model.proofs.Laws.Kinds.{kind_skips, kind_assigns, kind_sequences, kind_falls, kind_goes, kind_branches, no_command_kind, expression_kinds, kind_constants, kind_reads, no_expression_kind}
 use Rattle.design.specs.declared.Design.{Design}
 use Rattle.design.specs.Kept.{Structured}
@@ -33,23 +35,8 @@ use Rattle.pruning_model.specs.Reached.{reached}
 use Rattle.pruning_model.specs.Pruned.{closed_up, staying_from, staying, command_stays, expression_stays, new_state, new_command, new_expression, pruned}
 use Rattle.pruning_model.proofs.Closing.{closed_zero, closed_stays, closed_goes, closed_grows, closed_at_most, length-staying}
 use Rattle.pruning_model.specs.Pruned.{state_written, command_written, expression_written}
-use Rattle.pruning_steps.specs.Marks.{Marked, is_marked, Numbered}
-use Rattle.pruning_steps.specs.Writing.{behind, Stepped}
+use Rattle.pruning_steps.specs.Marks.{Marked, Numbered}
 use Rattle.pruning_steps.proofs.NumberingRules.{marked_says}
-
--- ---- one step: a record is written where it is marked
-pub stepped_none : (mark : Bool) {width place : ℕ} {bytes out : List ℕ} → not mark ≡ true → Stepped width mark bytes place out place out
-stepped_none mark {width} {place} {bytes} {out} e =
-    let goes = not_true mark e in
-    record { moved = rw goes (omega arith); put = rw goes (sym (over_none place out)) }
-
-pub stepped_one : (mark : Bool) {width place : ℕ} {bytes out after : List ℕ} → not mark ≡ false → after ≡ overwritten_at place bytes out → Stepped width mark bytes place out (place + width) after
-stepped_one mark {width} {place} e put =
-    let stays = not_false mark e in
-    record { moved = rw stays (omega arith); put = rw stays put }
-
-pub room_here : (mark : Bool) (width place : ℕ) {long : ℕ} → not mark ≡ false → behind width mark place ≤ long → place + width ≤ long
-room_here mark width place {long} e room = let inside : place + width * 1 ≤ long = rw (not_false mark e) at room in omega arith
 
 -- ---- the entries that stay, with one more of the list
 module _ {A : Type 0} (stays : ℕ → Bool) where
@@ -130,47 +117,49 @@ module _ {A : Type 0} {bytes : A → List ℕ} {width : ℕ} {f : A → A} {stay
         let size = so.family.sized before ∙ ap (λ (m : ℕ). width * m) written_count in
         ap length so.is ∙ length_over at old (records_bytes bytes before) (omega (arith, size, so.room, grows k so.within))
 
-    pub written_room : k < count → behind width (is_marked marks k) place ≤ length now
-    written_room l =
-        let long = written_long in
-        let end = grows (suc k) l in
-        let room = so.room in
-        let reaches = so.reaches in
+    -- what a mark says
+    stays_here : get_or marks k 0 ≡ 1 → k < count → stays k ≡ true
+    stays_here e l = sym (marked_says so.marked k l) ∙ ap (λ (m : ℕ). eqb m 1) e
+
+    goes_here : (get_or marks k 0 ≡ 1 → ⊥) → k < count → stays k ≡ false
+    goes_here e l =
         ⊎_elim
-        (λ (h : stays k ≡ true). rw (marked_says so.marked k l ∙ h) (omega (arith, one_wider h)))
-        (λ (h : stays k ≡ false). rw (marked_says so.marked k l ∙ h) (omega (arith, no_wider h)))
+        (λ (h : stays k ≡ true). absurd (e (so.marked.entry k l ∙ ap (λ (b : Bool). one_or_zero b) h)))
+        (λ (h : stays k ≡ false). h)
         (decide (stays k))
 
-    written_more :
-        (x : A) {after : List ℕ} {next : ℕ}
-        → Stepped width (is_marked marks k) (bytes (f (get_or xs k x))) place now next after
-        → k < count
-        → Written bytes width f stays xs count marks at old (k + 1) next after
-    written_more x {after} {next} step l = rw (add-one k) (go (decide (stays k)))
-      where
-        inside : k < length xs
-        inside = omega (arith, so.family.counted)
+    pub written_room : get_or marks k 0 ≡ 1 → k < count → place + width ≤ length now
+    written_room e l =
+        let end = grows (suc k) l in
+        omega (arith, written_long, so.room, so.reaches, one_wider (stays_here e l))
 
-        written : after ≡ overwritten_at at (records_bytes bytes (map f (staying stays (take (suc k) xs)))) old → next ≡ at + width * closed_up stays (suc k) → Written bytes width f stays xs count marks at old (suc k) next after
-        written is reaches = record { family = so.family; marked = so.marked; room = so.room; within = l; is = is; reaches = reaches }
+    module _ {after : List ℕ} {next : ℕ} where
+      written : k < count → after ≡ overwritten_at at (records_bytes bytes (map f (staying stays (take (suc k) xs)))) old → next ≡ at + width * closed_up stays (suc k)
+          → Written bytes width f stays xs count marks at old (k + 1) next after
+      written l is reaches =
+          rw (add-one k) (record { family = so.family; marked = so.marked; room = so.room; within = l; is = is; reaches = reaches })
 
-        go : (stays k ≡ true) ⊎ (stays k ≡ false) → Written bytes width f stays xs count marks at old (suc k) next after
-        go (inl h) =
-            let mark : is_marked marks k ≡ true = marked_says so.marked k l ∙ h in
-            let moved : next ≡ place + width * 1 = rw mark at step.moved in
-            let put : after ≡ overwritten_at place (bytes (f (get_or xs k x))) now = rw mark at step.put in
-            let here : place ≡ at + width * length before = so.reaches ∙ ap (λ (m : ℕ). at + width * m) (sym written_count) in
-            let one = so.family.one_put old at before (f (get_or xs k x)) (put ∙ ap (λ (p : ℕ). overwritten_at p (bytes (f (get_or xs k x))) now) here) so.is (omega (arith, so.room)) in
-            let joined : before ++ (f (get_or xs k x) ∷ []) ≡ map f (staying stays (take (suc k) xs)) =
-            sym (map-append f (staying stays (take k xs)) (get_or xs k x ∷ [])) ∙ ap (map f) (sym (staying_one stays k xs x inside h)) in
-            written (one ∙ ap (λ (ys : List A). overwritten_at at (records_bytes bytes ys) old) joined) (omega (arith, so.reaches, one_wider h))
-        go (inr h) =
-            let mark : is_marked marks k ≡ false = marked_says so.marked k l ∙ h in
-            let moved : next ≡ place + width * 0 = rw mark at step.moved in
-            let put : after ≡ overwritten_at place [] now = rw mark at step.put in
-            written
-            (put ∙ over_none place now ∙ so.is ∙ ap (λ (ys : List A). overwritten_at at (records_bytes bytes (map f ys)) old) (sym (staying_none stays k xs x inside h)))
-            (omega (arith, so.reaches, no_wider h))
+      -- one more that stays, and one more that goes
+      written_one : (x : A) → get_or marks k 0 ≡ 1 → next ≡ place + width → after ≡ overwritten_at place (bytes (f (get_or xs k x))) now → k < count
+          → Written bytes width f stays xs count marks at old (k + 1) next after
+      written_one x mark moved put l =
+          let h = stays_here mark l in
+          let inside : k < length xs = omega (arith, so.family.counted) in
+          let here : place ≡ at + width * length before = so.reaches ∙ ap (λ (m : ℕ). at + width * m) (sym written_count) in
+          let one = so.family.one_put old at before (f (get_or xs k x)) (put ∙ ap (λ (p : ℕ). overwritten_at p (bytes (f (get_or xs k x))) now) here) so.is (omega (arith, so.room)) in
+          let joined : before ++ (f (get_or xs k x) ∷ []) ≡ map f (staying stays (take (suc k) xs)) =
+          sym (map-append f (staying stays (take k xs)) (get_or xs k x ∷ [])) ∙ ap (map f) (sym (staying_one stays k xs x inside h)) in
+          written l (one ∙ ap (λ (ys : List A). overwritten_at at (records_bytes bytes ys) old) joined) (omega (arith, so.reaches, one_wider h))
+
+      written_past : (x : A) → (get_or marks k 0 ≡ 1 → ⊥) → next ≡ place → after ≡ now → k < count
+          → Written bytes width f stays xs count marks at old (k + 1) next after
+      written_past x mark same put l =
+          let h = goes_here mark l in
+          let inside : k < length xs = omega (arith, so.family.counted) in
+          written
+          l
+          (put ∙ so.is ∙ ap (λ (ys : List A). overwritten_at at (records_bytes bytes (map f ys)) old) (sym (staying_none stays k xs x inside h)))
+          (omega (arith, so.reaches, no_wider h))
 
     written_whole : count ≤ k → now ≡ overwritten_at at (records_bytes bytes (map f (staying stays xs))) old
     written_whole h =
@@ -194,12 +183,17 @@ module _ {image : List ℕ} {x : Design} {marks : List ℕ} {at : ℕ} {old : Li
       room
 
 module _ (image : List ℕ) (x : Design) {marks : List ℕ} {at : ℕ} {old : List ℕ} {k place : ℕ} {now : List ℕ} (so : StatesWritten image x marks at old k place now) where
-  pub states_more :
-      {next : ℕ} {after : List ℕ}
-      → Stepped state_length (is_marked marks k) (state_bytes (state_written (design_of image) (state_at (design_of image) k))) place now next after
-      → k < x.states
-      → StatesWritten image x marks at old (k + 1) next after
-  states_more step l = written_more so no_state step l
+  module _ {next : ℕ} {after : List ℕ} where
+    pub states_one :
+        get_or marks k 0 ≡ 1
+        → next ≡ place + state_length
+        → after ≡ overwritten_at place (state_bytes (state_written (design_of image) (state_at (design_of image) k))) now
+        → k < x.states
+        → StatesWritten image x marks at old (k + 1) next after
+    states_one mark moved put l = written_one so no_state mark moved put l
+
+    pub states_past : (get_or marks k 0 ≡ 1 → ⊥) → next ≡ place → after ≡ now → k < x.states → StatesWritten image x marks at old (k + 1) next after
+    states_past mark same put l = written_past so no_state mark same put l
 
   -- all of them are those of the pruned design
   pub states_whole : x.states ≤ k → now ≡ overwritten_at at (records_bytes state_bytes (pruned (design_of image)).states) old
@@ -224,12 +218,17 @@ module _ {image : List ℕ} {x : Design} {marks : List ℕ} {at : ℕ} {old : Li
       room
 
 module _ (image : List ℕ) (x : Design) {marks : List ℕ} {at : ℕ} {old : List ℕ} {k place : ℕ} {now : List ℕ} (so : CommandsWritten image x marks at old k place now) where
-  pub commands_more :
-      {next : ℕ} {after : List ℕ}
-      → Stepped node_length (is_marked marks k) (node_bytes (command_written (design_of image) (command_at (design_of image) k))) place now next after
-      → k < x.commands
-      → CommandsWritten image x marks at old (k + 1) next after
-  commands_more step l = written_more so no_node step l
+  module _ {next : ℕ} {after : List ℕ} where
+    pub commands_one :
+        get_or marks k 0 ≡ 1
+        → next ≡ place + node_length
+        → after ≡ overwritten_at place (node_bytes (command_written (design_of image) (command_at (design_of image) k))) now
+        → k < x.commands
+        → CommandsWritten image x marks at old (k + 1) next after
+    commands_one mark moved put l = written_one so no_node mark moved put l
+
+    pub commands_past : (get_or marks k 0 ≡ 1 → ⊥) → next ≡ place → after ≡ now → k < x.commands → CommandsWritten image x marks at old (k + 1) next after
+    commands_past mark same put l = written_past so no_node mark same put l
 
   -- all of them are those of the pruned design
   pub commands_whole : x.commands ≤ k → now ≡ overwritten_at at (records_bytes node_bytes (pruned (design_of image)).commands) old
@@ -254,12 +253,17 @@ module _ {image : List ℕ} {x : Design} {marks : List ℕ} {at : ℕ} {old : Li
       room
 
 module _ (image : List ℕ) (x : Design) {marks : List ℕ} {at : ℕ} {old : List ℕ} {k place : ℕ} {now : List ℕ} (so : ExpressionsWritten image x marks at old k place now) where
-  pub expressions_more :
-      {next : ℕ} {after : List ℕ}
-      → Stepped node_length (is_marked marks k) (node_bytes (expression_written (design_of image) (expression_at (design_of image) k))) place now next after
-      → k < x.expressions
-      → ExpressionsWritten image x marks at old (k + 1) next after
-  expressions_more step l = written_more so no_node step l
+  module _ {next : ℕ} {after : List ℕ} where
+    pub expressions_one :
+        get_or marks k 0 ≡ 1
+        → next ≡ place + node_length
+        → after ≡ overwritten_at place (node_bytes (expression_written (design_of image) (expression_at (design_of image) k))) now
+        → k < x.expressions
+        → ExpressionsWritten image x marks at old (k + 1) next after
+    expressions_one mark moved put l = written_one so no_node mark moved put l
+
+    pub expressions_past : (get_or marks k 0 ≡ 1 → ⊥) → next ≡ place → after ≡ now → k < x.expressions → ExpressionsWritten image x marks at old (k + 1) next after
+    expressions_past mark same put l = written_past so no_node mark same put l
 
   -- all of them are those of the pruned design
   pub expressions_whole : x.expressions ≤ k → now ≡ overwritten_at at (records_bytes node_bytes (pruned (design_of image)).expressions) old
@@ -321,24 +325,6 @@ module _ {image : List ℕ} {x : Design} (known : Structured image x) {s p : ℕ
       let parent' = new_is table parent_below new_parent parent_is in
       let command' = new_is command_table (body_below known.records.describes l body known.records.states) new_command (body ∙ ap (λ (y : State). y.command) is) in
       put ∙ ap (λ (y : State). overwritten_at at (state_bytes y) out) (λ i. with_parts (parent' i) (command' i) (is i))
-
--- the fields that stay
-pub fields_put :
-    (at : ℕ) (out image : List ℕ) (from s parent command : ℕ) {label parameters first_lower first_upper second_lower second_upper : ℕ} {after : List ℕ}
-    → after
-    ≡ overwritten_at at (state_bytes (record { parent = parent; label = label; command = command; parameters = parameters; first_lower = first_lower; first_upper = first_upper; second_lower = second_lower; second_upper = second_upper })) out
-    → label ≡ (state_in image from s).label
-    → parameters ≡ (state_in image from s).parameters
-    → first_lower ≡ (state_in image from s).first_lower
-    → first_upper ≡ (state_in image from s).first_upper
-    → second_lower ≡ (state_in image from s).second_lower
-    → second_upper ≡ (state_in image from s).second_upper
-    → after ≡ overwritten_at at (state_bytes (with_parts parent command (state_in image from s))) out
-fields_put at out image from s parent command put l p a b c d =
-    put
-    ∙ ap
-    (λ (y : State). overwritten_at at (state_bytes y) out)
-    (λ i. record { parent = parent; label = l i; command = command; parameters = p i; first_lower = a i; first_upper = b i; second_lower = c i; second_upper = d i })
 
 -- ---- nodes
 node_put : (at : ℕ) (out : List ℕ) {kind item a b c kind' item' a' b' c' : ℕ} {y : Node} {after : List ℕ}

@@ -2,6 +2,7 @@
 use Rattle.std.specs.Prelude.{ℕ, ◌≤◌, ◌<◌, Bool, cond, List, [], ◌∷◌, eqb, length, get_or, set}
 use Rattle.model.specs.Image.{design_of}
 use Rattle.design.specs.declared.Design.{Design as Described}
+use Rattle.design.specs.declared.image.Image.{Image}
 use Rattle.design.specs.Kept.{CommandsKept}
 use Rattle.design.specs.RecordsAt.{CommandAt}
 
@@ -18,10 +19,12 @@ found_all marks (t ∷ ts) = found_all (found marks t) ts
 abbrev pub waits : List ℕ → ℕ → Bool
 waits marks k = eqb (get_or marks k 0) 2
 
--- what is known where the states that command n leads to are found; the recursion has the place of a design instead of the design
-pub record Finding (image : List ℕ) (place n child : ℕ) (marks : List ℕ) : Type 0 where
-  pub design : Described
+-- what is known where the states that command n leads to are found
+pub record Finding (image : List ℕ) (x : Described) (n child : ℕ) (marks : List ℕ) : Type 0 where
   pub commands : CommandsKept (design_of image)
-  pub command : CommandAt image design place n
+  pub command : CommandAt image x x.commands_at n
   pub state : child < length (design_of image).states
   pub long : length (design_of image).states ≤ length marks
+
+abbrev pub FindingIn : Image → ℕ → ℕ → List ℕ → Type 0
+FindingIn image n child marks = Finding image.bytes.now image.design n child marks

@@ -23,12 +23,10 @@ pub fn close_up(marks: &[u8], count: usize, numbers: &mut [u16]) -> usize
         × (numbers.new ≡ filled_to (closed_up (is_marked marks.now)) count numbers.old)
         × Numbered (is_marked marks.now) count numbers.new }
 {
-    let mut k = 0;
     let mut next = 0;
-    while k < count {
+    for k in 0..count {
         numbers[k] = next as u16;
         next = one_more(marks[k], next);
-        k += 1;
     }
     next
 }

@@ -3,7 +3,7 @@
 -- no two of them have one number.
 use Rattle.std.specs.Prelude.{ℕ, ◌≡◌}
 use mathlib.Core.List.{List, [], ◌∷◌, map, Memᴰ}
-use Rattle.model.specs.declared.Answer.{Answer}
+use Rattle.model.specs.Answers.{Answer}
 use Rattle.model.specs.Image.{design_of}
 use Rattle.model.specs.Machine.{Cycle}
 use Rattle.model.specs.Calls.{Lent, reset}

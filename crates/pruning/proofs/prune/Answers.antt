@@ -4,10 +4,10 @@ use borrow.Author.Rules.{rules}
 use Rattle.pruning.proofs.prune.Goals as goal
 
 pub prune_accepted-requires : goal.prune_accepted-requires
-prune_accepted-requires c = search (accepted_keeps, rules)
+prune_accepted-requires c = let was = c.in_ok-verdict.was in search (accepted_keeps, rules)
 
-pub returns-in-Refused : goal.returns-in-Refused
-returns-in-Refused c = search (verdict_refuses, verdict_passes, rules)
+pub returns-in_err-verdict : goal.returns-in_err-verdict
+returns-in_err-verdict c = search (verdict_refuses, verdict_passes, rules)
 
-pub returns-in-Accepted : goal.returns-in-Accepted
-returns-in-Accepted c = search (verdict_refuses, verdict_passes, rules)
+pub returns : goal.returns
+returns c = search (verdict_refuses, verdict_passes, rules)

@@ -1,9 +1,6 @@
-use Rattle.pruning.proofs.StageRules.{accepted_directory, accepted_pruning, all_marked}
+use Rattle.pruning.proofs.StageRules.{accepted_pruning, all_marked}
 use borrow.Author.Rules.{rules}
 use Rattle.pruning.proofs.prune_accepted.Goals as goal
-
-pub read-design-requires : goal.read-design-requires
-read-design-requires c = search (accepted_directory, rules)
 
 pub reached_states-requires : goal.reached_states-requires
 reached_states-requires c = search (accepted_pruning, rules)
@@ -16,3 +13,6 @@ staying_expressions-requires c = search (accepted_pruning, rules)
 
 pub prune_marked-requires : goal.prune_marked-requires
 prune_marked-requires c = search (accepted_pruning, all_marked, rules)
+
+pub returns : goal.returns
+returns c = rw (← c.read-image.ensures) (search rules)

@@ -8,11 +8,11 @@ use Rattle.pruning.proofs.prune_marked.Goals as goal
 pub close_up-states-requires : goal.close_up-states-requires
 close_up-states-requires c = search (states_few, states_small, rules)
 
-pub close_up-commands_left-requires : goal.close_up-commands_left-requires
-close_up-commands_left-requires c = search (commands_most, commands_small, rules)
+pub close_up-commands-requires : goal.close_up-commands-requires
+close_up-commands-requires c = search (commands_most, commands_small, rules)
 
-pub close_up-expressions_left-requires : goal.close_up-expressions_left-requires
-close_up-expressions_left-requires c = search (expressions_most, expressions_small, rules)
+pub close_up-expressions-requires : goal.close_up-expressions-requires
+close_up-expressions-requires c = search (expressions_most, expressions_small, rules)
 
 pub resized-result-requires : goal.resized-result-requires
 resized-result-requires c = (search (front_short, rules), search (states_fit, rules), search (commands_fit, rules), search (expressions_fit, rules))

@@ -7,8 +7,7 @@ use mathlib.Core.List.{List, [], ◌∷◌, map}
 use lib.Dec.{leb}
 use lib.ListN.{length}
 use Rattle.model.specs.declared.Refusal.TheVariants.{NoPort, CycleCount, PortValue}
-use Rattle.model.specs.declared.Answer.{Answer}
-use Rattle.model.specs.declared.Answer.TheVariants.{Accepted, Refused}
+use Rattle.model.specs.Answers.{Answer, Accepted, Refused}
 use Rattle.model.specs.Limits.{cycles_max}
 use Rattle.model.specs.Image.{Design, design_of}
 use Rattle.model.specs.Rules.{StructureKeeps}

@@ -10,7 +10,7 @@ use native.Mathlib.Omega.{arith}
 use native.Mathlib.Decide.{dec_lt}
 use lib.Dec.{leb}
 use Rattle.model.specs.declared.Refusal.TheVariants.{NoPort, PortValue}
-use Rattle.model.specs.declared.Answer.TheVariants.{Accepted, Refused}
+use Rattle.model.specs.Answers.{Accepted, Refused}
 use Rattle.model.specs.Limits.{cycles_max}
 use Rattle.model.specs.Image.{Design, design_of}
 use Rattle.model.specs.Verdict.{verdict}

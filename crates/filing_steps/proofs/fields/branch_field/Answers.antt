@@ -1,10 +1,6 @@
-use Rattle.design.proofs.FieldRules.{command_place_inside}
 use Rattle.filing_steps.proofs.FieldRules.{condition_inside, condition_new, branch_inside, branch_new}
 use borrow.Author.Rules.{rules}
 use Rattle.filing_steps.proofs.fields.branch_field.Goals as goal
-
-pub field-old-requires : goal.field-old-requires
-field-old-requires c = search (command_place_inside, rules)
 
 pub new_number-requires : goal.new_number-requires
 new_number-requires c = search (condition_inside, rules)

@@ -1,19 +1,6 @@
-use borrow.Author.Rules.{rules}
-use Rattle.design.proofs.FieldRules.{command_place_inside, sequence_a_falls, sequence_b_falls, branch_b_falls, branch_c_falls}
+use Rattle.design.proofs.FieldRules.{sequence_a_falls, sequence_b_falls, branch_b_falls, branch_c_falls}
 use Rattle.filing_steps.proofs.OrderingRules.{sequence_first, sequence_second, sequence_room, sequence_put, branch_first, branch_second, branch_room, branch_put, simple_room, simple_put, command_small}
 use Rattle.filing_steps.proofs.ordering.+order_command.Goals as goal
-
-pub kind-kind-requires : goal.kind-kind-requires
-kind-kind-requires t c = search (command_place_inside, rules)
-
-pub part_a-a-requires : goal.part_a-a-requires
-part_a-a-requires t c = search (command_place_inside, rules)
-
-pub part_b-b-requires : goal.part_b-b-requires
-part_b-b-requires t c = search (command_place_inside, rules)
-
-pub part_c-c-requires : goal.part_c-c-requires
-part_c-c-requires t c = search (command_place_inside, rules)
 
 pub order_command-second-requires : goal.order_command-second-requires
 order_command-second-requires t c = (search sequence_a_falls, search sequence_first)

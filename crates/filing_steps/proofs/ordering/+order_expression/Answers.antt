@@ -1,16 +1,5 @@
-use borrow.Author.Rules.{rules}
-use Rattle.design.proofs.FieldRules.{expression_place_inside}
 use Rattle.filing_steps.proofs.OrderingRules.{operand_first, first_falls, second_falls, operand_second, operation_room, operation_put, leaf_room, leaf_put, expression_small, no_kind}
 use Rattle.filing_steps.proofs.ordering.+order_expression.Goals as goal
-
-pub kind-kind-requires : goal.kind-kind-requires
-kind-kind-requires t c = search (expression_place_inside, rules)
-
-pub part_a-a-requires : goal.part_a-a-requires
-part_a-a-requires t c = search (expression_place_inside, rules)
-
-pub part_b-b-requires : goal.part_b-b-requires
-part_b-b-requires t c = search (expression_place_inside, rules)
 
 pub place-requires : goal.place-requires
 place-requires t c = (search leaf_room, search expression_small)

@@ -1,13 +1,5 @@
-use Rattle.design.proofs.FieldRules.{command_place_inside}
 use Rattle.filing_steps.proofs.ValueRules.{value_ordering, value_put, no_value_put}
-use borrow.Author.Rules.{rules}
 use Rattle.filing_steps.proofs.ordering.order_value.Goals as goal
-
-pub kind-kind-requires : goal.kind-kind-requires
-kind-kind-requires c = search (command_place_inside, rules)
-
-pub part_a-a-requires : goal.part_a-a-requires
-part_a-a-requires c = search (command_place_inside, rules)
 
 pub order_expression-requires : goal.order_expression-requires
 order_expression-requires c = search value_ordering

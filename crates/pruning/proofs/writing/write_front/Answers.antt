@@ -6,7 +6,7 @@ pub put_result-requires : goal.put_result-requires
 put_result-requires c = (search (result_near, rules), search (directory_room, rules))
 
 pub put_kept-requires : goal.put_kept-requires
-put_kept-requires c = (search rules, search (front_room, rules))
+put_kept-requires c = (search rules, search rules, search (front_room, rules))
 
 pub returns : goal.returns
 returns c = search (front_put, rules)

@@ -1,31 +1,13 @@
 use borrow.Author.Rules.{rules}
-use Rattle.design.proofs.FieldRules.{command_place_inside, sequence_a_falls, sequence_b_falls, branch_b_falls, branch_c_falls}
+use Rattle.design.proofs.FieldRules.{sequence_a_falls, sequence_b_falls, branch_b_falls, branch_c_falls}
 use Rattle.pruning_steps.proofs.ReachingRules.{finding_laws, first_finding, second_finding, then_finding, else_finding}
 use Rattle.pruning_steps.proofs.reaching.+find_successors.Goals as goal
-
-pub kind-kind-requires : goal.kind-kind-requires
-kind-kind-requires t c = search (command_place_inside, rules)
-
-pub part_a-a-requires : goal.part_a-a-requires
-part_a-a-requires t c = search (command_place_inside, rules)
-
-pub part_b-b-requires : goal.part_b-b-requires
-part_b-b-requires t c = search (command_place_inside, rules)
-
-pub part_c-c-requires : goal.part_c-c-requires
-part_c-c-requires t c = search (command_place_inside, rules)
 
 pub find_successors-requires : goal.find_successors-requires
 find_successors-requires t c = (search sequence_a_falls, search first_finding)
 
 pub find_successors-requires-in-2 : goal.find_successors-requires-in-2
 find_successors-requires-in-2 t c = (search sequence_b_falls, search second_finding)
-
-pub find-requires : goal.find-requires
-find-requires t c = search (finding_laws, rules)
-
-pub item-t-requires : goal.item-t-requires
-item-t-requires t c = search (command_place_inside, rules)
 
 pub find-requires-in-4 : goal.find-requires-in-4
 find-requires-in-4 t c = search (finding_laws, rules)

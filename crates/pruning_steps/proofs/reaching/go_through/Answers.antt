@@ -1,4 +1,4 @@
-use Rattle.pruning_steps.proofs.ReachingRules.{default_inside, body_finding, goes_through, through_long}
+use Rattle.pruning_steps.proofs.ReachingRules.{default_inside, body_finding, goes_through}
 use borrow.Author.Rules.{rules}
 use Rattle.pruning_steps.proofs.reaching.go_through.Goals as goal
 
@@ -7,9 +7,6 @@ bounds-defaults-s c = search (default_inside, rules)
 
 pub find_successors-requires : goal.find_successors-requires
 find_successors-requires c = search (body_finding, rules)
-
-pub shape_of-marks : goal.shape_of-marks
-shape_of-marks c = search (through_long, rules)
 
 pub returns : goal.returns
 returns c = search (goes_through, rules)

@@ -1,4 +1,3 @@
-use Rattle.design.proofs.Laws.{state_inside}
 use Rattle.design.proofs.PartRules.{body_inside}
 use Rattle.pruning_steps.proofs.StayingRules.{marks_nothing, marks_given, marks_body}
 use borrow.Author.Rules.{rules}
@@ -6,9 +5,6 @@ use Rattle.pruning_steps.proofs.staying.mark_body.Goals as goal
 
 pub returns-then-not-reached-s : goal.returns-then-not-reached-s
 returns-then-not-reached-s c = search (marks_nothing, rules)
-
-pub state_command-command-requires : goal.state_command-command-requires
-state_command-command-requires c = search (state_inside, rules)
 
 pub bounds-marks-command : goal.bounds-marks-command
 bounds-marks-command c = search (body_inside, rules)

@@ -1,20 +1,10 @@
-use Rattle.design.proofs.FieldRules.{command_place_inside}
-use Rattle.design.proofs.PartRules.{command_inside, value_inside}
+use Rattle.design.proofs.PartRules.{value_inside}
 use Rattle.pruning_steps.proofs.StayingRules.{marks_nothing, marks_given, marks_value, marks_no_value}
 use borrow.Author.Rules.{rules}
 use Rattle.pruning_steps.proofs.staying.mark_value.Goals as goal
 
-pub bounds-commands-n : goal.bounds-commands-n
-bounds-commands-n c = search (command_inside, rules)
-
 pub returns-then-not-commands-n : goal.returns-then-not-commands-n
 returns-then-not-commands-n c = search (marks_nothing, rules)
-
-pub kind-kind-requires : goal.kind-kind-requires
-kind-kind-requires c = search (command_place_inside, rules)
-
-pub part_a-a-requires : goal.part_a-a-requires
-part_a-a-requires c = search (command_place_inside, rules)
 
 pub bounds-marks-a : goal.bounds-marks-a
 bounds-marks-a c = search (value_inside, rules)

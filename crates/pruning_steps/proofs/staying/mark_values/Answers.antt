@@ -1,4 +1,4 @@
-use Rattle.pruning_steps.proofs.StayingRules.{spread_laws, spread_long, spread_keeps, kept_command}
+use Rattle.pruning_steps.proofs.StayingRules.{spread_laws, spread_keeps, kept_command}
 use borrow.Author.Rules.{rules}
 use Rattle.pruning_steps.proofs.staying.mark_values.Goals as goal
 
@@ -10,9 +10,3 @@ mark_value-requires c = search (kept_command, spread_keeps, rules)
 
 pub loop-n-preserved : goal.loop-n-preserved
 loop-n-preserved c = search (spread_laws, rules)
-
-pub shape_of-marks : goal.shape_of-marks
-shape_of-marks c = search (spread_long, rules)
-
-pub returns : goal.returns
-returns c = search (spread_laws, rules)

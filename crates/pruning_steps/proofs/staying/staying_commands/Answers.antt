@@ -1,5 +1,5 @@
 use Rattle.design.proofs.Laws.{commands_most}
-use Rattle.pruning_steps.proofs.StayingRules.{downward_begins, downward_more, downward_done, downward_whole, downward_long, commands_are, fresh_commands, command_met}
+use Rattle.pruning_steps.proofs.StayingRules.{downward_begins, downward_more, downward_done, downward_whole, commands_are, fresh_commands, command_met}
 use borrow.Author.Rules.{rules}
 use Rattle.pruning_steps.proofs.staying.staying_commands.Goals as goal
 
@@ -14,9 +14,6 @@ mark_parts-requires c = search (command_met, rules)
 
 pub loop-n-preserved : goal.loop-n-preserved
 loop-n-preserved c = search (downward_more, commands_are, rules)
-
-pub shape_of-marks : goal.shape_of-marks
-shape_of-marks c = search (downward_long, rules)
 
 pub returns : goal.returns
 returns c = (search (downward_whole, commands_are, rules), search (downward_done, commands_are, rules))

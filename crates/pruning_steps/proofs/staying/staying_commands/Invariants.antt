@@ -3,7 +3,4 @@ use Rattle.pruning_steps.proofs.StayingRules.{CommandsDown}
 use Rattle.pruning_steps.proofs.staying.staying_commands.Given as goal
 
 abbrev pub invariant-loop-n : goal.invariant-loop-n
-invariant-loop-n l = CommandsDown l.image l.design l.initial.marks l.n l.marks × (l.n ≤ l.design.commands)
-
-abbrev pub decreases-loop-n : goal.decreases-loop-n
-decreases-loop-n l = l.n
+invariant-loop-n l = CommandsDown l.image.bytes.now l.image.design l.initial.marks l.n l.marks × (l.n ≤ l.image.design.commands)

@@ -1,23 +1,7 @@
-use Rattle.design.proofs.FieldRules.{command_place_inside}
 use Rattle.design.proofs.PartRules.{sequence_a_inside, sequence_b_inside, branch_b_inside, branch_c_inside}
 use Rattle.pruning_steps.proofs.WritingRules.{assign_inside, condition_inside, goto_inside, goto_fits, assign_new, sequence_new, goto_new, branch_new, other_new}
 use borrow.Author.Rules.{rules}
 use Rattle.pruning_steps.proofs.writing.write_command.Goals as goal
-
-pub kind-kind-requires : goal.kind-kind-requires
-kind-kind-requires c = search (command_place_inside, rules)
-
-pub item-item-requires : goal.item-item-requires
-item-item-requires c = search (command_place_inside, rules)
-
-pub part_a-a-requires : goal.part_a-a-requires
-part_a-a-requires c = search (command_place_inside, rules)
-
-pub part_b-b-requires : goal.part_b-b-requires
-part_b-b-requires c = search (command_place_inside, rules)
-
-pub part_c-c-requires : goal.part_c-c-requires
-part_c-c-requires c = search (command_place_inside, rules)
 
 pub new_number-value-requires : goal.new_number-value-requires
 new_number-value-requires c = search (assign_inside, rules)

@@ -1,23 +1,7 @@
-use Rattle.design.proofs.FieldRules.{expression_place_inside}
 use Rattle.pruning_steps.proofs.WritingRules.{operand_a_has, operand_b_has, operation_new, low_new, high_new}
 use borrow.Author.Rules.{rules}
 use Rattle.pruning_steps.proofs.writing.write_expression.Goals as goal
 use Rattle.pruning_steps.proofs.writing.write_expression.Goals.{in_default-via-then-kind-lt2, in_default-via-else-kind-lt2+else-kind-lt12}
-
-pub kind-kind-requires : goal.kind-kind-requires
-kind-kind-requires c = search (expression_place_inside, rules)
-
-pub item-item-requires : goal.item-item-requires
-item-item-requires c = search (expression_place_inside, rules)
-
-pub part_a-a-requires : goal.part_a-a-requires
-part_a-a-requires c = search (expression_place_inside, rules)
-
-pub part_b-b-requires : goal.part_b-b-requires
-part_b-b-requires c = search (expression_place_inside, rules)
-
-pub part_c-c-requires : goal.part_c-c-requires
-part_c-c-requires c = search (expression_place_inside, rules)
 
 pub new_number-first-requires : goal.new_number-first-requires
 new_number-first-requires c = search (operand_a_has, rules)

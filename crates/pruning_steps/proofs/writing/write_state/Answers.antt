@@ -4,12 +4,6 @@ use Rattle.pruning_steps.proofs.WritingRules.{parent_inside, parent_fits, state_
 use borrow.Author.Rules.{rules}
 use Rattle.pruning_steps.proofs.writing.write_state.Goals as goal
 
-pub parent-old_parent-requires : goal.parent-old_parent-requires
-parent-old_parent-requires c = search (state_inside, rules)
-
-pub state_command-old_command-requires : goal.state_command-old_command-requires
-state_command-old_command-requires c = search (state_inside, rules)
-
 pub new_number-parent-requires : goal.new_number-parent-requires
 new_number-parent-requires c = search (parent_inside, rules)
 
