@@ -1,4 +1,4 @@
--- A record by the place of its section is the table's record, and stands inside the table.
+-- What stands at the place of a record is the table's record.
 use Prim.Native.Nat.{ℕ, ◌/◌, ◌+◌, ◌*◌, ◌≤◌, ◌<◌}
 use mathlib.Core.Path.{◌≡◌, sym, ap, ◌∙◌}
 use mathlib.Core.Bool.{Bool, false, ◌&&◌}
@@ -9,11 +9,10 @@ use lib.ListN.{length}
 use Rattle.model.specs.Image.{byte_at, word16_at}
 use Rattle.model.proofs.Laws.Booleans.{false_unless_true}
 use Rattle.gates_model.specs.Limits.{directory_length, inputs_max, flip_flops_max, gates_max}
-use Rattle.gates_model.specs.Tables.{Section, Inputs, FlipFlops, Gates as GateSection, record_length, most, offset, size, end, size_kept, section_kept, offsets_kept, directory_kept, table_of, mark_at, flip_flop_at, gate_at}
+use Rattle.gates_model.specs.Tables.{Section, Inputs, FlipFlops, Gates as GateSection, record_length, most, offset, size, end, size_kept, section_kept, offsets_kept, directory_kept, table_of, mark_at, flip_flop_at, gate_at, first_gate, wires}
 use Rattle.gates_model.proofs.Exact.{directory_iff}
 use Rattle.gates_model.proofs.Laws.Tables.{mark_is, flipflop_is, gate_is, input_count, flipflop_count, gate_count}
 use Rattle.gates.specs.declared.Gates.{Gates}
-use Rattle.gates.specs.Records.{mark_in, flip_flop_in, gate_in, flip_flop_end, gate_end}
 use Rattle.gates.specs.Describes.{Describes}
 
 -- a table too short for a directory has none that is kept
@@ -61,6 +60,12 @@ module _ {table : List ℕ} {x : Gates} (d : Describes table x) where
   pub gates_count : x.gates ≡ length (table_of table).gates
   gates_count = d.gates ∙ sym (gate_count table)
 
+  pub first_gate_count : x.inputs + x.flipflops ≡ first_gate (table_of table)
+  first_gate_count = let i = inputs_count in let f = flipflops_count in omega arith
+
+  pub wires_count : x.inputs + x.flipflops + x.gates ≡ wires (table_of table)
+  wires_count = let i = inputs_count in let f = flipflops_count in let g = gates_count in omega arith
+
   -- ---- no section has more records than its limit
   pub inputs_most : x.inputs ≤ inputs_max
   inputs_most = omega (arith, d.inputs, d.directory.inputs)
@@ -71,18 +76,11 @@ module _ {table : List ℕ} {x : Gates} (d : Describes table x) where
   pub gates_most : x.gates ≤ gates_max
   gates_most = omega (arith, d.gates, d.directory.gates)
 
-  -- ---- records stand inside the table
-  pub flipflop_inside : {i : ℕ} → i < x.flipflops → flip_flop_end x.flipflops_at i ≤ length table
-  flipflop_inside l = omega (arith, d, d.directory, d.directory.flipflops)
-
-  pub gate_inside : {g : ℕ} → g < x.gates → gate_end x.gates_at g ≤ length table
-  gate_inside l = omega (arith, d, d.directory, d.directory.gates)
-
-  -- ---- and are the table's
-  pub mark_in_lem : {i m : ℕ} → i < x.inputs → m ≡ mark_in table i → m ≡ mark_at (table_of table) i
-  mark_in_lem {i} {m} l e =
+  -- ---- records where they stand
+  pub mark_in : {i : ℕ} → i < x.inputs → byte_at table (12 + 1 * i) ≡ mark_at (table_of table) i
+  mark_in {i} l =
       let inside : i < size table Inputs / 1 = omega (arith, d.inputs) in
-      e ∙ ap (λ (k : ℕ). byte_at table (k + 1 * i)) (sym d.directory.inputs_at) ∙ sym (mark_is table i inside)
+      ap (λ (k : ℕ). byte_at table (k + 1 * i)) (sym d.directory.inputs_at) ∙ sym (mark_is table i inside)
 
   module _ {i : ℕ} (l : i < x.flipflops) where
     at_flipflop : {A : Type 0} (f : ℕ → A) → f (x.flipflops_at + 4 * i) ≡ f (offset table FlipFlops + 4 * i)
@@ -91,14 +89,14 @@ module _ {table : List ℕ} {x : Gates} (d : Describes table x) where
     flipflop_below : i < size table FlipFlops / 4
     flipflop_below = omega (arith, d.flipflops)
 
-    pub next_in : {n : ℕ} → n ≡ (flip_flop_in table x.flipflops_at i).next → n ≡ (flip_flop_at (table_of table) i).next
+    pub next_in : {n : ℕ} → n ≡ word16_at table (x.flipflops_at + 4 * i) → n ≡ (flip_flop_at (table_of table) i).next
     next_in e = e ∙ at_flipflop (word16_at table) ∙ sym (flipflop_is table i flipflop_below).next
 
-    pub value_in : {v : ℕ} → v ≡ (flip_flop_in table x.flipflops_at i).value → v ≡ (flip_flop_at (table_of table) i).value
-    value_in e = e ∙ at_flipflop (λ k. byte_at table (k + 2)) ∙ sym (flipflop_is table i flipflop_below).value
+    pub value_in : byte_at table (x.flipflops_at + 4 * i + 2) ≡ (flip_flop_at (table_of table) i).value
+    value_in = at_flipflop (λ k. byte_at table (k + 2)) ∙ sym (flipflop_is table i flipflop_below).value
 
-    pub start_mark_in : {m : ℕ} → m ≡ (flip_flop_in table x.flipflops_at i).mark → m ≡ (flip_flop_at (table_of table) i).mark
-    start_mark_in e = e ∙ at_flipflop (λ k. byte_at table (k + 3)) ∙ sym (flipflop_is table i flipflop_below).mark
+    pub start_mark_in : byte_at table (x.flipflops_at + 4 * i + 3) ≡ (flip_flop_at (table_of table) i).mark
+    start_mark_in = at_flipflop (λ k. byte_at table (k + 3)) ∙ sym (flipflop_is table i flipflop_below).mark
 
   module _ {g : ℕ} (l : g < x.gates) where
     at_gate : {A : Type 0} (f : ℕ → A) → f (x.gates_at + 4 * g) ≡ f (offset table GateSection + 4 * g)
@@ -107,8 +105,8 @@ module _ {table : List ℕ} {x : Gates} (d : Describes table x) where
     gate_below : g < size table GateSection / 4
     gate_below = omega (arith, d.gates)
 
-    pub first_in : {n : ℕ} → n ≡ (gate_in table x.gates_at g).first → n ≡ (gate_at (table_of table) g).first
+    pub first_in : {n : ℕ} → n ≡ word16_at table (x.gates_at + 4 * g) → n ≡ (gate_at (table_of table) g).first
     first_in e = e ∙ at_gate (word16_at table) ∙ sym (gate_is table g gate_below).first
 
-    pub second_in : {n : ℕ} → n ≡ (gate_in table x.gates_at g).second → n ≡ (gate_at (table_of table) g).second
+    pub second_in : {n : ℕ} → n ≡ word16_at table (x.gates_at + 4 * g + 2) → n ≡ (gate_at (table_of table) g).second
     second_in e = e ∙ at_gate (λ k. word16_at table (k + 2)) ∙ sym (gate_is table g gate_below).second

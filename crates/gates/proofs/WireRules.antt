@@ -7,18 +7,16 @@ use native.Mathlib.Nat.{add-zero}
 use native.Mathlib.Numerals.{add-one}
 use lib.ListN.{length, get_or, set, length-set}
 use lib.Seq.{get_or-set_same, get_or-set_other}
-use mir.Syntax.{w8}
-use mir.Val.{Fits}
-use Rattle.model.proofs.Laws.Indices.{extend, nothing_below_zero, length-filled, filled_behind, filled_is}
-use Rattle.gates_model.specs.Tables.{Table, table_of, gate_at, first_gate, wires}
-use Rattle.gates_model.specs.Signals.{Signal, IsSound, nand}
-use Rattle.gates_model.specs.Cycle.{signal_at, signal_in, input_signal, sources, settled, signals}
+use Rattle.model.proofs.Laws.Indices.{extend, length-filled, filled_behind, filled_is}
+use Rattle.gates_model.specs.Tables.{Table, table_of, mark_at, gate_at, first_gate, wires}
+use Rattle.gates_model.specs.Rules.{TableKeeps}
+use Rattle.gates_model.specs.Signals.{Signal, signal, IsSound, nand}
+use Rattle.gates_model.specs.Cycle.{signal_at, signal_in, sources, settled, signals}
 use Rattle.gates_model.proofs.Laws.Wires.{length-sources, source_input, source_flipflop, settled_lower, settled_gate, nand_sound}
 use Rattle.gates.specs.declared.Gates.{Gates}
-use Rattle.gates.specs.Records.{mark_in, gate_in}
-use Rattle.gates.specs.Describes.{Accepts}
+use Rattle.gates.specs.Describes.{Describes}
 use Rattle.gates.specs.Codes.{code_of, signal_of, with_wires, Carries, Lends}
-use Rattle.gates.proofs.Laws.{inputs_count, flipflops_count, gates_count, inputs_most, flipflops_most, gates_most, mark_in_lem, first_in, second_in}
+use Rattle.gates.proofs.Laws.{inputs_count, flipflops_count, gates_count, inputs_most, flipflops_most, gates_most}
 
 -- ---- one byte
 code_small : {s : Signal} → IsSound s → code_of s < 4
@@ -33,9 +31,6 @@ signal_of_code {s} h =
 
 -- ---- bytes that carry signals
 module _ {all : List Signal} where
-  pub carries_none : {bytes : List ℕ} → Carries all 0 bytes
-  carries_none = record { code = λ w l. absurd (nothing_below_zero l); sound = λ w l. absurd (nothing_below_zero l) }
-
   carries_more : {n v : ℕ} {bytes : List ℕ} → Carries all n bytes → n < length bytes → v ≡ code_of (signal_at all n) → IsSound (signal_at all n) → Carries all (n + 1) (set bytes n v)
   carries_more {n} {v} {bytes} so l e sound =
       record {
@@ -70,72 +65,66 @@ wires_known : {all : List Signal} {n : ℕ} {old bytes : List ℕ} → Carries a
 wires_known {all} {n} {old} {bytes} so beyond = filled_is (λ w. code_of (signal_at all w)) n old bytes beyond.long so.code beyond.rest
 
 -- ---- the sources
-module _ {table : List ℕ} {x : Gates} {inputs area : List ℕ} (known : Accepts table x) (lent : Lends (table_of table) inputs area) where
+module _ {table : List ℕ} {x : Gates} {inputs area : List ℕ} (d : Describes table x) (lent : Lends (table_of table) inputs area) where
   module _ {w : ℕ} (l : w < x.inputs) where
     input_below : w < length (table_of table).inputs
-    input_below = let i = inputs_count known.describes in omega arith
+    input_below = let i = inputs_count d in omega arith
 
     pub input_read : w < length inputs
     input_read = let long = lent.inputs_long in let below = input_below in omega arith
 
-    input_sound : IsSound (input_signal (table_of table) inputs w)
-    input_sound = rw (source_input (table_of table) inputs area w input_below) at (lent.sound w (let below = input_below in omega arith))
+    module _ {m : ℕ} (e : m ≡ mark_at (table_of table) w) where
+      pub input_sound : IsSound (signal (get_or inputs w 0) m)
+      input_sound = rw (e, ← source_input (table_of table) inputs area w input_below) (lent.sound w (let below = input_below in omega arith))
 
-    module _ {m : ℕ} (e : m ≡ mark_in table w) where
-      pub mark_doubles : Fits w8 (2 * m)
-      mark_doubles = let is = mark_in_lem known.describes l e in let few = input_sound.mark in record { fits = omega arith }
-
-      pub input_fits : Fits w8 (get_or inputs w 0 + 2 * m)
-      input_fits = let is = mark_in_lem known.describes l e in let few = input_sound.mark in let low = input_sound.value in record { fits = omega arith }
-
-      pub input_coded : get_or inputs w 0 + 2 * m ≡ code_of (signal_at (sources (table_of table) inputs area) w)
-      input_coded = rw (source_input (table_of table) inputs area w input_below, mark_in_lem known.describes l e)
+      pub input_coded : {c : ℕ} → c ≡ code_of (signal (get_or inputs w 0) m) → c ≡ code_of (signal_at (sources (table_of table) inputs area) w)
+      input_coded is = is ∙ rw (source_input (table_of table) inputs area w input_below, e)
 
   module _ {w : ℕ} (above : x.inputs ≤ w) (below : w < x.inputs + x.flipflops) where
     pub area_inside : 2 * (w - x.inputs) + 2 ≤ length area
-    area_inside = let f = flipflops_count known.describes in let long = lent.area_long in omega arith
+    area_inside = let f = flipflops_count d in let long = lent.area_long in omega arith
 
     source_is : signal_at (sources (table_of table) inputs area) w ≡ signal_in area (w - x.inputs)
     source_is =
-        let i = inputs_count known.describes in
-        let f = flipflops_count known.describes in
+        let i = inputs_count d in
+        let f = flipflops_count d in
         source_flipflop (table_of table) inputs area w (omega arith) (omega arith) ∙ ap (λ (n : ℕ). signal_in area (w - n)) (sym i)
 
     pub area_sound : IsSound (signal_in area (w - x.inputs))
     area_sound =
-        let i = inputs_count known.describes in
-        let f = flipflops_count known.describes in
+        let i = inputs_count d in
+        let f = flipflops_count d in
         rw source_is at (lent.sound w (omega arith))
 
     pub flipflop_coded : {r : ℕ} → r ≡ code_of (signal_in area (w - x.inputs)) → r ≡ code_of (signal_at (sources (table_of table) inputs area) w)
     flipflop_coded e = rw source_is e
 
   pub source_inside : {w : ℕ} (bytes : List ℕ) → w < x.inputs + x.flipflops → length bytes ≡ 4608 → w < length bytes
-  source_inside bytes l long = let i = inputs_most known.describes in let f = flipflops_most known.describes in omega arith
+  source_inside bytes l long = let i = inputs_most d in let f = flipflops_most d in omega arith
 
-  pub source_carried : {w v : ℕ} {bytes : List ℕ} → Carries (sources (table_of table) inputs area) w bytes → length bytes ≡ 4608 → w < x.inputs + x.flipflops → v ≡ code_of (signal_at (sources (table_of table) inputs area) w)
+  pub source_carried : {f w v : ℕ} {bytes : List ℕ} → f ≡ x.inputs + x.flipflops → Carries (sources (table_of table) inputs area) w bytes → length bytes ≡ 4608 → w < f → v ≡ code_of (signal_at (sources (table_of table) inputs area) w)
       → Carries (sources (table_of table) inputs area) (w + 1) (set bytes w v)
-  source_carried {w} {v} {bytes} so long l e =
-      let i = inputs_count known.describes in
-      let f = flipflops_count known.describes in
-      carries_more so (source_inside bytes l long) e (lent.sound w (omega arith))
+  source_carried {f} {w} {v} {bytes} first so long l e =
+      let i = inputs_count d in
+      let n = flipflops_count d in
+      carries_more so (source_inside bytes (omega arith) long) e (lent.sound w (omega arith))
 
-  pub sources_carried : {w : ℕ} {bytes : List ℕ} → Carries (sources (table_of table) inputs area) w bytes → w ≤ x.inputs + x.flipflops → x.inputs + x.flipflops ≤ w
+  pub sources_carried : {f w : ℕ} {bytes : List ℕ} → f ≡ x.inputs + x.flipflops → Carries (sources (table_of table) inputs area) w bytes → w ≤ x.inputs + x.flipflops → f ≤ w
       → Carries (sources (table_of table) inputs area) (first_gate (table_of table)) bytes
-  sources_carried {w} so l h =
-      let i = inputs_count known.describes in
-      let f = flipflops_count known.describes in
+  sources_carried {f} {w} first so l h =
+      let i = inputs_count d in
+      let n = flipflops_count d in
       let end : first_gate (table_of table) ≡ w = omega arith in
       rw end so
 
   pub source_beyond : (v : ℕ) {w : ℕ} {old bytes : List ℕ} → Beyond old w bytes → Beyond old (w + 1) (set bytes w v)
   source_beyond = beyond_more
 
-  pub sources_known : {w : ℕ} {old bytes : List ℕ} → Carries (sources (table_of table) inputs area) w bytes → Beyond old w bytes → w ≤ x.inputs + x.flipflops → x.inputs + x.flipflops ≤ w
+  pub sources_known : {f w : ℕ} {old bytes : List ℕ} → f ≡ x.inputs + x.flipflops → Carries (sources (table_of table) inputs area) w bytes → Beyond old w bytes → w ≤ x.inputs + x.flipflops → f ≤ w
       → bytes ≡ with_wires (sources (table_of table) inputs area) (first_gate (table_of table)) old
-  sources_known {w} so beyond l h =
-      let i = inputs_count known.describes in
-      let f = flipflops_count known.describes in
+  sources_known {f} {w} first so beyond l h =
+      let i = inputs_count d in
+      let n = flipflops_count d in
       let end : first_gate (table_of table) ≡ w = omega arith in
       rw end (wires_known so beyond)
 
@@ -144,24 +133,23 @@ pub settled_begins : (t : Table) {start : List Signal} {bytes : List ℕ} → Ca
 unfolding settled
 settled_begins t so = rw (add-zero (first_gate t)) so
 
-module _ {table : List ℕ} {x : Gates} (known : Accepts table x) where
+module _ {table : List ℕ} {x : Gates} (d : Describes table x) (keeps : TableKeeps table) where
   gate_wires : (g : ℕ) → g < x.gates → ((gate_at (table_of table) g).first < first_gate (table_of table) + g) × ((gate_at (table_of table) g).second < first_gate (table_of table) + g)
   gate_wires g l =
       let t = table_of table in
-      let n = gates_count known.describes in
+      let n = gates_count d in
       let w = first_gate t + g in
       let number : w - first_gate t ≡ g = omega arith in
-      let rule = (known.keeps.wire w (omega arith)).gate (omega arith) in
+      let rule = (keeps.wire w (omega arith)).gate (omega arith) in
       (rw number at rule.first, rw number at rule.second)
 
   module _ {g n : ℕ} (l : g < x.gates) where
-    module _ (e : n ≡ (gate_in table x.gates_at g).first) where
+    module _ (e : n ≡ (gate_at (table_of table) g).first) where
       first_lower : n < first_gate (table_of table) + g
-      first_lower = let is = first_in known.describes l e in let rule = (gate_wires g l).0 in omega arith
+      first_lower = let rule = (gate_wires g l).0 in omega arith
 
       pub first_inside : (bytes : List ℕ) → length bytes ≡ 4608 → n < length bytes
       first_inside bytes long =
-          let d = known.describes in
           let i = inputs_most d in
           let f = flipflops_most d in
           let m = gates_most d in
@@ -173,13 +161,12 @@ module _ {table : List ℕ} {x : Gates} (known : Accepts table x) where
       pub first_small : {all : List Signal} {bytes : List ℕ} → Carries all (first_gate (table_of table) + g) bytes → get_or bytes n 0 < 4
       first_small so = carried_small so first_lower
 
-    module _ (e : n ≡ (gate_in table x.gates_at g).second) where
+    module _ (e : n ≡ (gate_at (table_of table) g).second) where
       second_lower : n < first_gate (table_of table) + g
-      second_lower = let is = second_in known.describes l e in let rule = (gate_wires g l).1 in omega arith
+      second_lower = let rule = (gate_wires g l).1 in omega arith
 
       pub second_inside : (bytes : List ℕ) → length bytes ≡ 4608 → n < length bytes
       second_inside bytes long =
-          let d = known.describes in
           let i = inputs_most d in
           let f = flipflops_most d in
           let m = gates_most d in
@@ -193,35 +180,34 @@ module _ {table : List ℕ} {x : Gates} (known : Accepts table x) where
 
   pub gate_inside_wires : {g : ℕ} (bytes : List ℕ) → g < x.gates → length bytes ≡ 4608 → x.inputs + x.flipflops + g < length bytes
   gate_inside_wires bytes l long =
-      let d = known.describes in
       let i = inputs_most d in
       let f = flipflops_most d in
       let m = gates_most d in
       omega arith
 
-  pub gate_carried : (inputs area : List ℕ) {g n m v : ℕ} {bytes : List ℕ}
+  pub gate_carried : (inputs area : List ℕ) {f g n m v : ℕ} {bytes : List ℕ}
+      → f ≡ x.inputs + x.flipflops
       → v ≡ code_of (nand (signal_of (get_or bytes n 0)) (signal_of (get_or bytes m 0)))
-      → n ≡ (gate_in table x.gates_at g).first
-      → m ≡ (gate_in table x.gates_at g).second
+      → n ≡ (gate_at (table_of table) g).first
+      → m ≡ (gate_at (table_of table) g).second
       → g < x.gates
       → length bytes ≡ 4608
       → Carries (settled (table_of table) (sources (table_of table) inputs area) g) (first_gate (table_of table) + g) bytes
-      → Carries (settled (table_of table) (sources (table_of table) inputs area) (g + 1)) (first_gate (table_of table) + (g + 1)) (set bytes (x.inputs + x.flipflops + g) v)
-  gate_carried inputs area {g} {n} {m} {v} {bytes} e p q l long so =
+      → Carries (settled (table_of table) (sources (table_of table) inputs area) (g + 1)) (first_gate (table_of table) + (g + 1)) (set bytes (f + g) v)
+  gate_carried inputs area {f} {g} {n} {m} {v} {bytes} first_is e p q l long so =
       let t = table_of table in
-      let d = known.describes in
       let start = sources t inputs area in
       let begins = length-sources t inputs area in
       let ic = inputs_count d in
       let fc = flipflops_count d in
-      let here : x.inputs + x.flipflops + g ≡ first_gate t + g = omega arith in
+      let here : f + g ≡ first_gate t + g = omega arith in
       let place : length start + g ≡ first_gate t + g = omega arith in
       let inside : first_gate t + g < length bytes = (let there = gate_inside_wires bytes l long in omega arith) in
       let more : first_gate t + (g + 1) ≡ first_gate t + g + 1 = omega arith in
       let lower : Carries (settled t start (g + 1)) (first_gate t + g) bytes = carries_same so (λ w b. rw (add-one g) (settled_lower t start g w (omega arith))) in
       let out : signal_at (settled t start (g + 1)) (first_gate t + g) ≡ nand (signal_at (settled t start g) (gate_at t g).first) (signal_at (settled t start g) (gate_at t g).second) = rw (add-one g, ← place) (settled_gate t start g) in
-      let first : signal_of (get_or bytes n 0) ≡ signal_at (settled t start g) (gate_at t g).first = carried so (first_lower l p) ∙ ap (signal_at (settled t start g)) (first_in d l p) in
-      let second : signal_of (get_or bytes m 0) ≡ signal_at (settled t start g) (gate_at t g).second = carried so (second_lower l q) ∙ ap (signal_at (settled t start g)) (second_in d l q) in
+      let first : signal_of (get_or bytes n 0) ≡ signal_at (settled t start g) (gate_at t g).first = carried so (first_lower l p) ∙ ap (signal_at (settled t start g)) p in
+      let second : signal_of (get_or bytes m 0) ≡ signal_at (settled t start g) (gate_at t g).second = carried so (second_lower l q) ∙ ap (signal_at (settled t start g)) q in
       let made : nand (signal_of (get_or bytes n 0)) (signal_of (get_or bytes m 0)) ≡ signal_at (settled t start (g + 1)) (first_gate t + g) = ap₂ nand first second ∙ sym out in
       rw (here, more) (carries_more lower inside (e ∙ ap code_of made) (rw out (nand_sound _ _)))
 
@@ -233,15 +219,15 @@ module _ {table : List ℕ} {x : Gates} (known : Accepts table x) where
   unfolding signals
   gates_carried inputs area {g} so l h =
       let t = table_of table in
-      let n = gates_count known.describes in
+      let n = gates_count d in
       let end : length t.gates ≡ g = omega arith in
       rw end so
 
-  pub gate_beyond : (g v : ℕ) {old bytes : List ℕ} → Beyond old (first_gate (table_of table) + g) bytes → Beyond old (first_gate (table_of table) + (g + 1)) (set bytes (x.inputs + x.flipflops + g) v)
-  gate_beyond g v so =
-      let i = inputs_count known.describes in
-      let f = flipflops_count known.describes in
-      let here : x.inputs + x.flipflops + g ≡ first_gate (table_of table) + g = omega arith in
+  pub gate_beyond : (g v : ℕ) {f : ℕ} {old bytes : List ℕ} → f ≡ x.inputs + x.flipflops → Beyond old (first_gate (table_of table) + g) bytes → Beyond old (first_gate (table_of table) + (g + 1)) (set bytes (f + g) v)
+  gate_beyond g v {f} first so =
+      let i = inputs_count d in
+      let n = flipflops_count d in
+      let here : f + g ≡ first_gate (table_of table) + g = omega arith in
       let more : first_gate (table_of table) + (g + 1) ≡ first_gate (table_of table) + g + 1 = omega arith in
       rw (here, more) (beyond_more v so)
 
@@ -255,7 +241,7 @@ module _ {table : List ℕ} {x : Gates} (known : Accepts table x) where
   unfolding signals
   gates_known inputs area old {g} {first} {bytes} e so beyond l h =
       let t = table_of table in
-      let n = gates_count known.describes in
+      let n = gates_count d in
       let end : length t.gates ≡ g = omega arith in
       let code : ℕ → ℕ = λ w. code_of (signal_at (sources t inputs area) w) in
       let long : length first ≡ length old = ap length e ∙ length-filled code (first_gate t) old in

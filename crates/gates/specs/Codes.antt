@@ -1,13 +1,11 @@
 -- A signal in one byte, as the wires stand on the stack: the value in bit 0, the mark in bit 1.
-use Rattle.std.specs.Prelude.{ℕ, ◌+◌, ◌-◌, ◌*◌, ◌/◌, ◌%◌, ◌<◌, ◌≡◌, Bool, cond, ◌&&◌, List, ltb, length, get_or, set}
+use Rattle.std.specs.Prelude.{ℕ, ◌+◌, ◌*◌, ◌/◌, ◌%◌, ◌<◌, ◌≡◌, List, length, get_or, set}
 use Rattle.model.specs.Indices.{tabulate, filled_to}
 use Rattle.model.specs.Image.{byte_at}
 use Rattle.gates_model.specs.Limits.{signal_length}
 use Rattle.gates_model.specs.Tables.{Table, flip_flop_at, first_gate}
 use Rattle.gates_model.specs.Signals.{Signal, signal, IsSound}
-use Rattle.gates_model.specs.Verdict.{is_bit}
 use Rattle.gates_model.specs.Cycle.{bytes_of, signal_at, signal_in, sources}
-use Rattle.gates.specs.declared.Gates.{Gates}
 
 abbrev pub code_of : Signal → ℕ
 code_of s = s.value + 2 * s.mark
@@ -43,14 +41,6 @@ taken_signal t wires i = signal_of (next_code t wires i)
 
 unfoldable pub taken : Table → List ℕ → List ℕ
 taken t wires = bytes_of (tabulate (taken_signal t wires) (length t.flipflops))
-
--- what is lent for a wire is in range, where a `Gates` has the counts
-unfoldable pub lent_in : Gates → List ℕ → List ℕ → ℕ → Bool
-lent_in x inputs area w =
-    cond
-    (ltb w x.inputs)
-    (is_bit (byte_at inputs w))
-    (is_bit (signal_in area (w - x.inputs)).value && is_bit (signal_in area (w - x.inputs)).mark)
 
 -- one flip-flop's two bytes
 abbrev pub put_signal : List ℕ → ℕ → ℕ → ℕ → List ℕ

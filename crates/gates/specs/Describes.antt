@@ -2,7 +2,7 @@
 use Rattle.std.specs.Prelude.{ℕ, ◌≡◌, List}
 use Rattle.gates.specs.declared.Gates.{Gates}
 use Rattle.gates_model.specs.Tables.{Inputs, FlipFlops, Gates as GateSection, offset, count}
-use Rattle.gates_model.specs.Rules.{DirectoryKeeps, TableKeeps}
+use Rattle.gates_model.specs.Rules.{DirectoryKeeps}
 
 pub record Describes (table : List ℕ) (x : Gates) : Type 0 where
   pub directory : DirectoryKeeps table
@@ -11,8 +11,3 @@ pub record Describes (table : List ℕ) (x : Gates) : Type 0 where
   pub gates : x.gates ≡ count table GateSection
   pub flipflops_at : x.flipflops_at ≡ offset table FlipFlops
   pub gates_at : x.gates_at ≡ offset table GateSection
-
--- and the table is accepted
-pub record Accepts (table : List ℕ) (x : Gates) : Type 0 where
-  pub describes : Describes table x
-  pub keeps : TableKeeps table

@@ -14,10 +14,7 @@ reset_on t area = leaves (area_answer t area) area (started t)
 unfoldable pub cycle_on : Table → List ℕ → List ℕ → Left (List ℕ)
 cycle_on t inputs area = leaves (lengths_answer t inputs area before lent_answer t inputs area) area (cycled t inputs area)
 
--- and from the point where the lengths are right
-unfoldable pub lent_on : Table → List ℕ → List ℕ → Left (List ℕ)
-lent_on t inputs area = leaves (lent_answer t inputs area) area (cycled t inputs area)
-
+-- the lengths are those that the counts of a `Gates` ask for
 pub record RightLengths (x : Gates) (inputs area : List ℕ) : Type 0 where
   pub inputs_long : length inputs ≡ x.inputs
   pub area_long : length area ≡ signal_length * x.flipflops

@@ -1,10 +1,11 @@
-// Gate tables in bytes: their limits, their directory, and one accessor for each field. No other
-// file of this crate knows where a byte of a table stands.
+// Gate tables in bytes: their limits and their directory. Only this file and `table`, which reads the
+// records, know where a byte of a table stands.
 #![tactic(auto)]
 
 mod areas;
 mod changes;
 mod stages;
+mod table;
 mod verdicts;
 mod wires;
 
@@ -14,11 +15,11 @@ ghost use Rattle.gates_model.specs.Limits.{directory_length, input_length, flip_
 ghost use Rattle.gates_model.specs.Tables.{size_kept, offsets_kept as offsets_kept_of, directory_kept as directory_kept_of};
 ghost use Rattle.gates_model.specs.Rules.{DirectoryKeeps};
 ghost use Rattle.gates_model.specs.Calls.{gates_check, gates_reset, gates_cycle};
-ghost use Rattle.gates.specs.Records.{mark_in, flip_flop_in, gate_in, input_end, flip_flop_end, gate_end};
 ghost use Rattle.gates.specs.Describes.{Describes};
 ghost use Rattle.model.specs.Calls.{left_as};
 
 use model::Answer;
+use table::GateTable;
 
 // What a table's directory says: how many records each section has, and where it begins. The
 // inputs begin behind the directory.
@@ -31,21 +32,12 @@ pub struct Gates {
     pub gates_at: usize,
 }
 
-// A byte as an index.
-fn wide(b: u8) -> usize
-    ensures { (result ≡ b) × (result < 256) }
-{
-    b as usize
-}
-
 // The 16-bit field at a place.
 fn word16(table: &[u8], at: usize) -> usize
     requires { at + 1 < length table.now }
     ensures { (result ≡ word16_at table.now at) × (result < 65536) }
 {
-    let low = wide(table[at]);
-    let high = wide(table[at + 1]);
-    low + 256 * high
+    usize::from(u16::from_le_bytes([table[at], table[at + 1]]))
 }
 
 // The offset and the length of section k, and where it ends.
@@ -129,51 +121,6 @@ impl Gates {
         ensures signal_length { Gates.SIGNAL_LENGTH ≡ signal_length }
     {}
 
-    // The mark of input i.
-    pub fn mark(table: &[u8], i: usize) -> u8
-        requires { input_end i ≤ length table.now }
-        ensures { result ≡ mark_in table.now i }
-    {
-        table[Self::DIRECTORY_LENGTH + Self::INPUT_LENGTH * i]
-    }
-
-    // The fields of flip-flop i, where the flip-flops begin at a place.
-    pub fn next(table: &[u8], at: usize, i: usize) -> usize
-        requires { flip_flop_end at i ≤ length table.now }
-        ensures { (result ≡ (flip_flop_in table.now at i).next) × (result < 65536) }
-    {
-        word16(table, at + Self::FLIPFLOP_LENGTH * i)
-    }
-
-    pub fn start_value(table: &[u8], at: usize, i: usize) -> u8
-        requires { flip_flop_end at i ≤ length table.now }
-        ensures { result ≡ (flip_flop_in table.now at i).value }
-    {
-        table[at + Self::FLIPFLOP_LENGTH * i + 2]
-    }
-
-    pub fn start_mark(table: &[u8], at: usize, i: usize) -> u8
-        requires { flip_flop_end at i ≤ length table.now }
-        ensures { result ≡ (flip_flop_in table.now at i).mark }
-    {
-        table[at + Self::FLIPFLOP_LENGTH * i + 3]
-    }
-
-    // The wires that gate g reads, where the gates begin at a place.
-    pub fn first(table: &[u8], at: usize, g: usize) -> usize
-        requires { gate_end at g ≤ length table.now }
-        ensures { (result ≡ (gate_in table.now at g).first) × (result < 65536) }
-    {
-        word16(table, at + Self::GATE_LENGTH * g)
-    }
-
-    pub fn second(table: &[u8], at: usize, g: usize) -> usize
-        requires { gate_end at g ≤ length table.now }
-        ensures { (result ≡ (gate_in table.now at g).second) × (result < 65536) }
-    {
-        word16(table, at + Self::GATE_LENGTH * g + 2)
-    }
-
     // Refusal 25: the directory, the counts and the section lengths.
     pub fn directory_kept(table: &[u8]) -> bool
         ensures { result ≡ directory_kept_of table.now }
@@ -214,20 +161,14 @@ pub fn check(table: &[u8]) -> Answer
 pub fn reset(table: &[u8], flipflops: &mut [u8]) -> Answer
     ensures { left_as result flipflops.new ≡ gates_reset table.now flipflops.old }
 {
-    let verdict = verdicts::verdict(table);
-    match verdict {
-        Answer::Refused(refusal, place) => Answer::Refused(refusal, place),
-        Answer::Accepted(_) => stages::reset(table, flipflops),
-    }
+    verdicts::verdict(table)?;
+    stages::reset(&GateTable::read(table), flipflops)
 }
 
 // Makes one cycle with these values of the inputs.
 pub fn cycle(table: &[u8], inputs: &[u8], flipflops: &mut [u8]) -> Answer
     ensures { left_as result flipflops.new ≡ gates_cycle table.now inputs.now flipflops.old }
 {
-    let verdict = verdicts::verdict(table);
-    match verdict {
-        Answer::Refused(refusal, place) => Answer::Refused(refusal, place),
-        Answer::Accepted(_) => stages::cycle(table, inputs, flipflops),
-    }
+    verdicts::verdict(table)?;
+    stages::cycle(&GateTable::read(table), inputs, flipflops)
 }

@@ -1,85 +1,69 @@
 // Refusals 25 and 26 of a table: the directory, then each wire by its record.
 ghost use Rattle.std.specs.Prelude.{◌+◌, ◌<◌, ◌≡◌};
 ghost use Rattle.model.specs.Indices.{lowest_failing};
-ghost use Rattle.gates_model.specs.Tables.{table_of, wires};
+ghost use Rattle.gates_model.specs.Tables.{wires};
 ghost use Rattle.gates_model.specs.Verdict.{input_kept as input_kept_of, flip_flop_kept, gate_kept as gate_kept_of, wire_kept as wire_kept_of, table_answer};
-ghost use Rattle.gates.specs.Describes.{Describes};
+ghost use Rattle.gates.specs.Tables.{table_in};
 
 use crate::Gates;
-use model::{Answer, Found, Refusal};
+use crate::table::GateTable;
+use model::{Answer, Refusal, refused_at};
 
 // The mark of input i is 0 or 1.
-fn input_kept(table: &[u8], gates: Gates, i: usize) -> bool
-    requires { Describes table.now gates × (i < gates.inputs) }
-    ensures { result ≡ input_kept_of (table_of table.now) i }
+fn input_kept(table: &GateTable, i: usize) -> bool
+    requires { i < table.now.gates.inputs }
+    ensures { result ≡ input_kept_of (table_in table.now) i }
 {
-    Gates::mark(table, i) <= 1
+    table.mark(i) <= 1
 }
 
 // Flip-flop i takes its signal from a wire of the table, and starts with a value and a mark.
-fn flipflop_kept(table: &[u8], gates: Gates, i: usize) -> bool
-    requires { Describes table.now gates × (i < gates.flipflops) }
-    ensures { result ≡ flip_flop_kept (table_of table.now) i }
+fn flipflop_kept(table: &GateTable, i: usize) -> bool
+    requires { i < table.now.gates.flipflops }
+    ensures { result ≡ flip_flop_kept (table_in table.now) i }
 {
-    let at = gates.flipflops_at;
-    let wires = gates.inputs + gates.flipflops + gates.gates;
-    (Gates::next(table, at, i) < wires)
-        & (Gates::start_value(table, at, i) <= 1)
-        & (Gates::start_mark(table, at, i) <= 1)
+    (table.next(i) < table.wires()) & (table.start_value(i) <= 1) & (table.start_mark(i) <= 1)
 }
 
 // Gate g reads lower wires only.
-fn gate_kept(table: &[u8], gates: Gates, g: usize) -> bool
-    requires { Describes table.now gates × (g < gates.gates) }
-    ensures { result ≡ gate_kept_of (table_of table.now) g }
+fn gate_kept(table: &GateTable, g: usize) -> bool
+    requires { g < table.now.gates.gates }
+    ensures { result ≡ gate_kept_of (table_in table.now) g }
 {
-    let at = gates.gates_at;
-    let own = gates.inputs + gates.flipflops + g;
-    (Gates::first(table, at, g) < own) & (Gates::second(table, at, g) < own)
+    let own = table.first_gate() + g;
+    (table.first(g) < own) & (table.second(g) < own)
 }
 
 // The record of a wire keeps the rules of its kind.
-fn wire_kept(table: &[u8], gates: Gates, w: usize) -> bool
-    requires { Describes table.now gates × (w < gates.inputs + gates.flipflops + gates.gates) }
-    ensures { result ≡ wire_kept_of (table_of table.now) w }
+fn wire_kept(table: &GateTable, w: usize) -> bool
+    requires { w < table.now.gates.inputs + table.now.gates.flipflops + table.now.gates.gates }
+    ensures { result ≡ wire_kept_of (table_in table.now) w }
 {
-    if w < gates.inputs {
-        return input_kept(table, gates, w);
+    let inputs = table.gates.inputs;
+    if w < inputs {
+        return input_kept(table, w);
     }
-    let first_gate = gates.inputs + gates.flipflops;
+    let first_gate = table.first_gate();
     if w < first_gate {
-        return flipflop_kept(table, gates, w - gates.inputs);
+        return flipflop_kept(table, w - inputs);
     }
-    gate_kept(table, gates, w - first_gate)
+    gate_kept(table, w - first_gate)
 }
 
 // The lowest wire whose record is at fault.
-fn faulty(table: &[u8], gates: Gates) -> Found
-    requires { Describes table.now gates }
-    ensures { result ≡ lowest_failing (wire_kept_of (table_of table.now)) (wires (table_of table.now)) }
+fn faulty(table: &GateTable) -> Option<usize>
+    ensures { result ≡ lowest_failing (wire_kept_of (table_in table.now)) (wires (table_in table.now)) }
 {
-    let wires = gates.inputs + gates.flipflops + gates.gates;
-    let mut w = 0;
-    while w < wires {
-        if !wire_kept(table, gates, w) {
-            return Found::At(w);
-        }
-        w += 1;
-    }
-    Found::Nowhere
+    (0..table.wires()).find(|&w| !wire_kept(table, w))
 }
 
 // The verdict on a table.
-pub fn verdict(table: &[u8]) -> Answer
-    ensures { result ≡ table_answer table.now }
+pub fn verdict(bytes: &[u8]) -> Answer
+    ensures { result ≡ table_answer bytes.now }
 {
-    if !Gates::directory_kept(table) {
-        return Answer::Refused(Refusal::GateDirectory, 0);
+    if !Gates::directory_kept(bytes) {
+        return Err(Refusal::GateDirectory.at(0));
     }
-    let gates = Gates::read(table);
-    let found = faulty(table, gates);
-    match found {
-        Found::At(place) => Answer::Refused(Refusal::GateWire, place),
-        Found::Nowhere => Answer::Accepted(0),
-    }
+    let table = GateTable::read(bytes);
+    refused_at(Refusal::GateWire, faulty(&table))
 }

@@ -1,12 +1,12 @@
-use Rattle.gates.proofs.StageRules.{refused_reset, accepted_reset, keeps_known}
+use Rattle.gates.proofs.StageRules.{refused_reset, accepted_reset, accepted_directory}
 use borrow.Author.Rules.{rules}
 use Rattle.gates.proofs.reset.Goals as goal
 
-pub reset-requires : goal.reset-requires
-reset-requires c = search (keeps_known, rules)
+pub read-requires : goal.read-requires
+read-requires c = let was = c.in_ok-verdict.was in search (accepted_directory, rules)
 
-pub returns-in-Refused : goal.returns-in-Refused
-returns-in-Refused c = search (refused_reset, rules)
+pub returns-in_err-verdict : goal.returns-in_err-verdict
+returns-in_err-verdict c = search (refused_reset, rules)
 
-pub returns-in-Accepted : goal.returns-in-Accepted
-returns-in-Accepted c = search (accepted_reset, rules)
+pub returns : goal.returns
+returns c = let same = rw c.read.ensures at c.reset.ensures in search (accepted_reset, rules)

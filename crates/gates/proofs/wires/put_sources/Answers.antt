@@ -1,12 +1,6 @@
 use borrow.Author.Rules.{rules}
-use Rattle.gates.proofs.WireRules.{carries_none, beyond_same, source_inside, source_carried, source_beyond, sources_carried, sources_known}
+use Rattle.gates.proofs.WireRules.{source_carried, source_beyond, sources_carried, sources_known}
 use Rattle.gates.proofs.wires.put_sources.Goals as goal
-
-pub loop-w-init : goal.loop-w-init
-loop-w-init c = search (carries_none, beyond_same, rules)
-
-pub bounds-wires-w : goal.bounds-wires-w
-bounds-wires-w c = search (source_inside, rules)
 
 pub loop-w-preserved : goal.loop-w-preserved
 loop-w-preserved c = (search (source_carried, rules), search (source_beyond, rules), search rules, search rules)

@@ -1,18 +1,15 @@
-use Rattle.gates.proofs.WireRules.{input_read, mark_doubles, input_fits, input_coded, area_inside, area_sound, flipflop_coded}
+use Rattle.gates.proofs.WireRules.{input_read, input_sound, input_coded, area_inside, area_sound, flipflop_coded}
 use borrow.Author.Rules.{rules}
 use Rattle.gates.proofs.wires.source.Goals as goal
 
 pub bounds-inputs-w : goal.bounds-inputs-w
 bounds-inputs-w c = search (input_read, rules)
 
-pub overflow_mul-result : goal.overflow_mul-result
-overflow_mul-result c = search (mark_doubles, rules)
+pub code-requires : goal.code-requires
+code-requires c = search (input_sound, rules)
 
-pub overflow_add-result : goal.overflow_add-result
-overflow_add-result c = search (input_fits, rules)
-
-pub returns-then-w-gates : goal.returns-then-w-gates
-returns-then-w-gates c = search (input_coded, rules)
+pub returns-then-w-table : goal.returns-then-w-table
+returns-then-w-table c = search (input_coded, rules)
 
 pub signal-requires : goal.signal-requires
 signal-requires c = (search (area_inside, rules), search (area_sound, rules))

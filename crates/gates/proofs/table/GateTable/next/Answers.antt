@@ -1,0 +1,6 @@
+use Rattle.gates.proofs.Laws.{next_in}
+use borrow.Author.Rules.{rules}
+use Rattle.gates.proofs.table.GateTable.next.Goals as goal
+
+pub returns : goal.returns
+returns c = (search (next_in, rules), search rules)

@@ -1,0 +1,6 @@
+use Rattle.gates.proofs.Laws.{second_in}
+use borrow.Author.Rules.{rules}
+use Rattle.gates.proofs.table.GateTable.second.Goals as goal
+
+pub returns : goal.returns
+returns c = (search (second_in, rules), search rules)
