@@ -10,9 +10,8 @@ use lib.Seq.{take-length}
 use contract.Lifetimes.{Lfts}
 use denote.Triple.Clauses.{AtExit}
 use borrow.Fn.Kinds.{Dens, ended_of}
-use Rattle.model.specs.declared.Answer.TheVariants.{Accepted}
 use Rattle.model.specs.Image.{byte_at, AreBytes, design_of}
-use Rattle.model.specs.Answers.{Numbers, numbers_of}
+use Rattle.model.specs.Answers.{Accepted, Answer, Numbers, numbers_of}
 use Rattle.model.specs.Verdict.{verdict, ◌before◌, refused_at, at_zero_unless}
 use Rattle.model.specs.Raising.{accepts}
 use Rattle.renumbering.specs.Runs.{SameRuns}
@@ -37,7 +36,6 @@ use Rattle.caisson.proofs.Answered.{lent_told, accepted_told, numbers_told, outp
 use Rattle.caisson.proofs.Hosts.{Accepts}
 use lib.Dec.{leb}
 use Rattle.model.specs.declared.Refusal.TheVariants.{OutputArea}
-use Rattle.model.specs.declared.Answer.{Answer}
 use Rattle.model.proofs.Laws.Left.{left_answer}
 
 -- ---- what filing told and left

@@ -1,13 +1,12 @@
 -- What the exported calls on gate tables, 02, E13, told and left, from their postconditions (`GateContracts`) and no more.
+use Rattle.std.specs.Prelude.{Err}
 use Prim.Native.Nat.{ℕ}
 use mathlib.Core.Path.{◌≡◌, refl, sym, ◌∙◌, ap, ap₂}
 use mathlib.Core.Bool.{cond}
 use mathlib.Core.List.{List, [], ◌∷◌, map}
 use lib.Dec.{eqb}
 use borrow.Author.Tests.{eq-eqb, ne_eqb}
-use Rattle.model.specs.declared.Answer.{Answer}
-use Rattle.model.specs.declared.Answer.TheVariants.{Accepted, Refused}
-use Rattle.model.specs.Answers.{Numbers, numbers_of}
+use Rattle.model.specs.Answers.{Answer, Accepted, Numbers, numbers_of}
 use Rattle.gates_model.specs.Tables.{table_of}
 use Rattle.gates_model.specs.Runs.{Agree, Call, perform, at_end, kept, remains, areas_after, AgreeEach, cycles, answers, areas_each, AreaReady, FedEach, call_table}
 use Rattle.model.proofs.Laws.Numbers.{no_number_zero}
@@ -50,7 +49,7 @@ accepted_areas table (call ∷ more) before after (h, between, called, others) =
 
 told_kept : (a : Answer) (number : ℕ) → number ≡ (numbers_of a).number → (area : List ℕ) (areas : List (List ℕ)) → cond (eqb number 0) (area ∷ areas) areas ≡ kept a area areas
 told_kept (Accepted count) number e area areas = rw (eq-eqb number 0 e)
-told_kept (Refused refusal place) number e area areas = rw (ne_eqb number 0 (λ z. no_number_zero refusal (sym e ∙ z)))
+told_kept (Err why) number e area areas = rw (ne_eqb number 0 (λ z. no_number_zero why.refusal (sym e ∙ z)))
 
 accepted_areas_lem : (table : List ℕ) (calls : List Call) (before after : List ℕ) (all : AllGatesCalled table before calls after) → accepted_areas table calls before after all ≡ areas_after table before calls
 unfolding areas_after

@@ -2,9 +2,8 @@
 use Prim.Native.Nat.{ℕ, ◌+◌, ◌-◌, ◌≤◌, ◌<◌}
 use mathlib.Core.Path.{◌≡◌, sym, ◌∙◌, ap}
 use mathlib.Core.List.{List}
-use Rattle.model.specs.declared.Answer.TheVariants.{Accepted}
 use Rattle.model.specs.Image.{byte_at, AreBytes, design_of}
-use Rattle.model.specs.Answers.{Numbers, numbers_of}
+use Rattle.model.specs.Answers.{Accepted, Numbers, numbers_of}
 use Rattle.model.specs.Ports.{PortsKept}
 use Rattle.model.specs.Calls.{Lent, Left}
 use Rattle.model.specs.Refusals.{WithinWidths}

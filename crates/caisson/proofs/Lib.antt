@@ -1,6 +1,5 @@
 -- The contracts of the exported functions, what follows for a host, and the page of promises.
 pub mod Answered
-pub mod FileAnswered
 pub mod Contracts
 pub mod OutContracts
 pub mod FileContracts

@@ -1,6 +1,7 @@
 -- What is promised to a C host: 01's three demands, and each claim of 02 in its order. Every promise is stated in full, over what the exported functions are proved to leave
 -- (`Checked`, `Called`, `AllCalled` and their like in `Contracts`, `OutContracts`, `FileContracts` and `GateContracts`), and closed by one citation; the proofs stand in the files cited
 -- and behind them in the crates of the definitions. That an image or an area holds bytes (`AreBytes`) is a premise of some: a slice of the language does.
+use Rattle.std.specs.Prelude.{Some, None}
 use Prim.Native.Nat.{ℕ, ◌+◌, ◌-◌, ◌*◌, ◌≤◌, ◌<◌}
 use mathlib.Core.Path.{◌≡◌, refl}
 use mathlib.Core.Logic.{◌↔◌}
@@ -12,13 +13,11 @@ use denote.Triple.Clauses.{AtExit}
 use borrow.Fn.Kinds.{Dens, ended_of}
 use Rattle.model.specs.declared.Refusal.{Refusal}
 use Rattle.model.specs.declared.Refusal.TheVariants.{Depth, Shape}
-use Rattle.model.specs.declared.Answer.TheVariants.{Accepted, Refused}
-use Rattle.model.specs.declared.Found.TheVariants.{At, Nowhere}
 use Rattle.model.specs.Limits.{cycles_max, word_length, target_length}
 use Rattle.model.specs.Image.{byte_at, AreBytes, design_of, state_at}
 use Rattle.model.specs.Parameters.{has_parameters}
 use Rattle.model.specs.Rules.{Keeps}
-use Rattle.model.specs.Answers.{number_of}
+use Rattle.model.specs.Answers.{Accepted, Refused, number_of}
 use Rattle.model.specs.Ports.{PortsKept}
 use Rattle.model.specs.Kinds.{subtract}
 use Rattle.model.specs.Trees.{expr_of, expr_depth}
@@ -122,9 +121,9 @@ pub proved_cases
     × (apply subtract 0 1 ≡ 4294967295)
     × ((expr_depth (expr_of (design_of (deep 63)) 126) ≡ 64) × (verdict (deep 63) ≡ Accepted 0))
     × (verdict (deep 64) ≡ Refused Depth (1024 + 128))
-    × (fault_of_rows (1 ∷ []) ≡ Nowhere)
-    × (fault_of_rows (15 ∷ 10 ∷ 12 ∷ 8 ∷ []) ≡ Nowhere)
-    × (fault_of_rows (7 ∷ 2 ∷ 4 ∷ []) ≡ At 1)
+    × (fault_of_rows (1 ∷ []) ≡ None)
+    × (fault_of_rows (15 ∷ 10 ∷ 12 ∷ 8 ∷ []) ≡ None)
+    × (fault_of_rows (7 ∷ 2 ∷ 4 ∷ []) ≡ Some 1)
     × (verdict goto_root ≡ Refused Shape 1)
 proved_cases = cases.proved_cases
 

@@ -3,9 +3,8 @@ use Prim.Native.Nat.{ℕ, ◌≤◌, ◌<◌}
 use mathlib.Core.Path.{◌≡◌, sym, ◌∙◌, ap}
 use mathlib.Core.List.{List}
 use lib.ListN.{length, take}
-use Rattle.model.specs.declared.Answer.TheVariants.{Accepted}
 use Rattle.model.specs.Image.{byte_at, AreBytes, design_of}
-use Rattle.model.specs.Answers.{Numbers, numbers_of}
+use Rattle.model.specs.Answers.{Accepted, Answer, Numbers, numbers_of}
 use Rattle.model.specs.Verdict.{verdict, ◌before◌, refused_at, at_zero_unless}
 use Rattle.renumbering.specs.Runs.{SameRuns}
 use Rattle.pruning_model.specs.Reached.{Reached}
@@ -21,7 +20,6 @@ use Rattle.caisson.proofs.Answered.{lent_told, accepted_told, numbers_told, outp
 use Rattle.caisson.proofs.Hosts.{Accepts}
 use lib.Dec.{leb}
 use Rattle.model.specs.declared.Refusal.TheVariants.{OutputArea}
-use Rattle.model.specs.declared.Answer.{Answer}
 use Rattle.model.proofs.Laws.Left.{left_answer}
 
 -- ---- what the call told and left

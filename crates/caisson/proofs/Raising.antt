@@ -5,10 +5,9 @@ use mathlib.Core.Logic.{◌↔◌}
 use mathlib.Core.Bool.{true}
 use mathlib.Core.List.{List}
 use lib.ListN.{length}
-use Rattle.model.specs.declared.Answer.TheVariants.{Accepted}
 use Rattle.model.specs.Image.{design_of, state_at}
 use Rattle.model.specs.Parameters.{has_parameters}
-use Rattle.model.specs.Answers.{numbers_of}
+use Rattle.model.specs.Answers.{Accepted, numbers_of}
 use Rattle.model.specs.Rules.{Keeps}
 use Rattle.model.specs.Calls.{Left}
 use Rattle.model.specs.Raising.{LeastRaising, raise}

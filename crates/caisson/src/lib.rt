@@ -18,7 +18,6 @@ ghost use Rattle.caisson.specs.Told.{told, told_left};
 ghost use Rattle.caisson.specs.ToldFiling.{told_which, part_of};
 ghost use Rattle.caisson.specs.Versions.{library_version, image_format};
 
-use calls::numbers::number;
 use filing_model::Earlier;
 use model::Answer;
 use replay_model::TraceRecord;
@@ -33,20 +32,22 @@ pub struct HostAnswer {
 }
 
 // An answer in numbers.
-fn in_numbers(answer: Answer) -> HostAnswer
-    ensures { told result ≡ numbers_of answer }
-{
-    match answer {
-        Answer::Accepted(count) => HostAnswer {
-            number: 0,
-            place: 0,
-            count,
-        },
-        Answer::Refused(refusal, place) => HostAnswer {
-            number: number(refusal),
-            place,
-            count: 0,
-        },
+impl From<Answer> for HostAnswer {
+    ghost from_gives = { λ answer numbers. told numbers ≡ numbers_of answer };
+
+    fn from(answer: Answer) -> HostAnswer {
+        match answer {
+            Ok(count) => HostAnswer {
+                number: 0,
+                place: 0,
+                count,
+            },
+            Err(why) => HostAnswer {
+                number: u32::from(why.refusal),
+                place: why.place,
+                count: 0,
+            },
+        }
     }
 }
 
@@ -71,8 +72,7 @@ pub extern "C" fn caisson_format() -> u32
 pub extern "C" fn caisson_check(image: &[u8]) -> HostAnswer
     ensures { told result ≡ numbers_of (check image.now) }
 {
-    let answer = calls::check(image);
-    in_numbers(answer)
+    HostAnswer::from(calls::check(image))
 }
 
 // The length in bytes of the register area that an image asks for.
@@ -80,8 +80,7 @@ pub extern "C" fn caisson_check(image: &[u8]) -> HostAnswer
 pub extern "C" fn caisson_registers_length(image: &[u8]) -> HostAnswer
     ensures { told result ≡ numbers_of (registers_length_of image.now) }
 {
-    let answer = calls::registers_length(image);
-    in_numbers(answer)
+    HostAnswer::from(calls::registers_length(image))
 }
 
 // The length in bytes of the area of targets and bindings that an image asks for.
@@ -89,8 +88,7 @@ pub extern "C" fn caisson_registers_length(image: &[u8]) -> HostAnswer
 pub extern "C" fn caisson_targets_length(image: &[u8]) -> HostAnswer
     ensures { told result ≡ numbers_of (targets_length_of image.now) }
 {
-    let answer = calls::targets_length(image);
-    in_numbers(answer)
+    HostAnswer::from(calls::targets_length(image))
 }
 
 // Reset values, default targets, and no bindings.
@@ -102,8 +100,7 @@ pub extern "C" fn caisson_reset(
 ) -> HostAnswer
     ensures { told_left result (lends registers.new targets.new) ≡ in_numbers_of (reset image.now (lends registers.old targets.old)) }
 {
-    let answer = calls::reset(image, registers, targets);
-    in_numbers(answer)
+    HostAnswer::from(calls::reset(image, registers, targets))
 }
 
 // A value for a port.
@@ -116,8 +113,7 @@ pub extern "C" fn caisson_write_port(
 ) -> HostAnswer
     ensures { told_left result registers.new ≡ in_numbers_of (write_port_of image.now registers.old reg value) }
 {
-    let answer = calls::write_port(image, registers, reg, value);
-    in_numbers(answer)
+    HostAnswer::from(calls::write_port(image, registers, reg, value))
 }
 
 // So many cycles.
@@ -130,8 +126,7 @@ pub extern "C" fn caisson_run(
 ) -> HostAnswer
     ensures { told_left result (lends registers.new targets.new) ≡ in_numbers_of (run image.now (lends registers.old targets.old) cycles) }
 {
-    let answer = calls::run(image, registers, targets, cycles);
-    in_numbers(answer)
+    HostAnswer::from(calls::run(image, registers, targets, cycles))
 }
 
 // So many cycles, with both areas saved in a journal before each.
@@ -145,8 +140,7 @@ pub extern "C" fn caisson_run_journalled(
 ) -> HostAnswer
     ensures { told_left result (lends_journal registers.new targets.new journal.new) ≡ in_numbers_of (run_journalled_of image.now (lends_journal registers.old targets.old journal.old) cycles) }
 {
-    let answer = journal::run_journalled(image, registers, targets, journal, cycles);
-    in_numbers(answer)
+    HostAnswer::from(journal::run_journalled(image, registers, targets, journal, cycles))
 }
 
 // Back by so many cycles that a journal counts.
@@ -160,8 +154,7 @@ pub extern "C" fn caisson_step_back(
 ) -> HostAnswer
     ensures { told_left result (lends_journal registers.new targets.new journal.new) ≡ in_numbers_of (step_back_of image.now (lends_journal registers.old targets.old journal.old) cycles) }
 {
-    let answer = journal::step_back(image, registers, targets, journal, cycles);
-    in_numbers(answer)
+    HostAnswer::from(journal::step_back(image, registers, targets, journal, cycles))
 }
 
 // So many cycles, with the records of a trace applied before each.
@@ -175,8 +168,7 @@ pub extern "C" fn caisson_replay(
 ) -> HostAnswer
     ensures { told_left result (lends registers.new targets.new) ≡ in_numbers_of (replay_of image.now (lends registers.old targets.old) trace.now cycles) }
 {
-    let answer = replay::records::replay(image, registers, targets, trace, cycles);
-    in_numbers(answer)
+    HostAnswer::from(replay::records::replay(image, registers, targets, trace, cycles))
 }
 
 // The image with the labels of its inner registers raised, into a second area.
@@ -184,8 +176,7 @@ pub extern "C" fn caisson_replay(
 pub extern "C" fn caisson_raise(image: &[u8], out: &mut [u8]) -> HostAnswer
     ensures { told_left result out.new ≡ in_numbers_of (raise image.now out.old) }
 {
-    let answer = raising::raise(image, out);
-    in_numbers(answer)
+    HostAnswer::from(raising::raise(image, out))
 }
 
 // The image with only what can run, over the beginning of a second area.
@@ -193,8 +184,7 @@ pub extern "C" fn caisson_raise(image: &[u8], out: &mut [u8]) -> HostAnswer
 pub extern "C" fn caisson_prune(image: &[u8], out: &mut [u8]) -> HostAnswer
     ensures { told_left result out.new ≡ in_numbers_of (prune image.now out.old) }
 {
-    let answer = pruning::prune(image, out);
-    in_numbers(answer)
+    HostAnswer::from(pruning::prune(image, out))
 }
 
 // The filing form of an image, over the beginning of a second area.
@@ -202,8 +192,7 @@ pub extern "C" fn caisson_prune(image: &[u8], out: &mut [u8]) -> HostAnswer
 pub extern "C" fn caisson_file(image: &[u8], out: &mut [u8]) -> HostAnswer
     ensures { told_left result out.new ≡ in_numbers_of (file image.now out.old) }
 {
-    let answer = filing::file(image, out);
-    in_numbers(answer)
+    HostAnswer::from(filing::file(image, out))
 }
 
 // A part of one of two images as the host is given it, caisson_which in the header: of the second where `second` is
@@ -229,8 +218,7 @@ pub extern "C" fn caisson_earlier_part<'a>(first: &'a [u8], second: &'a [u8], pa
 pub extern "C" fn caisson_which_earlier(first: &[u8], second: &[u8]) -> HostWhich
     ensures { told_which result ≡ part_of first.now second.now (earlier first.now second.now) }
 {
-    let which = filing::which_earlier(first, second);
-    match which {
+    match filing::which_earlier(first, second) {
         Earlier::First => HostWhich {
             second: 0,
             len: first.len(),
@@ -248,8 +236,7 @@ pub extern "C" fn caisson_which_earlier(first: &[u8], second: &[u8]) -> HostWhic
 pub extern "C" fn caisson_gates_check(table: &[u8]) -> HostAnswer
     ensures { told result ≡ numbers_of (gates_check table.now) }
 {
-    let answer = gates::check(table);
-    in_numbers(answer)
+    HostAnswer::from(gates::check(table))
 }
 
 // The start values and marks of a gate table's flip-flops.
@@ -257,8 +244,7 @@ pub extern "C" fn caisson_gates_check(table: &[u8]) -> HostAnswer
 pub extern "C" fn caisson_gates_reset(table: &[u8], flipflops: &mut [u8]) -> HostAnswer
     ensures { told_left result flipflops.new ≡ in_numbers_of (gates_reset table.now flipflops.old) }
 {
-    let answer = gates::reset(table, flipflops);
-    in_numbers(answer)
+    HostAnswer::from(gates::reset(table, flipflops))
 }
 
 // One cycle of a gate table.
@@ -270,6 +256,5 @@ pub extern "C" fn caisson_gates_cycle(
 ) -> HostAnswer
     ensures { told_left result flipflops.new ≡ in_numbers_of (gates_cycle table.now inputs.now flipflops.old) }
 {
-    let answer = gates::cycle(table, inputs, flipflops);
-    in_numbers(answer)
+    HostAnswer::from(gates::cycle(table, inputs, flipflops))
 }

@@ -1,37 +1,24 @@
--- A call's equation fixes its answer and the areas, so it fixes the areas.
-use Prim.Native.Nat.{ℕ}
-use mathlib.Core.Path.{◌≡◌, sym, ◌∙◌, ap}
-use mathlib.Core.List.{List}
+-- An area of equal bytes, and the call that a kind makes.
+use Prim.Native.Nat.{ℕ, zero, suc}
+use mathlib.Core.Path.{◌≡◌, refl, sym, ◌∙◌, ap}
+use mathlib.Core.List.{List, ◌∷◌}
+use lib.ListN.{replicate}
 use borrow.Author.Tests.{ne_eqb}
-use Rattle.model.specs.declared.Refusal.{Refusal}
-use Rattle.model.specs.declared.Answer.{Answer}
-use Rattle.model.specs.declared.Answer.TheVariants.{Refused}
-use Rattle.model.specs.Answers.{number_of, numbers_of}
-use Rattle.model.specs.Calls.{Lent, Left, reset, write_port, run, left_as}
-use Rattle.model.specs.Raising.{raise}
+use Rattle.model.specs.Indices.{tabulate_from, tabulate}
+use Rattle.model.specs.Calls.{Lent, reset, write_port, run}
 use Rattle.design.specs.Resets.{lends}
-use Rattle.pruning_model.specs.Calls.{prune}
-use Rattle.filing_model.specs.Calls.{file}
 use Rattle.journal_model.specs.Calls.{LentJournal, run_journalled, step_back}
-use Rattle.cases.specs.Leaves.{numbered, painted, after_call, after_journal_call}
+use Rattle.cases.specs.Leaves.{painted, after_call, after_journal_call}
 
-pub lent_left : {A : Type 0} {a : Answer} {lent : A} {left : Left A} → left_as a lent ≡ left → lent ≡ left.lent
-lent_left {A = A} e = ap (λ (l : Left A). l.lent) e
+-- ---- an area that is painted
+painted_from : (byte i n : ℕ) → tabulate_from (λ (k : ℕ). byte) i n ≡ replicate n byte
+unfolding tabulate_from
+painted_from byte i zero = refl
+painted_from byte i (suc n) = ap (λ (rest : List ℕ). byte ∷ rest) (painted_from byte (suc i) n)
 
--- an area that is painted, and written to by a call
-module _ (image : List ℕ) (byte n : ℕ) {a : Answer} {old out : List ℕ} (e : old ≡ painted byte n) where
-  pub raise_left : left_as a out ≡ raise image old → out ≡ (raise image (painted byte n)).lent
-  raise_left h = ap (λ (l : Left (List ℕ)). l.lent) (h ∙ ap (raise image) e)
-
-  pub prune_left : left_as a out ≡ prune image old → out ≡ (prune image (painted byte n)).lent
-  prune_left h = ap (λ (l : Left (List ℕ)). l.lent) (h ∙ ap (prune image) e)
-
-  pub file_left : left_as a out ≡ file image old → out ≡ (file image (painted byte n)).lent
-  file_left h = ap (λ (l : Left (List ℕ)). l.lent) (h ∙ ap (file image) e)
-
--- ---- a refusal in its numbers
-pub refused_numbered : {answer : Answer} {refusal : Refusal} {n place : ℕ} → answer ≡ Refused refusal place → n ≡ number_of refusal → numbers_of answer ≡ numbered n place 0
-refused_numbered {place = place} e h = ap numbers_of e ∙ ap (λ (k : ℕ). numbered k place 0) (sym h)
+pub painted_by : (byte n : ℕ) {now : List ℕ} → now ≡ replicate n byte → now ≡ painted byte n
+unfolding tabulate
+painted_by byte n e = e ∙ sym (painted_from byte 0 n)
 
 -- ---- the call of a kind
 module _ (kind a b : ℕ) (image : List ℕ) (lent : Lent) {left : Lent} where

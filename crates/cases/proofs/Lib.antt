@@ -1,3 +1,2 @@
--- Laws of the buffers, and of what the calls leave in them.
-pub mod Buffers
+-- Laws of what the calls leave.
 pub mod LeavesRules

@@ -5,9 +5,9 @@ use mathlib.Core.List.{List}
 use native.Mathlib.Omega.{arith}
 use lib.ListN.{length, take}
 use lib.Seq.{length-take-le}
-use Rattle.model.specs.declared.Refusal.{Refusal}
-use Rattle.model.specs.declared.Answer.{Answer}
-use Rattle.model.specs.declared.Answer.TheVariants.{Refused}
+use Rattle.std.specs.Prelude.{Err}
+use Rattle.model.specs.declared.RefusedAt.{RefusedAt}
+use Rattle.model.specs.Answers.{Answer}
 use Rattle.model.specs.Image.{Registers}
 use Rattle.model.specs.Verdict.{verdict}
 use Rattle.design.specs.declared.Design.{Design}
@@ -25,5 +25,5 @@ pub targets_fit : {image : List ℕ} {x : Design} → Describes image x → 3 * 
 targets_fit d = let few = states_few d in omega arith
 
 -- a place is a number of 32 bits
-pub place_word : (image : List ℕ) {a : Answer} {r : Refusal} {p : ℕ} → a ≡ verdict image → a ≡ Refused r p → p < 4294967296
-place_word image e h = let small = place_small image e h in omega arith
+pub place_word : (image : List ℕ) {a : Answer} {why : RefusedAt} → a ≡ verdict image → a ≡ Err why → why.place < 4294967296
+place_word image {why = why} e h = let small = place_small image {r = why.refusal} {p = why.place} e h in omega arith

@@ -1,5 +1,6 @@
 -- The pieces, one behind the other, are the listing, since a listing is its header and its lines; and whole pieces with a beginning of the next are a
 -- beginning of all of them.
+use Rattle.std.specs.Prelude.{Err}
 use Prim.Native.Nat.{ℕ, zero, suc, ◌+◌, ◌≤◌, ◌<◌}
 use mathlib.Core.Path.{◌≡◌, refl, sym, ◌∙◌, ap}
 use mathlib.Core.Bool.{true}
@@ -10,8 +11,7 @@ use lib.ListN.{length, get_or, take, drop, take-append-drop, drop_of_length-le}
 use lib.Seq.{take_all}
 use borrow.Author.Tests.{lt-ltb, le-ltb}
 use Rattle.model.specs.declared.Refusal.TheVariants.{Directory}
-use Rattle.model.specs.declared.Answer.{Answer}
-use Rattle.model.specs.declared.Answer.TheVariants.{Accepted, Refused}
+use Rattle.model.specs.Answers.{Answer, Accepted}
 use Rattle.model.specs.Indices.{tabulate_from, tabulate, join_below}
 use Rattle.model.specs.Image.{design_of, word16_at}
 use Rattle.model.specs.Verdict.{verdict}
@@ -42,7 +42,7 @@ joined_listed : (a : Answer) (n : ℕ) (image : List ℕ) → joined (pieces_by 
 unfolding joined pieces_by listed
 joined_listed (Accepted found) n image =
     ap (λ (rest : List ℕ). header ++ rest) (joined_below (cycle_line (design_of image)) n ∙ sym (lines_joined (design_of image) n))
-joined_listed (Refused refusal place) n image = append-nil _
+joined_listed (Err why) n image = append-nil _
 
 short_listing : (input : List ℕ) → length input < 2 → joined (pieces (drop 2 input) (word16_at input 0)) ≡ listing input
 unfolding listing joined

@@ -1,20 +1,20 @@
 -- Each text that the program makes is the next piece of the listing, and the pieces are counted as they are handed over.
-use Prim.Native.Nat.{ℕ, suc, ◌+◌, ◌-◌, ◌≤◌, ◌<◌}
+use Rattle.std.specs.Prelude.{Err}
+use Prim.Native.Nat.{ℕ, suc, ◌+◌, ◌≤◌, ◌<◌}
 use mathlib.Core.Path.{◌≡◌, sym, ◌∙◌, ap}
 use mathlib.Core.Bool.{Bool, false, true≢false}
 use mathlib.Core.List.{List, [], ◌∷◌}
 use native.Mathlib.Omega.{arith}
 use native.Mathlib.Numerals.{add-one}
-use lib.ListN.{length, get_or, take, drop, length-drop, drop_of_length-le}
-use lib.Seq.{take_all}
+use lib.ListN.{length, get_or, drop, drop_of_length-le}
 use mir.Syntax.{w32, w64}
 use mir.Val.{Fits}
 use Rattle.model.specs.declared.Refusal.{Refusal}
 use Rattle.model.specs.declared.Refusal.TheVariants.{Directory}
-use Rattle.model.specs.declared.Answer.{Answer}
-use Rattle.model.specs.declared.Answer.TheVariants.{Accepted, Refused}
+use Rattle.model.specs.declared.RefusedAt.{RefusedAt}
+use Rattle.model.specs.Answers.{Answer, Accepted, Refused}
 use Rattle.model.specs.Indices.{tabulate}
-use Rattle.model.specs.Image.{design_of, word16_at}
+use Rattle.model.specs.Image.{design_of}
 use Rattle.model.specs.Rules.{Keeps}
 use Rattle.model.specs.Verdict.{verdict}
 use Rattle.model.specs.Listing.{header, refusal_line}
@@ -46,16 +46,10 @@ length-few image count = go (verdict image)
   where
     go : (a : Answer) → length (pieces_by a count image) ≤ count + 1
     go (Accepted found) = let long = length-tabulate (cycle_line (design_of image)) count in omega arith
-    go (Refused refusal place) = omega arith
+    go (Err why) = omega arith
 
 -- ---- what is handed over
-pub judged_so : (image : List ℕ) {a : Answer} {r : Refusal} {p : ℕ} → a ≡ Refused r p → a ≡ verdict image → verdict image ≡ Refused r p
-judged_so image h is = sym is ∙ h
-
 module _ {image text : List ℕ} {count handed n : ℕ} (hands : Hands image count handed text n) where
-  pub hands_room : n ≤ length text
-  hands_room = hands.room
-
   -- the count of pieces is a number of 64 bits
   pub hands_counted : Fits w32 count → Fits w64 (handed + 1)
   hands_counted fits =
@@ -87,9 +81,9 @@ module _ {image table in_scope registers targets : List ℕ} {x : Design} {done 
 
 -- ---- how many were handed over
 module _ {image : List ℕ} {count handed : ℕ} {written : Bool} where
-  pub refused_handed : {a : Answer} {r : Refusal} {p : ℕ} → handed ≡ 1 → a ≡ Refused r p → a ≡ verdict image → Handed image count handed written
-  refused_handed e h is =
-      let one = ap length (pieces_refused image count (sym is ∙ h)) in
+  pub refused_handed : {a : Answer} {why : RefusedAt} → handed ≡ 1 → a ≡ Err why → a ≡ verdict image → Handed image count handed written
+  refused_handed {why = why} e h is =
+      let one = ap length (pieces_refused image count {r = why.refusal} {p = why.place} (sym is ∙ h)) in
       record { least = omega arith; most = omega arith; whole = λ _. omega arith }
 
   -- the header could not be written
@@ -98,19 +92,12 @@ module _ {image : List ℕ} {count handed : ℕ} {written : Bool} where
       let all = length-kept image count keeps in
       record { least = omega arith; most = omega arith; whole = λ h. absurd (true≢false (sym h ∙ failed)) }
 
-  pub ran_handed : {At : ℕ → Type 0} → Keeps image → Ran At count handed written → Handed image count handed written
+  pub ran_handed : {Behind : ℕ → Type 0} → Keeps image → Ran Behind count handed written → Handed image count handed written
   ran_handed keeps ran =
       let all = length-kept image count keeps in
       let counted = ran.counted in
       let most = ran.most in
       record { least = omega arith; most = omega arith; whole = λ h. let every = ran.all h in omega arith }
-
--- ---- the image and the count of an input
-pub rest_whole : (input : List ℕ) → take (length input - 2) (drop 2 input) ≡ drop 2 input
-rest_whole input = let long = length-drop 2 input in take_all (length input - 2) (drop 2 input) (omega arith)
-
-pub input_handed : {image : List ℕ} {count handed : ℕ} {written : Bool} (input : List ℕ) → Handed image count handed written → image ≡ drop 2 input → count ≡ word16_at input 0 → Handed (drop 2 input) (word16_at input 0) handed written
-input_handed input done e h = rw (← e, ← h) done
 
 -- ---- an input of fewer than two bytes has the pieces of the empty image, whatever its count
 pub empty_refused : verdict [] ≡ Refused Directory 0

@@ -9,7 +9,7 @@ use lib.ListN.{length, take, drop, length-drop}
 use lib.Seq.{take_all, length-take-le}
 use borrow.Author.Tests.{le-ltb}
 use Rattle.model.specs.declared.Refusal.TheVariants.{Directory}
-use Rattle.model.specs.declared.Answer.TheVariants.{Refused}
+use Rattle.model.specs.Answers.{Refused}
 use Rattle.model.specs.Image.{Labels, Registers, States, Commands, Expressions, directory_kept}
 use Rattle.model.specs.Rules.{DirectoryKeeps}
 use Rattle.model.specs.Verdict.{◌before◌, refused_at, structure, verdict}

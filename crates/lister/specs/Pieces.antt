@@ -1,7 +1,6 @@
 -- The listing as the program hands it over to be written: piece by piece, in order.
-use Rattle.std.specs.Prelude.{ℕ, ◌≤◌, ◌<◌, ◌≡◌, Bool, true, List, [], ◌∷◌, ◌++◌, length, get_or, take}
-use Rattle.model.specs.declared.Answer.{Answer}
-use Rattle.model.specs.declared.Answer.TheVariants.{Accepted, Refused}
+use Rattle.std.specs.Prelude.{ℕ, ◌≤◌, ◌<◌, ◌≡◌, Bool, true, List, [], ◌∷◌, ◌++◌, length, get_or, take, Err}
+use Rattle.model.specs.Answers.{Answer, Accepted}
 use Rattle.model.specs.Indices.{tabulate}
 use Rattle.model.specs.Image.{design_of}
 use Rattle.model.specs.Verdict.{verdict}
@@ -11,7 +10,7 @@ use Rattle.listing.specs.Lines.{cycle_line}
 -- the header and the line of each of so many cycles from reset, or the one line of a refusal, by the verdict of the image
 unfoldable pub pieces_by : Answer → ℕ → List ℕ → List (List ℕ)
 pieces_by (Accepted found) count image = header ∷ tabulate (cycle_line (design_of image)) count
-pieces_by (Refused refusal place) count image = refusal_line refusal place ∷ []
+pieces_by (Err why) count image = refusal_line why.refusal why.place ∷ []
 
 -- the pieces of the listing of so many cycles of an image
 unfoldable pub pieces : List ℕ → ℕ → List (List ℕ)

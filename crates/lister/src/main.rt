@@ -10,24 +10,25 @@
 #![tactic(auto)]
 
 ghost use Rattle.std.specs.Prelude.{◌+◌, ◌*◌, ◌<◌, ◌≡◌, length, drop};
-ghost use Rattle.model.specs.declared.Answer.TheVariants.{Refused};
+ghost use Rattle.model.specs.Answers.{Refused};
 ghost use Rattle.model.specs.Limits.{word_length, target_length};
-ghost use Rattle.model.specs.Image.{design_of, word16_at};
+ghost use Rattle.model.specs.Image.{word16_at};
 ghost use Rattle.model.specs.Rules.{Keeps};
 ghost use Rattle.model.specs.Verdict.{verdict as verdict_of};
 ghost use Rattle.model.specs.Machine.{reset_areas, after_cycles};
-ghost use Rattle.design.specs.Describes.{Describes};
+ghost use Rattle.design.specs.Images.{design_in};
 ghost use Rattle.machine.specs.Cycles.{areas_in};
-ghost use Rattle.listing.specs.Lines.{RunningAt};
+ghost use Rattle.listing.specs.Lines.{RunningAtIn};
 ghost use Rattle.lister.specs.Lengths.{input_length};
 ghost use Rattle.lister.specs.Pieces.{Hands, Handed};
 ghost use Rattle.lister.specs.Ran.{Ran};
 
 use design::Design;
-use design::scopes::SCOPES;
+use design::image::Image;
 use listing::lines::{header, next_line, refusal_line};
 use listing::starts::start;
-use model::{Answer, Refusal};
+use machine::tables::Tables;
+use model::Refusal;
 
 // A cycle count, the longest image and one byte more: whatever stands behind them, an image so long
 // is refused.
@@ -79,78 +80,56 @@ fn print_refusal(image: &[u8], count: u32, handed: &mut usize, refusal: Refusal,
 
 // Runs the cycle behind those done from reset, and writes its line.
 fn print_cycle(
-    image: &[u8],
-    design: Design,
-    defaults: &[u8],
-    scopes: &[u8],
+    image: &Image,
+    tables: &Tables,
     registers: &mut [u8],
     targets: &mut [u8],
     count: u32,
     handed: &mut usize,
     done: u32,
 ) -> bool
-    requires { (done < count) × (handed.old ≡ done + 1) × RunningAt image.now design defaults.now scopes.now registers.old targets.old done }
-    ensures running_at { RunningAt image.now design defaults.now scopes.now registers.new targets.new (done + 1) }
+    requires { (done < count) × (handed.old ≡ done + 1) × RunningAtIn image.now tables.now registers.old targets.old done }
+    ensures running_at { RunningAtIn image.now tables.now registers.new targets.new (done + 1) }
     ensures handed_after { handed.new ≡ handed.old + 1 }
 {
     let mut out = [0u8; LINE];
-    let n = next_line(
-        image, design, defaults, scopes, registers, targets, done, &mut out,
-    );
-    print(image, count, handed, &out, n)
+    let n = next_line(image, tables, registers, targets, done, &mut out);
+    print(image.bytes, count, handed, &out, n)
 }
 
 // Runs so many cycles from reset, and writes their lines. Stops at a line that cannot be written.
 fn print_cycles(
-    image: &[u8],
-    design: Design,
-    defaults: &[u8],
-    scopes: &[u8],
+    image: &Image,
+    tables: &Tables,
     registers: &mut [u8],
     targets: &mut [u8],
     count: u32,
     handed: &mut usize,
 ) -> bool
-    requires { (handed.old ≡ 1) × RunningAt image.now design defaults.now scopes.now registers.old targets.old 0 }
-    ensures { Ran (RunningAt image.now design defaults.now scopes.now registers.new targets.new) count handed.new result }
+    requires { (handed.old ≡ 1) × RunningAtIn image.now tables.now registers.old targets.old 0 }
+    ensures { Ran (RunningAtIn image.now tables.now registers.new targets.new) count handed.new result }
 {
-    let mut i = 0;
-    while i < count {
-        if !print_cycle(
-            image, design, defaults, scopes, registers, targets, count, handed, i,
-        ) {
+    for i in 0..count {
+        if !print_cycle(image, tables, registers, targets, count, handed, i) {
             return false;
         }
-        i += 1;
     }
     true
 }
 
 // The lines of the cycles, on areas of the right lengths.
 fn list_on(
-    image: &[u8],
-    design: Design,
+    image: &Image,
     registers: &mut [u8],
     targets: &mut [u8],
     count: u32,
     handed: &mut usize,
 ) -> bool
-    requires { (handed.old ≡ 1) × (length registers.old ≡ word_length * design.registers) × (length targets.old ≡ target_length * design.states) × Describes image.now design × Keeps image.now }
-    ensures { Ran (λ cycles. areas_in (design_of image.now) registers.new targets.new ≡ after_cycles (design_of image.now) cycles (reset_areas (design_of image.now))) count handed.new result }
+    requires { (handed.old ≡ 1) × (length registers.old ≡ word_length * image.now.design.registers) × (length targets.old ≡ target_length * image.now.design.states) × Keeps image.now.bytes.now }
+    ensures { Ran (λ cycles. areas_in (design_in image.now) registers.new targets.new ≡ after_cycles (design_in image.now) cycles (reset_areas (design_in image.now))) count handed.new result }
 {
-    let mut defaults = [0u8; Design::STATES];
-    let mut scopes = [0u8; SCOPES];
-    start(
-        image,
-        design,
-        &mut defaults,
-        &mut scopes,
-        registers,
-        targets,
-    );
-    print_cycles(
-        image, design, &defaults, &scopes, registers, targets, count, handed,
-    )
+    let tables = start(image, registers, targets);
+    print_cycles(image, &tables, registers, targets, count, handed)
 }
 
 // The listing of an image that keeps the rules.
@@ -158,17 +137,16 @@ fn list_accepted(image: &[u8], count: u32, handed: &mut usize) -> bool
     requires { Keeps image.now × (handed.old ≡ 0) }
     ensures { Handed image.now count handed.new result }
 {
-    let design = Design::read(image);
+    let image = Image::read(image);
     let mut registers = [0u8; REGISTERS];
     let mut targets = [0u8; TARGETS];
-    let r = Design::WORD_LENGTH * design.registers;
-    let t = Design::TARGET_LENGTH * design.states;
-    if !print_header(image, count, handed) {
+    let r = Design::WORD_LENGTH * image.design.registers;
+    let t = Design::TARGET_LENGTH * image.design.states;
+    if !print_header(image.bytes, count, handed) {
         return false;
     }
     list_on(
-        image,
-        design,
+        &image,
         &mut registers[..r],
         &mut targets[..t],
         count,
@@ -181,12 +159,9 @@ fn list(image: &[u8], count: u32, handed: &mut usize) -> bool
     requires { handed.old ≡ 0 }
     ensures { Handed image.now count handed.new result }
 {
-    let verdict = checker::verdict(image);
-    match verdict {
-        Answer::Refused(refusal, place) => {
-            print_refusal(image, count, handed, refusal, place as u32)
-        }
-        Answer::Accepted(_) => list_accepted(image, count, handed),
+    match checker::verdict(image) {
+        Ok(_) => list_accepted(image, count, handed),
+        Err(why) => print_refusal(image, count, handed, why.refusal, why.place as u32),
     }
 }
 
@@ -194,7 +169,7 @@ fn list(image: &[u8], count: u32, handed: &mut usize) -> bool
 fn word16(low: u8, high: u8) -> u32
     ensures { result ≡ low + 256 * high }
 {
-    low as u32 + 256 * high as u32
+    u32::from(u16::from_le_bytes([low, high]))
 }
 
 // The listing of an input. One of fewer than two bytes is refused as one with the empty image is.

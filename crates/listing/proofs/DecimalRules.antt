@@ -11,8 +11,6 @@ use lib.Dec.{ltb}
 use lib.ListN.{length, set, length-append, length-set}
 use lib.Seq.{set_comm}
 use borrow.Author.Tests.{lt-ltb, le-ltb}
-use mir.Syntax.{w64}
-use mir.Val.{Fits}
 use Rattle.model.specs.Listing.{decimal}
 use Rattle.model.proofs.Laws.Indices.{recursively_step, only_below, only_below_at}
 use Rattle.listing.specs.Texts.{written, Put}
@@ -89,18 +87,12 @@ module _ {n k rest : ℕ} (so : DigitsSo n k rest) where
   pub digits_more : 0 < rest → DigitsSo n (k + 1) (rest / 10)
   digits_more l = let step = left_step rest l in let counted = so.counted in record { counted = omega arith; few = so.few }
 
-  pub digits_room : Fits w64 (k + 1)
-  digits_room = let counted = so.counted in let few = so.few in record { fits = omega arith }
-
   pub digits_counted : rest ≤ 0 → k ≡ length (decimal n)
   unfolding digits_left
   digits_counted l = let none : rest ≡ 0 = omega arith in let counted = rw none at so.counted in omega arith
 
   pub digits_few : k ≤ 10
   digits_few = let counted = so.counted in let few = so.few in omega arith
-
-pub tenth_less : {rest : ℕ} → 0 < rest → rest / 10 < rest
-tenth_less l = omega arith
 
 -- ---- the digits
 -- the last k digits of a number, the last one behind those of a tenth of it
@@ -150,9 +142,6 @@ pub decimal_begins : {n at k : ℕ} (out : List ℕ) → at + 10 ≤ length out 
 decimal_begins {n} {at} {k} out room e few = record { left = ap (written out at) (sym (digits_are k n (sym e))); few = few; room = room; long = refl }
 
 module _ {n at rest k : ℕ} {out₀ out : List ℕ} (so : DecimalSo n out₀ at out rest k) where
-  pub decimal_inside : 0 < k → at + (k - 1) < length out
-  decimal_inside l = let few = so.few in let room = so.room in let long = so.long in omega arith
-
   pub decimal_more : {b : ℕ} → 0 < k → b ≡ 48 + rest % 10 → DecimalSo n out₀ at (set out (at + (k - 1)) b) (rest / 10) (k - 1)
   unfolding last_digits
   decimal_more {b} l e =

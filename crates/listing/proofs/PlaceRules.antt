@@ -1,16 +1,14 @@
 -- The place of a refusal is small: a label, a register, a state or a node of an image that keeps its directory, and a tree has no other nodes.
+use Rattle.std.specs.Prelude.{Option, Some, None, Err}
 use Prim.Native.Nat.{ℕ, ◌+◌, ◌≤◌, ◌<◌}
 use mathlib.Core.Path.{◌≡◌, refl, sym, ◌∙◌, ap}
 use mathlib.Core.Bool.{Bool, true, false}
 use mathlib.Core.List.{List, [], ◌∷◌, ◌++◌}
 use native.Mathlib.Omega.{arith}
 use lib.ListN.{length}
-use Rattle.model.specs.declared.Found.{Found}
-use Rattle.model.specs.declared.Found.TheVariants.{At, Nowhere}
 use Rattle.model.specs.declared.Refusal.{Refusal}
 use Rattle.model.specs.declared.Refusal.TheVariants.{Directory, LabelRow, RegisterRecord, StateRecord, NodeRecord, NodeUse, Depth, Shape, ChildLabel, PortAssigned, Parameter, AssignFlow, GotoFlow, FallFlow}
-use Rattle.model.specs.declared.Answer.{Answer}
-use Rattle.model.specs.declared.Answer.TheVariants.{Accepted, Refused}
+use Rattle.model.specs.Answers.{Answer, Accepted, Refused}
 use Rattle.model.specs.Limits.{expression_place}
 use Rattle.model.specs.Indices.{lowest_failing}
 use Rattle.model.specs.Image.{Design as Table, Labels, Registers, States, Commands, Expressions, design_of, directory_kept, state_at}
@@ -23,6 +21,8 @@ use Rattle.model.specs.Scopes.{state_scope_faults, scope_fault}
 use Rattle.model.specs.Verdict.{◌before◌, refused_at, at_zero_unless, commands_first, lowest_node, design_structure, structure, verdict}
 use Rattle.model.proofs.Laws.Indices.{failing_none, lowest_failing_below}
 use Rattle.model.proofs.Laws.Charged.{Each, none, one_more, each_append, each_join, FoundBelow, found_at, found_nowhere, lowest_below, below_more, Numbered, body_numbered, state_shape_below, state_scope_below}
+use Rattle.model.proofs.Laws.Found.{at_is_not_nowhere}
+use Rattle.model.proofs.Laws.Verdict.{refused_is_not_accepted, same_refusal}
 use Rattle.model.proofs.Laws.Images.{label_count, register_count, state_count, command_count, expression_count}
 use Rattle.model.proofs.Exact.{structure_counts_nothing, structure_exact}
 use Rattle.model.proofs.Exact.Directories.{directory_iff}
@@ -33,26 +33,26 @@ abbrev PlacedBelow : ℕ → Answer → Type 0
 PlacedBelow b a = (r : Refusal) (p : ℕ) → a ≡ Refused r p → p < b
 
 placed_refused : (b : ℕ) (r : Refusal) (n : ℕ) → n < b → PlacedBelow b (Refused r n)
-placed_refused b r n l s p e = let same : n ≡ p = cc in omega arith
+placed_refused b r n l s p e = let same = (same_refusal e).1 in omega arith
 
 placed_accepted : (b n : ℕ) → PlacedBelow b (Accepted n)
-placed_accepted b n s p e = let z : ◌≡◌ {A = ℕ} 0 1 = cc in absurd (omega arith)
+placed_accepted b n r p e = absurd (refused_is_not_accepted r p n (sym e))
 
 -- a stage, and what comes after it where the stage refuses nothing
-placed_before : (b : ℕ) (r : Refusal) (f : Found) (later : Answer) → FoundBelow b f → (f ≡ Nowhere → PlacedBelow b later) → PlacedBelow b (refused_at r f before later)
+placed_before : (b : ℕ) (r : Refusal) (f : Option ℕ) (later : Answer) → FoundBelow b f → (f ≡ None → PlacedBelow b later) → PlacedBelow b (refused_at r f before later)
 unfolding refused_at ◌before◌
-placed_before b r (At n) later h k = placed_refused b r n (h n refl)
-placed_before b r Nowhere later h k = k refl
+placed_before b r (Some n) later h k = placed_refused b r n (h n refl)
+placed_before b r None later h k = k refl
 
 -- the last stage, and two groups of stages
-placed_searched : (b : ℕ) (r : Refusal) (f : Found) → FoundBelow b f → PlacedBelow b (refused_at r f)
+placed_searched : (b : ℕ) (r : Refusal) (f : Option ℕ) → FoundBelow b f → PlacedBelow b (refused_at r f)
 unfolding refused_at
-placed_searched b r (At n) h = placed_refused b r n (h n refl)
-placed_searched b r Nowhere h = placed_accepted b 0
+placed_searched b r (Some n) h = placed_refused b r n (h n refl)
+placed_searched b r None h = placed_accepted b 0
 
 placed_both : (b : ℕ) (first later : Answer) → PlacedBelow b first → ((n : ℕ) → first ≡ Accepted n → PlacedBelow b later) → PlacedBelow b (first before later)
 unfolding ◌before◌
-placed_both b (Refused r p) later h k = h
+placed_both b (Err why) later h k = h
 placed_both b (Accepted n) later h k = k n refl
 
 -- the first of refusals
@@ -93,10 +93,10 @@ module _ (d : Table) (commands : length d.commands ≤ 1024) (expressions : leng
 failing_below : (rule : ℕ → Bool) (n b : ℕ) → n ≤ b → FoundBelow b (lowest_failing rule n)
 failing_below rule n b l p e = let below = lowest_failing_below rule n p e in omega arith
 
-first_below : (f g : Found) → FoundBelow 1024 f → FoundBelow 2048 g → FoundBelow 3072 (commands_first f g)
-first_below (At n) g h k = let below = h n refl in found_at 3072 n (omega arith)
-first_below Nowhere (At n) h k = let below = k n refl in found_at 3072 (expression_place + n) (omega arith)
-first_below Nowhere Nowhere h k = found_nowhere 3072
+first_below : (f g : Option ℕ) → FoundBelow 1024 f → FoundBelow 2048 g → FoundBelow 3072 (commands_first f g)
+first_below (Some n) g h k = let below = h n refl in found_at 3072 n (omega arith)
+first_below None (Some n) h k = let below = k n refl in found_at 3072 (expression_place + n) (omega arith)
+first_below None None h k = found_nowhere 3072
 
 module _ (d : Table) (rows : length d.rows ≤ 3072) (registers : length d.registers ≤ 3072) (states : length d.states ≤ 3072) (commands : length d.commands ≤ 1024) (expressions : length d.expressions ≤ 2048) where
   node_below : (command expression : ℕ → Bool) → FoundBelow 3072 (lowest_node d command expression)
@@ -108,7 +108,7 @@ module _ (d : Table) (rows : length d.rows ≤ 3072) (registers : length d.regis
       (failing_below command (length d.commands) 1024 commands)
       (failing_below expression (length d.expressions) 2048 expressions)
 
-  command_below : lowest_failing (state_kept d) (length d.states) ≡ Nowhere → (s : ℕ) → s < length d.states → (state_at d s).command < length d.commands
+  command_below : lowest_failing (state_kept d) (length d.states) ≡ None → (s : ℕ) → s < length d.states → (state_at d s).command < length d.commands
   command_below e s l = ((state_iff d s).0 (failing_none (state_kept d) (length d.states) e s l)).command
 
   design_below : PlacedBelow 3072 (design_structure d)
@@ -130,12 +130,9 @@ zero_below : (w : Bool) → FoundBelow 3072 (at_zero_unless w)
 zero_below true = found_nowhere 3072
 zero_below false = found_at 3072 0 (omega arith)
 
-kept_when : (w : Bool) → at_zero_unless w ≡ Nowhere → w ≡ true
+kept_when : (w : Bool) → at_zero_unless w ≡ None → w ≡ true
 kept_when true e = refl
-kept_when false e = absurd (found_nowhere_at e)
-  where
-    found_nowhere_at : At 0 ≡ Nowhere → ⊥
-    found_nowhere_at e = let z : ◌≡◌ {A = ℕ} 0 1 = cc in omega arith
+kept_when false e = absurd (at_is_not_nowhere 0 e)
 
 structure_below : (image : List ℕ) → PlacedBelow 3072 (structure image)
 unfolding structure

@@ -1,5 +1,5 @@
 -- After a reset the areas hold the reset values, which are within their widths, the default targets, which are sound, and no bindings.
-use Prim.Native.Nat.{ℕ, ◌*◌, ◌≤◌}
+use Prim.Native.Nat.{ℕ, ◌*◌}
 use mathlib.Core.Path.{◌≡◌, ◌∙◌, ap}
 use mathlib.Core.List.{List}
 use native.Mathlib.Omega.{arith}
@@ -18,10 +18,9 @@ use Rattle.model.proofs.Exact.Records.{state_iff}
 use Rattle.design.specs.declared.Design.{Design}
 use Rattle.design.specs.Describes.{Describes}
 use Rattle.design.specs.Kept.{StatesKept}
-use Rattle.design.specs.Resets.{with_defaults, lends}
+use Rattle.design.specs.Resets.{Defaults, lends}
 use Rattle.design.specs.Scopes.{Scopes}
 use Rattle.design.proofs.Laws.{registers_count, states_count}
-use Rattle.design.proofs.ResetRules.{defaults_of}
 use Rattle.machine.specs.Cycles.{Running, areas_in}
 use Rattle.checker.proofs.Accepted.{accepted_known}
 use Rattle.listing.specs.Lines.{RunningAt}
@@ -66,12 +65,12 @@ module _ (image : List ℕ) (keeps : Keeps image) (registers targets : List ℕ)
       let count = states_count describes in
       omega arith
 
-  start_running : {x : Design} {table in_scope : List ℕ} (old : List ℕ) → Describes image x → table ≡ with_defaults (design_of image) old → Scopes (design_of image) in_scope → x.states ≤ length old → Running image x table in_scope registers targets
-  start_running old describes e scopes room =
+  start_running : {x : Design} {table in_scope : List ℕ} → Describes image x → Defaults (design_of image) table → Scopes (design_of image) in_scope → Running image x table in_scope registers targets
+  start_running describes defaults scopes =
       record {
         known = accepted_known keeps describes;
         keeps = keeps;
-        defaults = defaults_of old describes room e;
+        defaults = defaults;
         scopes = scopes;
         area = area_long describes;
         states = targets_long describes;
@@ -80,6 +79,6 @@ module _ (image : List ℕ) (keeps : Keeps image) (registers targets : List ℕ)
         bound = start_good.bound;
       }
 
-  pub start_at : {x : Design} {table in_scope : List ℕ} (old : List ℕ) → Describes image x → table ≡ with_defaults (design_of image) old → Scopes (design_of image) in_scope → x.states ≤ length old → RunningAt image x table in_scope registers targets 0
+  pub start_at : {x : Design} {table in_scope : List ℕ} → Describes image x → Defaults (design_of image) table → Scopes (design_of image) in_scope → RunningAt image x table in_scope registers targets 0
   unfolding after_cycles cycles after_last
-  start_at old describes e scopes room = record { areas = start_areas_lem; running = start_running old describes e scopes room }
+  start_at describes defaults scopes = record { areas = start_areas_lem; running = start_running describes defaults scopes }

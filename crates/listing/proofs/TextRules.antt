@@ -4,8 +4,9 @@ use mathlib.Core.Path.{◌≡◌, refl, sym, ◌∙◌, ap}
 use mathlib.Core.List.{List, [], ◌∷◌, ◌++◌, append_assoc}
 use native.Mathlib.Omega.{arith}
 use native.Mathlib.Numerals.{add-one}
-use lib.ListN.{length, get_or, set, take, drop, length-append, length-set, drop_of_length-le}
-use lib.Seq.{drop-cons, sets, sets-eq, take_all, take-append_seam}
+use lib.ListN.{length, get_or, set, take, drop, length-append}
+use lib.Seq.{drop-drop, length-take-le, sets, sets-eq, take_all, take-append_seam}
+use borrow.Rule.Slice.PartMut.{put_mid}
 use Rattle.model.specs.Image.{word32_at}
 use Rattle.model.specs.Values.{words_of}
 use Rattle.model.specs.Listing.{decimal, spaced}
@@ -47,43 +48,16 @@ put_then {out} {between} {after} {a} {b} {at} {p} {r} first second =
       behind = omega arith;
     }
 
--- ---- a byte, and a text byte by byte
+-- ---- a byte, and a text at once
 pub put_one : {out : List ℕ} {at b : ℕ} → Put out at (b ∷ []) (set out at b) (at + 1)
 unfolding written
 put_one = record { bytes = refl; behind = refl }
 
--- the bytes of a text from i on are left to be put
-pub record TextSo (text out₀ : List ℕ) (at i : ℕ) (out : List ℕ) : Type 0 where
-  pub rest : written out (at + i) (drop i text) ≡ written out₀ at text
-  pub most : i ≤ length text
-  pub room : at + length text ≤ length out₀
-  pub long : length out ≡ length out₀
-
-pub text_begins : {text out : List ℕ} {at : ℕ} → at + length text ≤ length out → TextSo text out at 0 out
-text_begins {text} {out} {at} room = record { rest = ap (λ (n : ℕ). written out n text) (omega arith); most = omega arith; room = room; long = refl }
-
-module _ {text out₀ out : List ℕ} {at i : ℕ} (so : TextSo text out₀ at i out) where
-  pub text_inside : i < length text → at + i < length out
-  text_inside l = let room = so.room in let long = so.long in omega arith
-
-  pub text_more : {b : ℕ} → i < length text → b ≡ get_or text i 0 → TextSo text out₀ at (i + 1) (set out (at + i) b)
-  unfolding written
-  text_more {b} l e =
-      let next : drop i text ≡ b ∷ drop (i + 1) text = rw (add-one, drop-cons text i 0, e) in
-      let same : at + i + 1 ≡ at + (i + 1) = omega arith in
-      record {
-        rest = ap (λ (n : ℕ). written (set out (at + i) b) n (drop (i + 1) text)) (sym same) ∙ ap (written out (at + i)) (sym next) ∙ so.rest;
-        most = omega arith;
-        room = so.room;
-        long = length-set out (at + i) b ∙ so.long;
-      }
-
-  pub text_done : length text ≤ i → Put out₀ at text out (at + i)
-  unfolding written
-  text_done l =
-      let most = so.most in
-      let all : i ≡ length text = omega arith in
-      record { bytes = rw (drop_of_length-le text l) at so.rest; behind = ap (λ (n : ℕ). at + n) all }
+-- a text copied over the bytes that it replaces
+pub put_copied : {out text part : List ℕ} {at k : ℕ} → at + length text ≤ length out → k ≡ length text → part ≡ text → Put out at text (put_mid at k out part) (at + length text)
+put_copied {out} {text} {part} {at} {k} room long same =
+    let parts = written_parts text out at room ∙ append_assoc (take at out) text (drop (at + length text) out) in
+    record { bytes = rw (same, long, drop-drop (length text) at out) (sym parts); behind = refl }
 
 -- ---- the items of a field
 pub first_item : {out after : List ℕ} {at r : ℕ} (i n : ℕ) → i ≡ 0 → Put out at (decimal n) after r → Put out at (parted i n) after r
@@ -116,34 +90,23 @@ unfolding written spaced
 field_begins items = record { put = record { bytes = refl; behind = omega arith }; most = omega arith; long = refl }
 
 module _ {items out₀ out : List ℕ} {at i p : ℕ} (so : FieldSo items out₀ at i out p) where
-  pub field_room : {count : ℕ} → i < count → at + 11 * count ≤ length out₀ → p + 11 ≤ length out
-  field_room l room = let most = so.most in let long = so.long in omega arith
-
   pub field_short : {count : ℕ} → i ≤ count → p ≤ at + 11 * count
   field_short l = let most = so.most in omega arith
 
-  field_more : {after : List ℕ} {v q : ℕ} → i < length items → v ≡ get_or items i 0 → Put out p (parted i v) after q → q ≤ p + 11 → length after ≡ length out → FieldSo items out₀ at (i + 1) after q
+  pub field_more : {after : List ℕ} {v q : ℕ} → i < length items → v ≡ get_or items i 0 → Put out p (parted i v) after q → q ≤ p + 11 → length after ≡ length out → FieldSo items out₀ at (i + 1) after q
   field_more {after} {v} {q} l e put few same =
       let most = so.most in
       let one : spaced (take (i + 1) items) ≡ spaced (take i items) ++ parted i v = rw (add-one, e) (spaced_more items i l) in
       record { put = rw one (put_then so.put put); most = omega arith; long = same ∙ so.long }
 
-  field_all : (count : ℕ) → i ≤ count → count ≤ i → Put out₀ at (spaced (take count items)) out p
-  field_all count l h = let all : count ≡ i = omega arith in rw all so.put
+  pub field_done : length items ≤ i → Put out₀ at (spaced items) out p
+  field_done l = rw (take_all i items l) at so.put
 
 -- the states of a walk
-pub walk_more : {walk out₀ out after : List ℕ} {at i p v q count : ℕ} → i < count → FieldSo walk out₀ at i out p → count ≤ length walk → v ≡ get_or walk i 0 → Put out p (parted i v) after q → q ≤ p + 11
-    → length after ≡ length out
-    → FieldSo walk out₀ at (i + 1) after q
-walk_more l so h e put few same = field_more so (omega arith) e put few same
-
-pub walk_done : {walk out₀ out : List ℕ} {at i p : ℕ} (count : ℕ) → FieldSo walk out₀ at i out p → i ≤ count → count ≤ i → Put out₀ at (spaced (take count walk)) out p
-walk_done count so l h = field_all so count l h
+pub walk_inside : {i count : ℕ} (walk : List ℕ) → i < length (take count walk) → count ≤ length walk → i + 1 ≤ count
+walk_inside {count = count} walk l h = let long = length-take-le count walk h in omega arith
 
 -- the values of registers
-pub register_inside : {i count : ℕ} (registers : List ℕ) → i < count → length registers ≡ 4 * count → 4 * i + 4 ≤ length registers
-register_inside registers l e = omega arith
-
 pub registers_more : {out₀ out after : List ℕ} {at i p v q count : ℕ} (registers : List ℕ) → i < count → FieldSo (words_of count registers) out₀ at i out p → length registers ≡ 4 * count → v ≡ word32_at registers (4 * i)
     → Put out p (parted i v) after q
     → q ≤ p + 11
@@ -153,7 +116,5 @@ registers_more {count = count} registers l so h e put few same =
     let long = length-words_of count registers in
     field_more so (omega arith) (e ∙ sym (words_at registers l h)) put few same
 
-pub registers_done : {out₀ out : List ℕ} {at i p : ℕ} (registers : List ℕ) (count : ℕ) → FieldSo (words_of count registers) out₀ at i out p → i ≤ count → count ≤ i → Put out₀ at (spaced (words_of count registers)) out p
-registers_done registers count so l h =
-    let long = length-words_of count registers in
-    rw (← take_all count (words_of count registers) (omega arith)) (field_all so count l h)
+pub registers_done : {out₀ out : List ℕ} {at i p : ℕ} (registers : List ℕ) (count : ℕ) → FieldSo (words_of count registers) out₀ at i out p → count ≤ i → Put out₀ at (spaced (words_of count registers)) out p
+registers_done registers count so h = let long = length-words_of count registers in field_done so (omega arith)

@@ -4,6 +4,8 @@ use Rattle.model.specs.Image.{Design as Table, design_of}
 use Rattle.model.specs.Machine.{Cycle, reset_areas, cycle, after_cycles}
 use Rattle.model.specs.Listing.{line}
 use Rattle.design.specs.declared.Design.{Design}
+use Rattle.design.specs.declared.image.Image.{Image}
+use Rattle.machine.specs.declared.tables.Tables.{Tables}
 use Rattle.machine.specs.Cycles.{Running, areas_in}
 
 -- the line behind those of so many cycles from reset
@@ -18,3 +20,7 @@ shown walk values = record { after = record { registers = values; targets = []; 
 pub record RunningAt (image : List ℕ) (x : Design) (table in_scope registers targets : List ℕ) (done : ℕ) : Type 0 where
   pub areas : areas_in (design_of image) registers targets ≡ after_cycles (design_of image) done (reset_areas (design_of image))
   pub running : Running image x table in_scope registers targets
+
+-- the same, of an `Image` and the tables of a run
+abbrev pub RunningAtIn : Image → Tables → List ℕ → List ℕ → ℕ → Type 0
+RunningAtIn image tables registers targets done = RunningAt image.bytes.now image.design tables.defaults tables.scopes registers targets done

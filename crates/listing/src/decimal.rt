@@ -24,9 +24,7 @@ pub fn put_decimal(out: &mut [u8], at: usize, n: u32) -> usize
 {
     let count = digits(n);
     let mut rest = n;
-    let mut k = count;
-    while 0 < k {
-        k -= 1;
+    for k in (0..count).rev() {
         out[at + k] = (48 + rest % 10) as u8;
         rest = rest / 10;
     }

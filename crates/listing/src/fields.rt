@@ -7,7 +7,7 @@ ghost use Rattle.listing.specs.Texts.{Put, parted};
 
 use crate::decimal::put_decimal;
 use crate::texts::put_byte;
-use design::words::{wide, word};
+use design::words::word;
 
 // Puts item i of a field.
 fn put_item(out: &mut [u8], at: usize, i: usize, n: u32) -> usize
@@ -29,11 +29,8 @@ fn put_walk(out: &mut [u8], at: usize, walk: &[u8], count: usize) -> usize
     ensures upper_bound { result ≤ at + 11 * count }
 {
     let mut p = at;
-    let mut i = 0;
-    while i < count {
-        let n = wide(walk[i]);
-        p = put_item(out, p, i, n);
-        i += 1;
+    for (i, &state) in walk[..count].iter().enumerate() {
+        p = put_item(out, p, i, u32::from(state));
     }
     p
 }
@@ -45,11 +42,9 @@ fn put_registers(out: &mut [u8], at: usize, registers: &[u8], count: usize) -> u
     ensures upper_bound { result ≤ at + 11 * count }
 {
     let mut p = at;
-    let mut i = 0;
-    while i < count {
+    for i in 0..count {
         let n = word(registers, i);
         p = put_item(out, p, i, n);
-        i += 1;
     }
     p
 }

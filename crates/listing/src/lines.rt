@@ -1,17 +1,18 @@
 // The lines, from the front of a lent buffer: each function answers the length of its line.
 ghost use Rattle.std.specs.Prelude.{◌+◌, ◌*◌, ◌<◌, ◌≤◌, ◌≡◌, length, take};
+ghost use Rattle.design.specs.Images.{design_in};
 ghost use Rattle.model.specs.Limits.{word_length, states_max, registers_max};
-ghost use Rattle.model.specs.Image.{design_of};
 ghost use Rattle.model.specs.Values.{words_of};
 ghost use Rattle.model.specs.Listing.{header as header_of, line as line_of, refusal_line as refusal_line_of};
 ghost use Rattle.listing.specs.Texts.{Put};
-ghost use Rattle.listing.specs.Lines.{cycle_line, shown, RunningAt};
+ghost use Rattle.listing.specs.Lines.{cycle_line, shown, RunningAtIn};
 
 use crate::fields::{number_field, registers_field, walk_field};
 use crate::texts::put_text;
-use calls::numbers::number;
 use design::Design;
+use design::image::Image;
 use machine::cycle::cycle;
+use machine::tables::Tables;
 use model::Refusal;
 
 // The line above the cycles.
@@ -29,9 +30,8 @@ pub fn refusal_line(out: &mut [u8], refusal: Refusal, place: u32) -> usize
     ensures put { Put out.old 0 (refusal_line_of refusal place) out.new result }
     ensures upper_bound { result ≤ 30 }
 {
-    let n = number(refusal);
     let name = put_text(out, 0, b"refused;");
-    let first = number_field(out, name, n, b';');
+    let first = number_field(out, name, u32::from(refusal), b';');
     number_field(out, first, place, b'\n')
 }
 
@@ -56,23 +56,26 @@ fn line(
 
 // Runs the cycle behind those done from reset, and puts its line.
 pub fn next_line(
-    image: &[u8],
-    design: Design,
-    defaults: &[u8],
-    scopes: &[u8],
+    image: &Image,
+    tables: &Tables,
     registers: &mut [u8],
     targets: &mut [u8],
     done: u32,
     out: &mut [u8],
 ) -> usize
-    requires { (1421 ≤ length out.old) × (done + 1 < 4294967296) × RunningAt image.now design defaults.now scopes.now registers.old targets.old done }
-    ensures put { Put out.old 0 (cycle_line (design_of image.now) done) out.new result }
-    ensures running_at { RunningAt image.now design defaults.now scopes.now registers.new targets.new (done + 1) }
+    requires { (1421 ≤ length out.old) × (done + 1 < 4294967296) × RunningAtIn image.now tables.now registers.old targets.old done }
+    ensures put { Put out.old 0 (cycle_line (design_in image.now) done) out.new result }
+    ensures running_at { RunningAtIn image.now tables.now registers.new targets.new (done + 1) }
     ensures upper_bound { result ≤ 1421 }
 {
     let mut walk = [0u8; Design::STATES];
-    let states = cycle(
-        image, design, defaults, scopes, registers, targets, &mut walk,
-    );
-    line(out, done + 1, &walk, states, registers, design.registers)
+    let states = cycle(image, tables, registers, targets, &mut walk);
+    line(
+        out,
+        done + 1,
+        &walk,
+        states,
+        registers,
+        image.design.registers,
+    )
 }

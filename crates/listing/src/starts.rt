@@ -1,34 +1,26 @@
 // What the first cycle of a listing starts from.
-ghost use Rattle.std.specs.Prelude.{◌*◌, ◌≤◌, ◌≡◌, length};
-ghost use Rattle.model.specs.Limits.{word_length, target_length};
-ghost use Rattle.model.specs.Image.{design_of};
+ghost use Rattle.std.specs.Prelude.{◌*◌, ◌≡◌, length, replicate};
+ghost use Rattle.model.specs.Limits.{word_length, target_length, states_max};
 ghost use Rattle.model.specs.Rules.{Keeps};
 ghost use Rattle.model.specs.Machine.{reset_areas};
 ghost use Rattle.model.specs.Calls.{lent_of};
-ghost use Rattle.design.specs.Describes.{Describes};
+ghost use Rattle.design.specs.Images.{design_in};
 ghost use Rattle.design.specs.Resets.{with_defaults, lends};
 ghost use Rattle.design.specs.Scopes.{scope_length, with_scopes};
-ghost use Rattle.listing.specs.Lines.{RunningAt};
+ghost use Rattle.listing.specs.Lines.{RunningAtIn};
 
 use design::Design;
-use design::reset::default_targets;
+use design::image::Image;
+use machine::tables::Tables;
 
-// Writes the tables of default targets and of what is in scope of each state, and resets the areas.
-pub fn start(
-    image: &[u8],
-    design: Design,
-    defaults: &mut [u8],
-    scopes: &mut [u8],
-    registers: &mut [u8],
-    targets: &mut [u8],
-)
-    requires { Keeps image.now × Describes image.now design × (design.states ≤ length defaults.old) × (scope_length * design.states ≤ length scopes.old) × (length registers.old ≡ word_length * design.registers) × (length targets.old ≡ target_length * design.states) }
-    ensures { (defaults.new ≡ with_defaults (design_of image.now) defaults.old)
-        × (scopes.new ≡ with_scopes (design_of image.now) design.states scopes.old)
-        × (lends registers.new targets.new ≡ lent_of (reset_areas (design_of image.now)))
-        × RunningAt image.now design defaults.new scopes.new registers.new targets.new 0 }
+// The tables of a run, and the areas reset.
+pub fn start(image: &Image, registers: &mut [u8], targets: &mut [u8]) -> Tables
+    requires { Keeps image.now.bytes.now × (length registers.old ≡ word_length * image.now.design.registers) × (length targets.old ≡ target_length * image.now.design.states) }
+    ensures { (result.defaults ≡ with_defaults (design_in image.now) (replicate states_max 0))
+        × (result.scopes ≡ with_scopes (design_in image.now) (length (design_in image.now).states) (replicate (scope_length * states_max) 0))
+        × (lends registers.new targets.new ≡ lent_of (reset_areas (design_in image.now)))
+        × RunningAtIn image.now result registers.new targets.new 0 }
 {
-    default_targets(image, design, defaults);
-    design::scopes::scopes(image, design, scopes);
-    design.reset(image, registers, targets);
+    Design::reset(image, registers, targets);
+    Tables::of(image)
 }

@@ -20,7 +20,7 @@ pub slice_bounds-list_on-end-2 : goal.slice_bounds-list_on-end-2
 slice_bounds-list_on-end-2 c = part_length _ _ (search (targets_fit, rules))
 
 pub list_on-requires : goal.list_on-requires
-list_on-requires c = (search rules, length-take-le _ _ (search (registers_fit, rules)), length-take-le _ _ (search (targets_fit, rules)), search rules, search rules)
+list_on-requires c = (search rules, length-take-le _ _ (search (registers_fit, rules)), length-take-le _ _ (search (targets_fit, rules)), rw c.read-image.ensures (search rules))
 
 pub returns : goal.returns
 returns c = search (ran_handed, rules)

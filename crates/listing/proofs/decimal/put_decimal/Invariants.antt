@@ -3,6 +3,3 @@ use Rattle.listing.proofs.decimal.put_decimal.Given as goal
 
 abbrev pub invariant-loop-k : goal.invariant-loop-k
 invariant-loop-k l = DecimalSo l.n l.initial.out l.at l.out l.rest l.k
-
-abbrev pub decreases-loop-k : goal.decreases-loop-k
-decreases-loop-k l = l.k

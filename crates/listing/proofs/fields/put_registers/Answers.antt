@@ -1,15 +1,9 @@
-use Rattle.listing.proofs.TextRules.{field_begins, field_room, field_short, register_inside, registers_more, registers_done}
+use Rattle.listing.proofs.TextRules.{field_begins, field_short, registers_more, registers_done}
 use borrow.Author.Rules.{rules}
 use Rattle.listing.proofs.fields.put_registers.Goals as goal
 
 pub loop-i-init : goal.loop-i-init
 loop-i-init c = search (field_begins, rules)
-
-pub word-n-requires : goal.word-n-requires
-word-n-requires c = search (register_inside, rules)
-
-pub put_item-p-requires : goal.put_item-p-requires
-put_item-p-requires c = search (field_room, rules)
 
 pub loop-i-preserved : goal.loop-i-preserved
 loop-i-preserved c = search (registers_more, rules)

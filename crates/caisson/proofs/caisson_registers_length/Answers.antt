@@ -1,6 +1,0 @@
-use Rattle.caisson.proofs.Answered.{same_answer}
-use borrow.Author.Rules.{rules}
-use Rattle.caisson.proofs.caisson_registers_length.Goals as goal
-
-pub returns : goal.returns
-returns c = search (same_answer, rules)

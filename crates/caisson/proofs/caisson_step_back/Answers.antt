@@ -1,6 +1,0 @@
-use Rattle.caisson.proofs.Answered.{left_told}
-use borrow.Author.Rules.{rules}
-use Rattle.caisson.proofs.caisson_step_back.Goals as goal
-
-pub returns : goal.returns
-returns c = search (left_told, rules)

@@ -1,9 +1,0 @@
-use Rattle.cases.proofs.Buffers.{table_fits, part_length}
-use borrow.Author.Rules.{rules}
-use Rattle.cases.proofs.gate_records.new_table.Goals as goal
-
-pub slice_bounds-check-end-2 : goal.slice_bounds-check-end-2
-slice_bounds-check-end-2 c = part_length _ _ (search rules)
-
-pub next-requires : goal.next-requires
-next-requires c = search (table_fits, rules)
