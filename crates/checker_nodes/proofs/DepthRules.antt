@@ -37,6 +37,9 @@ pub filled_end : {f : ℕ → ℕ} {old now : List ℕ} {i m n : ℕ} → Filled
 filled_end so l h e = rw (← e) (filled_to_lem so l h)
 
 -- filling leaves a table as long as it was
+pub filled_long : {f : ℕ → ℕ} {old now : List ℕ} {i : ℕ} → Filled f old i now → length now ≡ length old
+filled_long so = so.long
+
 filled_keeps : {f : ℕ → ℕ} {old now : List ℕ} {i n : ℕ} → Filled f old i now → n ≤ length old → n ≤ length now
 filled_keeps so l = let same = so.long in omega arith
 

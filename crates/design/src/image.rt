@@ -4,7 +4,7 @@ ghost use Rattle.model.specs.Rules.{DirectoryKeeps};
 ghost use Rattle.design.specs.Records.{row_in, register_in, state_in, node_in, constant_in};
 ghost use Rattle.design.specs.Describes.{Describes};
 
-use crate::{Design, word16, word32};
+use crate::Design;
 
 #[derive(Clone, Copy)]
 pub struct Image<'a> {
@@ -28,10 +28,7 @@ impl Image<'_> {
         requires { i < self.now.design.labels }
         ensures { (result ≡ row_in self.now.bytes.now i) × (result < 65536) }
     {
-        word16(
-            self.bytes,
-            Design::DIRECTORY_LENGTH + Design::LABEL_LENGTH * i,
-        )
+        Design::row(self.bytes, i)
     }
 
     // The fields of register r.
@@ -39,31 +36,28 @@ impl Image<'_> {
         requires { r < self.now.design.registers }
         ensures { (result ≡ (register_in self.now.bytes.now self.now.design.registers_at r).label) × (result < 256) }
     {
-        usize::from(self.bytes[self.design.registers_at + Design::REGISTER_LENGTH * r])
+        Design::register_label(self.bytes, self.design.registers_at, r)
     }
 
     pub fn register_kind(&self, r: usize) -> usize
         requires { r < self.now.design.registers }
         ensures { (result ≡ (register_in self.now.bytes.now self.now.design.registers_at r).kind) × (result < 256) }
     {
-        usize::from(self.bytes[self.design.registers_at + Design::REGISTER_LENGTH * r + 1])
+        Design::register_kind(self.bytes, self.design.registers_at, r)
     }
 
     pub fn register_reset(&self, r: usize) -> u32
         requires { r < self.now.design.registers }
         ensures { result ≡ (register_in self.now.bytes.now self.now.design.registers_at r).reset }
     {
-        word32(
-            self.bytes,
-            self.design.registers_at + Design::REGISTER_LENGTH * r + 2,
-        )
+        Design::register_reset(self.bytes, self.design.registers_at, r)
     }
 
     pub fn register_width(&self, r: usize) -> usize
         requires { r < self.now.design.registers }
         ensures { (result ≡ (register_in self.now.bytes.now self.now.design.registers_at r).width) × (result < 256) }
     {
-        usize::from(self.bytes[self.design.registers_at + Design::REGISTER_LENGTH * r + 6])
+        Design::register_width(self.bytes, self.design.registers_at, r)
     }
 
     // The fields of state s.
@@ -71,59 +65,56 @@ impl Image<'_> {
         requires { s < self.now.design.states }
         ensures { (result ≡ (state_in self.now.bytes.now self.now.design.states_at s).parent) × (result < 256) }
     {
-        usize::from(self.bytes[self.design.states_at + Design::STATE_LENGTH * s])
+        Design::parent(self.bytes, self.design.states_at, s)
     }
 
     pub fn state_label(&self, s: usize) -> usize
         requires { s < self.now.design.states }
         ensures { (result ≡ (state_in self.now.bytes.now self.now.design.states_at s).label) × (result < 256) }
     {
-        usize::from(self.bytes[self.design.states_at + Design::STATE_LENGTH * s + 1])
+        Design::state_label(self.bytes, self.design.states_at, s)
     }
 
     pub fn state_command(&self, s: usize) -> usize
         requires { s < self.now.design.states }
         ensures { (result ≡ (state_in self.now.bytes.now self.now.design.states_at s).command) × (result < 65536) }
     {
-        word16(
-            self.bytes,
-            self.design.states_at + Design::STATE_LENGTH * s + 2,
-        )
+        Design::state_command(self.bytes, self.design.states_at, s)
     }
 
     pub fn parameters(&self, s: usize) -> usize
         requires { s < self.now.design.states }
         ensures { (result ≡ (state_in self.now.bytes.now self.now.design.states_at s).parameters) × (result < 256) }
     {
-        usize::from(self.bytes[self.design.states_at + Design::STATE_LENGTH * s + 4])
+        Design::parameters(self.bytes, self.design.states_at, s)
     }
 
     pub fn first_lower(&self, s: usize) -> usize
         requires { s < self.now.design.states }
         ensures { (result ≡ (state_in self.now.bytes.now self.now.design.states_at s).first_lower) × (result < 256) }
     {
-        usize::from(self.bytes[self.design.states_at + Design::STATE_LENGTH * s + 5])
+        Design::first_lower(self.bytes, self.design.states_at, s)
     }
 
     pub fn first_upper(&self, s: usize) -> usize
         requires { s < self.now.design.states }
         ensures { (result ≡ (state_in self.now.bytes.now self.now.design.states_at s).first_upper) × (result < 256) }
     {
-        usize::from(self.bytes[self.design.states_at + Design::STATE_LENGTH * s + 6])
+        Design::first_upper(self.bytes, self.design.states_at, s)
     }
 
     pub fn second_lower(&self, s: usize) -> usize
         requires { s < self.now.design.states }
         ensures { (result ≡ (state_in self.now.bytes.now self.now.design.states_at s).second_lower) × (result < 256) }
     {
-        usize::from(self.bytes[self.design.states_at + Design::STATE_LENGTH * s + 7])
+        Design::second_lower(self.bytes, self.design.states_at, s)
     }
 
     pub fn second_upper(&self, s: usize) -> usize
         requires { s < self.now.design.states }
         ensures { (result ≡ (state_in self.now.bytes.now self.now.design.states_at s).second_upper) × (result < 256) }
     {
-        usize::from(self.bytes[self.design.states_at + Design::STATE_LENGTH * s + 8])
+        Design::second_upper(self.bytes, self.design.states_at, s)
     }
 
     // The fields of command n.

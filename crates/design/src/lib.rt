@@ -177,12 +177,106 @@ impl Design {
         ensures target_length { Design.TARGET_LENGTH ≡ target_length }
     {}
 
+    // The row of label i.
+    pub fn row(image: &[u8], i: usize) -> usize
+        requires { row_end i ≤ length image.now }
+        ensures { (result ≡ row_in image.now i) × (result < 65536) }
+    {
+        word16(image, Self::DIRECTORY_LENGTH + Self::LABEL_LENGTH * i)
+    }
+
+    // The fields of register r, where the registers begin at a place.
+    pub fn register_label(image: &[u8], at: usize, r: usize) -> usize
+        requires { register_end at r ≤ length image.now }
+        ensures { (result ≡ (register_in image.now at r).label) × (result < 256) }
+    {
+        usize::from(image[at + Self::REGISTER_LENGTH * r])
+    }
+
     // Another label for register r.
     pub fn put_register_label(image: &mut [u8], at: usize, r: usize, label: u8)
         requires { register_end at r ≤ length image.old }
         ensures { image.new ≡ set image.old (at + register_length * r) label }
     {
         image[at + Self::REGISTER_LENGTH * r] = label;
+    }
+
+    pub fn register_kind(image: &[u8], at: usize, r: usize) -> usize
+        requires { register_end at r ≤ length image.now }
+        ensures { (result ≡ (register_in image.now at r).kind) × (result < 256) }
+    {
+        usize::from(image[at + Self::REGISTER_LENGTH * r + 1])
+    }
+
+    pub fn register_reset(image: &[u8], at: usize, r: usize) -> u32
+        requires { register_end at r ≤ length image.now }
+        ensures { result ≡ (register_in image.now at r).reset }
+    {
+        word32(image, at + Self::REGISTER_LENGTH * r + 2)
+    }
+
+    pub fn register_width(image: &[u8], at: usize, r: usize) -> usize
+        requires { register_end at r ≤ length image.now }
+        ensures { (result ≡ (register_in image.now at r).width) × (result < 256) }
+    {
+        usize::from(image[at + Self::REGISTER_LENGTH * r + 6])
+    }
+
+    // The fields of state s, where the states begin at a place.
+    pub fn parent(image: &[u8], at: usize, s: usize) -> usize
+        requires { state_end at s ≤ length image.now }
+        ensures { (result ≡ (state_in image.now at s).parent) × (result < 256) }
+    {
+        usize::from(image[at + Self::STATE_LENGTH * s])
+    }
+
+    pub fn state_label(image: &[u8], at: usize, s: usize) -> usize
+        requires { state_end at s ≤ length image.now }
+        ensures { (result ≡ (state_in image.now at s).label) × (result < 256) }
+    {
+        usize::from(image[at + Self::STATE_LENGTH * s + 1])
+    }
+
+    pub fn state_command(image: &[u8], at: usize, s: usize) -> usize
+        requires { state_end at s ≤ length image.now }
+        ensures { (result ≡ (state_in image.now at s).command) × (result < 65536) }
+    {
+        word16(image, at + Self::STATE_LENGTH * s + 2)
+    }
+
+    pub fn parameters(image: &[u8], at: usize, s: usize) -> usize
+        requires { state_end at s ≤ length image.now }
+        ensures { (result ≡ (state_in image.now at s).parameters) × (result < 256) }
+    {
+        usize::from(image[at + Self::STATE_LENGTH * s + 4])
+    }
+
+    pub fn first_lower(image: &[u8], at: usize, s: usize) -> usize
+        requires { state_end at s ≤ length image.now }
+        ensures { (result ≡ (state_in image.now at s).first_lower) × (result < 256) }
+    {
+        usize::from(image[at + Self::STATE_LENGTH * s + 5])
+    }
+
+    pub fn first_upper(image: &[u8], at: usize, s: usize) -> usize
+        requires { state_end at s ≤ length image.now }
+        ensures { (result ≡ (state_in image.now at s).first_upper) × (result < 256) }
+    {
+        usize::from(image[at + Self::STATE_LENGTH * s + 6])
+    }
+
+    pub fn second_lower(image: &[u8], at: usize, s: usize) -> usize
+        requires { state_end at s ≤ length image.now }
+        ensures { (result ≡ (state_in image.now at s).second_lower) × (result < 256) }
+    {
+        usize::from(image[at + Self::STATE_LENGTH * s + 7])
+    }
+
+    pub fn second_upper(image: &[u8], at: usize, s: usize) -> usize
+        requires { state_end at s ≤ length image.now }
+        ensures { (result ≡ (state_in image.now at s).second_upper) × (result < 256) }
+    {
+        usize::from(image[at + Self::STATE_LENGTH * s + 8])
     }
 
     // The fields of node n, where the nodes of its family begin at a place.

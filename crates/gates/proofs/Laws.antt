@@ -13,6 +13,7 @@ use Rattle.gates_model.specs.Tables.{Section, Inputs, FlipFlops, Gates as GateSe
 use Rattle.gates_model.proofs.Exact.{directory_iff}
 use Rattle.gates_model.proofs.Laws.Tables.{mark_is, flipflop_is, gate_is, input_count, flipflop_count, gate_count}
 use Rattle.gates.specs.declared.Gates.{Gates}
+use Rattle.gates.specs.Records.{mark_in, flip_flop_in, gate_in, input_end, flip_flop_end, gate_end}
 use Rattle.gates.specs.Describes.{Describes}
 
 -- a table too short for a directory has none that is kept
@@ -76,11 +77,21 @@ module _ {table : List ℕ} {x : Gates} (d : Describes table x) where
   pub gates_most : x.gates ≤ gates_max
   gates_most = omega (arith, d.gates, d.directory.gates)
 
-  -- ---- records where they stand
-  pub mark_in : {i : ℕ} → i < x.inputs → byte_at table (12 + 1 * i) ≡ mark_at (table_of table) i
-  mark_in {i} l =
+  -- ---- records stand inside the table
+  pub input_inside : {i : ℕ} → i < x.inputs → input_end i ≤ length table
+  input_inside l = omega (arith, d, d.directory, d.directory.inputs)
+
+  pub flipflop_inside : {i : ℕ} → i < x.flipflops → flip_flop_end x.flipflops_at i ≤ length table
+  flipflop_inside l = omega (arith, d, d.directory, d.directory.flipflops)
+
+  pub gate_inside : {g : ℕ} → g < x.gates → gate_end x.gates_at g ≤ length table
+  gate_inside l = omega (arith, d, d.directory, d.directory.gates)
+
+  -- ---- where they stand
+  pub mark_in_lem : {i m : ℕ} → i < x.inputs → m ≡ mark_in table i → m ≡ mark_at (table_of table) i
+  mark_in_lem {i} {m} l e =
       let inside : i < size table Inputs / 1 = omega (arith, d.inputs) in
-      ap (λ (k : ℕ). byte_at table (k + 1 * i)) (sym d.directory.inputs_at) ∙ sym (mark_is table i inside)
+      e ∙ ap (λ (k : ℕ). byte_at table (k + 1 * i)) (sym d.directory.inputs_at) ∙ sym (mark_is table i inside)
 
   module _ {i : ℕ} (l : i < x.flipflops) where
     at_flipflop : {A : Type 0} (f : ℕ → A) → f (x.flipflops_at + 4 * i) ≡ f (offset table FlipFlops + 4 * i)
@@ -89,14 +100,14 @@ module _ {table : List ℕ} {x : Gates} (d : Describes table x) where
     flipflop_below : i < size table FlipFlops / 4
     flipflop_below = omega (arith, d.flipflops)
 
-    pub next_in : {n : ℕ} → n ≡ word16_at table (x.flipflops_at + 4 * i) → n ≡ (flip_flop_at (table_of table) i).next
+    pub next_in : {n : ℕ} → n ≡ (flip_flop_in table x.flipflops_at i).next → n ≡ (flip_flop_at (table_of table) i).next
     next_in e = e ∙ at_flipflop (word16_at table) ∙ sym (flipflop_is table i flipflop_below).next
 
-    pub value_in : byte_at table (x.flipflops_at + 4 * i + 2) ≡ (flip_flop_at (table_of table) i).value
-    value_in = at_flipflop (λ k. byte_at table (k + 2)) ∙ sym (flipflop_is table i flipflop_below).value
+    pub value_in : {v : ℕ} → v ≡ (flip_flop_in table x.flipflops_at i).value → v ≡ (flip_flop_at (table_of table) i).value
+    value_in e = e ∙ at_flipflop (λ k. byte_at table (k + 2)) ∙ sym (flipflop_is table i flipflop_below).value
 
-    pub start_mark_in : byte_at table (x.flipflops_at + 4 * i + 3) ≡ (flip_flop_at (table_of table) i).mark
-    start_mark_in = at_flipflop (λ k. byte_at table (k + 3)) ∙ sym (flipflop_is table i flipflop_below).mark
+    pub start_mark_in : {m : ℕ} → m ≡ (flip_flop_in table x.flipflops_at i).mark → m ≡ (flip_flop_at (table_of table) i).mark
+    start_mark_in e = e ∙ at_flipflop (λ k. byte_at table (k + 3)) ∙ sym (flipflop_is table i flipflop_below).mark
 
   module _ {g : ℕ} (l : g < x.gates) where
     at_gate : {A : Type 0} (f : ℕ → A) → f (x.gates_at + 4 * g) ≡ f (offset table GateSection + 4 * g)
@@ -105,8 +116,8 @@ module _ {table : List ℕ} {x : Gates} (d : Describes table x) where
     gate_below : g < size table GateSection / 4
     gate_below = omega (arith, d.gates)
 
-    pub first_in : {n : ℕ} → n ≡ word16_at table (x.gates_at + 4 * g) → n ≡ (gate_at (table_of table) g).first
+    pub first_in : {n : ℕ} → n ≡ (gate_in table x.gates_at g).first → n ≡ (gate_at (table_of table) g).first
     first_in e = e ∙ at_gate (word16_at table) ∙ sym (gate_is table g gate_below).first
 
-    pub second_in : {n : ℕ} → n ≡ word16_at table (x.gates_at + 4 * g + 2) → n ≡ (gate_at (table_of table) g).second
+    pub second_in : {n : ℕ} → n ≡ (gate_in table x.gates_at g).second → n ≡ (gate_at (table_of table) g).second
     second_in e = e ∙ at_gate (λ k. word16_at table (k + 2)) ∙ sym (gate_is table g gate_below).second

@@ -1,5 +1,5 @@
-// Gate tables in bytes: their limits and their directory. Only this file and `table`, which reads the
-// records, know where a byte of a table stands.
+// Gate tables in bytes: their limits, their directory, and one accessor for each field. No other
+// file of this crate knows where a byte of a table stands.
 #![tactic(auto)]
 
 mod areas;
@@ -15,6 +15,7 @@ ghost use Rattle.gates_model.specs.Limits.{directory_length, input_length, flip_
 ghost use Rattle.gates_model.specs.Tables.{size_kept, offsets_kept as offsets_kept_of, directory_kept as directory_kept_of};
 ghost use Rattle.gates_model.specs.Rules.{DirectoryKeeps};
 ghost use Rattle.gates_model.specs.Calls.{gates_check, gates_reset, gates_cycle};
+ghost use Rattle.gates.specs.Records.{mark_in, flip_flop_in, gate_in, input_end, flip_flop_end, gate_end};
 ghost use Rattle.gates.specs.Describes.{Describes};
 ghost use Rattle.model.specs.Calls.{left_as};
 
@@ -120,6 +121,51 @@ impl Gates {
         ensures largest { Gates.LARGEST ≡ largest_table }
         ensures signal_length { Gates.SIGNAL_LENGTH ≡ signal_length }
     {}
+
+    // The mark of input i.
+    pub fn mark(table: &[u8], i: usize) -> u8
+        requires { input_end i ≤ length table.now }
+        ensures { result ≡ mark_in table.now i }
+    {
+        table[Self::DIRECTORY_LENGTH + Self::INPUT_LENGTH * i]
+    }
+
+    // The fields of flip-flop i, where the flip-flops begin at a place.
+    pub fn next(table: &[u8], at: usize, i: usize) -> usize
+        requires { flip_flop_end at i ≤ length table.now }
+        ensures { (result ≡ (flip_flop_in table.now at i).next) × (result < 65536) }
+    {
+        word16(table, at + Self::FLIPFLOP_LENGTH * i)
+    }
+
+    pub fn start_value(table: &[u8], at: usize, i: usize) -> u8
+        requires { flip_flop_end at i ≤ length table.now }
+        ensures { result ≡ (flip_flop_in table.now at i).value }
+    {
+        table[at + Self::FLIPFLOP_LENGTH * i + 2]
+    }
+
+    pub fn start_mark(table: &[u8], at: usize, i: usize) -> u8
+        requires { flip_flop_end at i ≤ length table.now }
+        ensures { result ≡ (flip_flop_in table.now at i).mark }
+    {
+        table[at + Self::FLIPFLOP_LENGTH * i + 3]
+    }
+
+    // The wires that gate g reads, where the gates begin at a place.
+    pub fn first(table: &[u8], at: usize, g: usize) -> usize
+        requires { gate_end at g ≤ length table.now }
+        ensures { (result ≡ (gate_in table.now at g).first) × (result < 65536) }
+    {
+        word16(table, at + Self::GATE_LENGTH * g)
+    }
+
+    pub fn second(table: &[u8], at: usize, g: usize) -> usize
+        requires { gate_end at g ≤ length table.now }
+        ensures { (result ≡ (gate_in table.now at g).second) × (result < 65536) }
+    {
+        word16(table, at + Self::GATE_LENGTH * g + 2)
+    }
 
     // Refusal 25: the directory, the counts and the section lengths.
     pub fn directory_kept(table: &[u8]) -> bool

@@ -4,7 +4,7 @@ ghost use Rattle.gates_model.specs.Tables.{table_of, mark_at, flip_flop_at, gate
 ghost use Rattle.gates_model.specs.Rules.{DirectoryKeeps};
 ghost use Rattle.gates.specs.Describes.{Describes};
 
-use crate::{Gates, word16};
+use crate::Gates;
 
 #[derive(Clone, Copy)]
 pub struct GateTable<'a> {
@@ -41,7 +41,7 @@ impl GateTable<'_> {
         requires { i < self.now.gates.inputs }
         ensures { result ≡ mark_at (table_of self.now.bytes.now) i }
     {
-        self.bytes[Gates::DIRECTORY_LENGTH + Gates::INPUT_LENGTH * i]
+        Gates::mark(self.bytes, i)
     }
 
     // The fields of flip-flop i.
@@ -49,24 +49,21 @@ impl GateTable<'_> {
         requires { i < self.now.gates.flipflops }
         ensures { (result ≡ (flip_flop_at (table_of self.now.bytes.now) i).next) × (result < 65536) }
     {
-        word16(
-            self.bytes,
-            self.gates.flipflops_at + Gates::FLIPFLOP_LENGTH * i,
-        )
+        Gates::next(self.bytes, self.gates.flipflops_at, i)
     }
 
     pub fn start_value(&self, i: usize) -> u8
         requires { i < self.now.gates.flipflops }
         ensures { result ≡ (flip_flop_at (table_of self.now.bytes.now) i).value }
     {
-        self.bytes[self.gates.flipflops_at + Gates::FLIPFLOP_LENGTH * i + 2]
+        Gates::start_value(self.bytes, self.gates.flipflops_at, i)
     }
 
     pub fn start_mark(&self, i: usize) -> u8
         requires { i < self.now.gates.flipflops }
         ensures { result ≡ (flip_flop_at (table_of self.now.bytes.now) i).mark }
     {
-        self.bytes[self.gates.flipflops_at + Gates::FLIPFLOP_LENGTH * i + 3]
+        Gates::start_mark(self.bytes, self.gates.flipflops_at, i)
     }
 
     // The wires that gate g reads.
@@ -74,13 +71,13 @@ impl GateTable<'_> {
         requires { g < self.now.gates.gates }
         ensures { (result ≡ (gate_at (table_of self.now.bytes.now) g).first) × (result < 65536) }
     {
-        word16(self.bytes, self.gates.gates_at + Gates::GATE_LENGTH * g)
+        Gates::first(self.bytes, self.gates.gates_at, g)
     }
 
     pub fn second(&self, g: usize) -> usize
         requires { g < self.now.gates.gates }
         ensures { (result ≡ (gate_at (table_of self.now.bytes.now) g).second) × (result < 65536) }
     {
-        word16(self.bytes, self.gates.gates_at + Gates::GATE_LENGTH * g + 2)
+        Gates::second(self.bytes, self.gates.gates_at, g)
     }
 }

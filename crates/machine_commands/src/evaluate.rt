@@ -1,6 +1,7 @@
 // The value of an expression, by recursion over parts.
-ghost use Rattle.std.specs.Prelude.{◌≡◌, ◌<◌, ◌≤◌};
+ghost use Rattle.std.specs.Prelude.{◌≡◌, ◌<◌, ◌≤◌, length};
 ghost use Rattle.design.specs.Images.{design_in};
+ghost use Rattle.design.specs.Records.{node_in, node_end};
 ghost use Rattle.model.specs.Kinds.{Operation, operates, expression_kind};
 ghost use Rattle.model.specs.Trees.{expr_of};
 ghost use Rattle.model.specs.Values.{apply as apply_of};
@@ -25,6 +26,14 @@ pub fn named(bound: usize, r: usize) -> usize
         1 => bound / 256,
         _ => 0,
     }
+}
+
+// The register that node n names.
+pub fn item_named(image: &[u8], at: usize, bound: usize, n: usize) -> usize
+    requires { node_end at n ≤ length image.now }
+    ensures { result ≡ named_of (bound_of bound) (node_in image.now at n).item }
+{
+    named(bound, Design::item(image, at, n))
 }
 
 // The operation of a kind, on two values.
@@ -53,7 +62,7 @@ fn leaf_value(image: &Image, registers: &[u8], bound: usize, e: usize) -> u32
 {
     match image.expression_kind(e) {
         1 => {
-            let r = named(bound, image.expression_item(e));
+            let r = item_named(image.bytes, image.design.expressions_at, bound, e);
             word(registers, r)
         }
         _ => image.constant(e),

@@ -6,7 +6,7 @@ ghost use Rattle.model.specs.Machine.{exec};
 ghost use Rattle.design.specs.Images.{design_in};
 ghost use Rattle.machine_commands.specs.Executions.{TransferringIn, PerformingIn, bound_of, executed_as, values_in};
 
-use crate::evaluate::{evaluate, named};
+use crate::evaluate::{evaluate, item_named, named};
 use design::image::Image;
 use design::widths::cut;
 use design::words::put_word;
@@ -60,7 +60,7 @@ pub fn execute(image: &Image, registers: &mut [u8], bound: usize, n: usize) -> O
 {
     match image.command_kind(n) {
         1 => {
-            let r = named(bound, image.command_item(n));
+            let r = item_named(image.bytes, image.design.commands_at, bound, n);
             let v = evaluate(image, registers, bound, image.command_a(n));
             let width = image.register_width(r);
             put_word(registers, r, cut(v, width));
