@@ -28,7 +28,14 @@ fn run_on(
     ensures { left_as result (lends registers.new targets.new) ≡ run_on_of (design_in image.now) (lends registers.old targets.old) count }
 {
     judge(image, &tables.defaults, registers, targets)?;
-    run_sound(image, tables, registers, targets, count)
+    run_sound(
+        image,
+        &tables.defaults,
+        &tables.scopes,
+        registers,
+        targets,
+        count,
+    )
 }
 
 pub fn run(image: &[u8], registers: &mut [u8], targets: &mut [u8], count: u32) -> Answer

@@ -61,18 +61,25 @@ module _ {image : List ℕ} {x : Described} (here : Structured image x) where
   pub expressions_reached : {table : List ℕ} → Ordered (expression_order (design_of image)) table → x.expressions ≤ length table
   expressions_reached ordered = reached expressions_all ordered
 
-  pub commands_below : {table : List ℕ} {room : ℕ} → Ordered (command_order (design_of image)) table → commands_max ≤ room → EachBelow room (take x.commands table)
-  commands_below ordered l = taken_below commands_all ordered (omega (arith, commands_most describes))
+  pub commands_below : {table : List ℕ} {room : ℕ} → Ordered (command_order (design_of image)) table → x.commands ≤ room → EachBelow room (take x.commands table)
+  commands_below ordered l = taken_below commands_all ordered l
 
-  pub expressions_below : {table : List ℕ} {room : ℕ} → Ordered (expression_order (design_of image)) table → expressions_max ≤ room → EachBelow room (take x.expressions table)
-  expressions_below ordered l = taken_below expressions_all ordered (omega (arith, expressions_most describes))
+  pub expressions_below : {table : List ℕ} {room : ℕ} → Ordered (expression_order (design_of image)) table → x.expressions ≤ room → EachBelow room (take x.expressions table)
+  expressions_below ordered l = taken_below expressions_all ordered l
 
-  pub form_tables : {t : Orders}
-      → Ordered (command_order (design_of image)) t.commands
-      → Numbered (take x.commands t.commands) t.command_numbers
-      → Ordered (expression_order (design_of image)) t.expressions
-      → Numbered (take x.expressions t.expressions) t.expression_numbers
-      → FormTables (design_of image) t
+  -- and where there is room for the most
+  pub commands_below_most : {table : List ℕ} {room : ℕ} → Ordered (command_order (design_of image)) table → commands_max ≤ room → EachBelow room (take x.commands table)
+  commands_below_most ordered l = commands_below ordered (omega (arith, commands_most describes))
+
+  pub expressions_below_most : {table : List ℕ} {room : ℕ} → Ordered (expression_order (design_of image)) table → expressions_max ≤ room → EachBelow room (take x.expressions table)
+  expressions_below_most ordered l = expressions_below ordered (omega (arith, expressions_most describes))
+
+  pub form_tables : {commands command_numbers expressions expression_numbers : List ℕ}
+      → Ordered (command_order (design_of image)) commands
+      → Numbered (take x.commands commands) command_numbers
+      → Ordered (expression_order (design_of image)) expressions
+      → Numbered (take x.expressions expressions) expression_numbers
+      → FormTables (design_of image) commands command_numbers expressions expression_numbers
   form_tables commands_ordered commands_numbered expressions_ordered expressions_numbered =
       record {
         commands_ordered = commands_ordered;

@@ -6,10 +6,9 @@ ghost use Rattle.filing_model.specs.Filed.{filed_image};
 ghost use Rattle.filing_model.specs.Order.{comes_before};
 ghost use Rattle.filing_steps.specs.Tables.{FormTablesIn};
 
-use crate::tables::fill;
+use crate::tables::{fill, form_byte};
 use design::Design;
 use design::image::Image;
-use filing_steps::bytes::form_byte;
 use filing_steps::tables::Orders;
 
 // Whether the form of the second image comes before that of the first, with the tables of both.

@@ -8,10 +8,9 @@ ghost use Rattle.filing_steps.specs.Tables.{FormTablesIn};
 ghost use Rattle.filing.specs.Stages.{file_on};
 ghost use Rattle.model.specs.Calls.{left_as};
 
-use crate::tables::fill;
+use crate::tables::{fill, form_byte};
 use design::Design;
 use design::image::Image;
-use filing_steps::bytes::form_byte;
 use filing_steps::tables::Orders;
 use model::{Answer, Refusal};
 

@@ -38,11 +38,11 @@ with_form d t =
     }
 
 -- what they tell
-pub record FormTables (d : Design) (t : Orders) : Type 0 where
-  pub commands_ordered : Ordered (command_order d) t.commands
-  pub commands_numbered : Numbered (command_order d) t.command_numbers
-  pub expressions_ordered : Ordered (expression_order d) t.expressions
-  pub expressions_numbered : Numbered (expression_order d) t.expression_numbers
+pub record FormTables (d : Design) (commands command_numbers expressions expression_numbers : List ℕ) : Type 0 where
+  pub commands_ordered : Ordered (command_order d) commands
+  pub commands_numbered : Numbered (command_order d) command_numbers
+  pub expressions_ordered : Ordered (expression_order d) expressions
+  pub expressions_numbered : Numbered (expression_order d) expression_numbers
 
 abbrev pub FormTablesIn : Image → Orders → Type 0
-FormTablesIn image t = FormTables (design_in image) t
+FormTablesIn image t = FormTables (design_in image) t.commands t.command_numbers t.expressions t.expression_numbers

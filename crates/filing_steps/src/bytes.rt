@@ -7,10 +7,9 @@ ghost use Rattle.model.specs.Rules.{Keeps};
 ghost use Rattle.design.specs.Records.{node_end};
 ghost use Rattle.encoding.specs.Encoding.{word16_bytes, state_bytes, node_bytes};
 ghost use Rattle.filing_model.specs.Filed.{command_order, expression_order, filed, filed_image};
-ghost use Rattle.filing_steps.specs.Tables.{Ordered, Numbered, FormTablesIn};
+ghost use Rattle.filing_steps.specs.Tables.{Ordered, Numbered, FormTables};
 
 use crate::fields::{command_field, expression_field};
-use crate::tables::Orders;
 use design::Design;
 use design::image::Image;
 use encoding::tables::new_number;
@@ -111,10 +110,17 @@ fn front_byte(image: &[u8], i: usize) -> u8
 }
 
 // Byte i of the form. Up to the states it is the image's.
-pub fn form_byte(image: &Image, orders: &Orders, i: usize) -> u8
+pub fn form_byte(
+    image: &Image,
+    commands: &[u16],
+    command_numbers: &[u16],
+    expressions: &[u16],
+    expression_numbers: &[u16],
+    i: usize,
+) -> u8
     requires { Keeps image.now.bytes.now
         × StructuredIn image.now
-        × FormTablesIn image.now orders.now
+        × FormTables (design_in image.now) commands.now command_numbers.now expressions.now expression_numbers.now
         × (i < length image.now.bytes.now) }
     ensures { result ≡ byte_at (filed_image image.now.bytes.now) i }
 {
@@ -122,21 +128,21 @@ pub fn form_byte(image: &Image, orders: &Orders, i: usize) -> u8
         return front_byte(image.bytes, i);
     }
     if i < image.design.commands_at {
-        return state_byte(image, &orders.command_numbers, i - image.design.states_at);
+        return state_byte(image, command_numbers, i - image.design.states_at);
     }
     if i < image.design.expressions_at {
         return command_byte(
             image,
-            &orders.commands,
-            &orders.command_numbers,
-            &orders.expression_numbers,
+            commands,
+            command_numbers,
+            expression_numbers,
             i - image.design.commands_at,
         );
     }
     expression_byte(
         image,
-        &orders.expressions,
-        &orders.expression_numbers,
+        expressions,
+        expression_numbers,
         i - image.design.expressions_at,
     )
 }

@@ -33,7 +33,15 @@ fn run_counted(
     if !has_room(image.design, journal, count) {
         return Err(Refusal::JournalArea.at(0));
     }
-    cycles(image, tables, registers, targets, journal, count);
+    cycles(
+        image,
+        &tables.defaults,
+        &tables.scopes,
+        registers,
+        targets,
+        journal,
+        count,
+    );
     Ok(count as usize)
 }
 

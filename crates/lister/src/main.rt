@@ -93,7 +93,15 @@ fn print_cycle(
     ensures handed_after { handed.new ≡ handed.old + 1 }
 {
     let mut out = [0u8; LINE];
-    let n = next_line(image, tables, registers, targets, done, &mut out);
+    let n = next_line(
+        image,
+        &tables.defaults,
+        &tables.scopes,
+        registers,
+        targets,
+        done,
+        &mut out,
+    );
     print(image.bytes, count, handed, &out, n)
 }
 

@@ -21,6 +21,10 @@ pub record RunningAt (image : List ℕ) (x : Design) (table in_scope registers t
   pub areas : areas_in (design_of image) registers targets ≡ after_cycles (design_of image) done (reset_areas (design_of image))
   pub running : Running image x table in_scope registers targets
 
--- the same, of an `Image` and the tables of a run
+-- the same, of an `Image`
+abbrev pub RunningAtWith : Image → List ℕ → List ℕ → List ℕ → List ℕ → ℕ → Type 0
+RunningAtWith image table in_scope registers targets done = RunningAt image.bytes.now image.design table in_scope registers targets done
+
+-- and with the tables of a run
 abbrev pub RunningAtIn : Image → Tables → List ℕ → List ℕ → ℕ → Type 0
-RunningAtIn image tables registers targets done = RunningAt image.bytes.now image.design tables.defaults tables.scopes registers targets done
+RunningAtIn image tables registers targets done = RunningAtWith image tables.defaults tables.scopes registers targets done

@@ -5,14 +5,13 @@ ghost use Rattle.model.specs.Limits.{word_length, states_max, registers_max};
 ghost use Rattle.model.specs.Values.{words_of};
 ghost use Rattle.model.specs.Listing.{header as header_of, line as line_of, refusal_line as refusal_line_of};
 ghost use Rattle.listing.specs.Texts.{Put};
-ghost use Rattle.listing.specs.Lines.{cycle_line, shown, RunningAtIn};
+ghost use Rattle.listing.specs.Lines.{cycle_line, shown, RunningAtWith};
 
 use crate::fields::{number_field, registers_field, walk_field};
 use crate::texts::put_text;
 use design::Design;
 use design::image::Image;
 use machine::cycle::cycle;
-use machine::tables::Tables;
 use model::Refusal;
 
 // The line above the cycles.
@@ -57,19 +56,20 @@ fn line(
 // Runs the cycle behind those done from reset, and puts its line.
 pub fn next_line(
     image: &Image,
-    tables: &Tables,
+    defaults: &[u8],
+    scopes: &[u8],
     registers: &mut [u8],
     targets: &mut [u8],
     done: u32,
     out: &mut [u8],
 ) -> usize
-    requires { (1421 ≤ length out.old) × (done + 1 < 4294967296) × RunningAtIn image.now tables.now registers.old targets.old done }
+    requires { (1421 ≤ length out.old) × (done + 1 < 4294967296) × RunningAtWith image.now defaults.now scopes.now registers.old targets.old done }
     ensures put { Put out.old 0 (cycle_line (design_in image.now) done) out.new result }
-    ensures running_at { RunningAtIn image.now tables.now registers.new targets.new (done + 1) }
+    ensures running_at { RunningAtWith image.now defaults.now scopes.now registers.new targets.new (done + 1) }
     ensures upper_bound { result ≤ 1421 }
 {
     let mut walk = [0u8; Design::STATES];
-    let states = cycle(image, tables, registers, targets, &mut walk);
+    let states = cycle(image, defaults, scopes, registers, targets, &mut walk);
     line(
         out,
         done + 1,

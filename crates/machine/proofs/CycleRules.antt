@@ -23,7 +23,7 @@ use Rattle.model.proofs.Independence.Relation.{Good}
 use Rattle.model.proofs.Independence.Path.{Live, live_sound, target_live, root_live, run_good}
 use Rattle.design.specs.declared.Design.{Design}
 use Rattle.design.proofs.Laws.{states_count}
-use Rattle.design.proofs.ResetRules.{states_few}
+use Rattle.design.proofs.ResetRules.{states_few, state_fits}
 use Rattle.machine_commands.specs.Executions.{executed_as, values_in}
 use Rattle.machine.specs.Bindings.{Gone}
 use Rattle.machine.specs.Cycles.{Running, Entered, Cycled, areas_in, overwritten}
@@ -226,6 +226,9 @@ module _ {image : List ℕ} {x : Design} {table scopes registers₀ area₀ walk
 
   pub cycling_state : s < x.states
   cycling_state = let count = count_are in let state = c.so.state in omega arith
+
+  pub cycling_fits : s < 256
+  cycling_fits = state_fits c.running.known.describes cycling_state
 
   pub cycling_size : length area ≡ 3 * x.states
   cycling_size = rw c.same c.running.states

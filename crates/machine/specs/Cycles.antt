@@ -52,8 +52,11 @@ pub record Ends (image : List ℕ) (x : Design) (o : Outcome) : Type 0 where
 abbrev pub TablesIn : Image → Tables → Type 0
 TablesIn image tables = Defaults (design_of image.bytes.now) tables.defaults × Scopes (design_of image.bytes.now) tables.scopes
 
+abbrev pub RunningWith : Image → List ℕ → List ℕ → List ℕ → List ℕ → Type 0
+RunningWith image table in_scope registers targets = Running image.bytes.now image.design table in_scope registers targets
+
 abbrev pub RunningIn : Image → Tables → List ℕ → List ℕ → Type 0
-RunningIn image tables registers targets = Running image.bytes.now image.design tables.defaults tables.scopes registers targets
+RunningIn image tables registers targets = RunningWith image tables.defaults tables.scopes registers targets
 
 abbrev pub EnteredIn : Image → List ℕ → List ℕ → List ℕ → ℕ → Type 0
 EnteredIn image in_scope registers targets s = Entered image.bytes.now image.design in_scope registers targets s

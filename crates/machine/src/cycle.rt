@@ -9,10 +9,9 @@ ghost use Rattle.design.specs.Kept.{StatesKept};
 ghost use Rattle.design.specs.Resets.{Defaults};
 ghost use Rattle.machine_commands.specs.Executions.{executed_as, values_in};
 ghost use Rattle.machine.specs.Bindings.{ArgumentsFitIn, Pointed, Gone};
-ghost use Rattle.machine.specs.Cycles.{RunningIn, EnteredIn, EndsIn, Cycled, areas_in};
+ghost use Rattle.machine.specs.Cycles.{RunningWith, EnteredIn, EndsIn, Cycled, areas_in};
 
 use crate::bindings::{bind, bound_to};
-use crate::tables::Tables;
 use crate::targets::go_to;
 use design::Design;
 use design::image::Image;
@@ -50,24 +49,25 @@ fn transfer(image: &Image, defaults: &[u8], area: &mut [u8], t: usize, a: usize,
 // One cycle. The walk is written to the front of its table, and the answer is its length.
 pub fn cycle(
     image: &Image,
-    tables: &Tables,
+    defaults: &[u8],
+    scopes: &[u8],
     registers: &mut [u8],
     area: &mut [u8],
     walk: &mut [u8],
 ) -> usize
-    requires { RunningIn image.now tables.now registers.old area.old × (image.now.design.states ≤ length walk.old) }
+    requires { RunningWith image.now defaults.now scopes.now registers.old area.old × (image.now.design.states ≤ length walk.old) }
     ensures cycled { Cycled (cycle_of (design_in image.now) (areas_in (design_in image.now) registers.old area.old)) (areas_in (design_in image.now) registers.new area.new) walk.old walk.new result }
-    ensures running { RunningIn image.now tables.now registers.new area.new }
+    ensures running { RunningWith image.now defaults.now scopes.now registers.new area.new }
 {
     let mut s = 0;
     for n in 0..image.design.states {
         walk[n] = s as u8;
-        let outcome = body(image, &tables.scopes, registers, area, s);
+        let outcome = body(image, scopes, registers, area, s);
         let Outcome::Transferred(ending) = outcome else {
             return n + 1;
         };
         if let Ending::Goto(t, a, b) = ending {
-            transfer(image, &tables.defaults, area, t, a, b);
+            transfer(image, defaults, area, t, a, b);
             return n + 1;
         }
         s = usize::from(area[s]);
@@ -76,13 +76,20 @@ pub fn cycle(
 }
 
 // So many cycles.
-pub fn cycles(image: &Image, tables: &Tables, registers: &mut [u8], area: &mut [u8], count: u32)
-    requires { RunningIn image.now tables.now registers.old area.old }
+pub fn cycles(
+    image: &Image,
+    defaults: &[u8],
+    scopes: &[u8],
+    registers: &mut [u8],
+    area: &mut [u8],
+    count: u32,
+)
+    requires { RunningWith image.now defaults.now scopes.now registers.old area.old }
     ensures area_after { areas_in (design_in image.now) registers.new area.new ≡ after_cycles (design_in image.now) count (areas_in (design_in image.now) registers.old area.old) }
-    ensures running { RunningIn image.now tables.now registers.new area.new }
+    ensures running { RunningWith image.now defaults.now scopes.now registers.new area.new }
 {
     let mut walk = [0u8; Design::STATES];
     for i in 0..count {
-        cycle(image, tables, registers, area, &mut walk);
+        cycle(image, defaults, scopes, registers, area, &mut walk);
     }
 }

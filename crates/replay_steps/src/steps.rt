@@ -25,7 +25,14 @@ fn run(image: &[u8], prepared: Prepared, registers: &mut [u8], targets: &mut [u8
         bytes: image,
         design: prepared.design,
     };
-    cycles(&image, &prepared.tables, registers, targets, count);
+    cycles(
+        &image,
+        &prepared.tables.defaults,
+        &prepared.tables.scopes,
+        registers,
+        targets,
+        count,
+    );
 }
 
 // From as many cycles as are done to the cycle of a record, and then its value for its port.

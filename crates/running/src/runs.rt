@@ -3,13 +3,12 @@ ghost use Rattle.std.specs.Prelude.{◌≡◌, leb};
 ghost use Rattle.design.specs.Images.{design_in};
 ghost use Rattle.model.specs.Limits.{cycles_max};
 ghost use Rattle.design.specs.Resets.{lends};
-ghost use Rattle.machine.specs.Cycles.{RunningIn};
+ghost use Rattle.machine.specs.Cycles.{RunningWith};
 ghost use Rattle.running.specs.Stages.{run_sound as run_sound_of};
 ghost use Rattle.model.specs.Calls.{left_as};
 
 use design::image::Image;
 use machine::cycle::cycles;
-use machine::tables::Tables;
 use model::{Answer, Refusal};
 
 // The most cycles of a run.
@@ -25,17 +24,18 @@ pub fn count_kept(count: u32) -> bool
 // A run on sound areas.
 pub fn run_sound(
     image: &Image,
-    tables: &Tables,
+    defaults: &[u8],
+    scopes: &[u8],
     registers: &mut [u8],
     targets: &mut [u8],
     count: u32,
 ) -> Answer
-    requires { RunningIn image.now tables.now registers.old targets.old }
+    requires { RunningWith image.now defaults.now scopes.now registers.old targets.old }
     ensures { left_as result (lends registers.new targets.new) ≡ run_sound_of (design_in image.now) (lends registers.old targets.old) count }
 {
     if !count_kept(count) {
         return Err(Refusal::CycleCount.at(0));
     }
-    cycles(image, tables, registers, targets, count);
+    cycles(image, defaults, scopes, registers, targets, count);
     Ok(count as usize)
 }

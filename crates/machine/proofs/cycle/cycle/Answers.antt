@@ -1,9 +1,12 @@
 use borrow.Author.Rules.{rules}
-use Rattle.machine.proofs.CycleRules.{cycling_begins, cycling_entered, cycling_target, cycling_stops, stops_running, cycling_goes, goes_running, cycling_falls, cycling_full, full_running}
+use Rattle.machine.proofs.CycleRules.{cycling_begins, cycling_fits, cycling_entered, cycling_target, cycling_stops, stops_running, cycling_goes, goes_running, cycling_falls, cycling_full, full_running}
 use Rattle.machine.proofs.cycle.cycle.Goals as goal
 
 pub loop-n-init : goal.loop-n-init
 loop-n-init c = search (cycling_begins, rules)
+
+pub overflow_cast-walk : goal.overflow_cast-walk
+overflow_cast-walk c = search (cycling_fits, rules)
 
 pub body-outcome-requires : goal.body-outcome-requires
 body-outcome-requires c = search cycling_entered
