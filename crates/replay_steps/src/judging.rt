@@ -101,9 +101,10 @@ fn judge_in_order(judged: Judging, i: usize, cycle: u32, register: u32, value: u
     requires { (cycle + 1 < 2 ^ 32) × (judged.superseded + 1 < 2 ^ 64) }
     ensures { result ≡ judged_port judged i cycle register value }
 {
-    let answer = judged
-        .answer
-        .and_then(|_| judge_port(judged, i, register, value));
+    if judged.answer.is_err() {
+        return refuse(judged, cycle, judged.answer);
+    }
+    let answer = judge_port(judged, i, register, value);
     if answer.is_err() {
         return refuse(judged, cycle, answer);
     }

@@ -14,3 +14,7 @@ supersede-requires c = (search rules, search (port_within, rules), search rules)
 pub returns : goal.returns
 unfolding judged_port ◌before◌
 returns c = search rules
+
+pub returns-then-is_err-2 : goal.returns-then-is_err-2
+unfolding judged_port ◌before◌
+returns-then-is_err-2 c = search rules
