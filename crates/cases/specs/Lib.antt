@@ -1,2 +1,3 @@
 -- What the contracts of the reader of records cite.
+pub mod Rooms
 pub mod Leaves

@@ -6,7 +6,7 @@ ghost use Rattle.cases.specs.Leaves.{after_call};
 
 use crate::buffer::Buffer;
 use crate::output::{Written, print, print_answer, print_bytes, print_number};
-use crate::{Head, REGISTERS, Step, TARGETS, brought, next};
+use crate::{Head, REGISTERS, Step, TARGETS, bad, brought, next};
 
 pub fn print_areas(registers: &[u8], targets: &[u8]) -> Written {
     print_bytes(b"  registers", registers)?;
@@ -60,6 +60,19 @@ fn call(image: &[u8], registers: &mut [u8], targets: &mut [u8], head: Head) -> W
     }
 }
 
+// Areas of a and b bytes. Both lengths are judged before a byte of either is read.
+fn areas(
+    registers: &mut Buffer<REGISTERS>,
+    targets: &mut Buffer<TARGETS>,
+    a: usize,
+    b: usize,
+) -> Step {
+    if !registers.holds(a) || !targets.holds(b) {
+        return bad();
+    }
+    brought(registers.read(a) && targets.read(b))
+}
+
 // Does what a record of a kind from 2 to 5 says.
 pub fn followed(
     image: &[u8],
@@ -68,7 +81,7 @@ pub fn followed(
     head: Head,
 ) -> Step {
     if head.kind == 2 {
-        return brought(registers.read(head.a as usize) && targets.read(head.b as usize));
+        return areas(registers, targets, head.a as usize, head.b as usize);
     }
     next(call(image, registers.lent_mut(), targets.lent_mut(), head))
 }

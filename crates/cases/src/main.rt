@@ -40,9 +40,8 @@
 // write that failed the program writes one line to standard error, and ends.
 #![tactic(auto)]
 
-ghost use Rattle.std.specs.Prelude.{◌+◌, ◌≡◌};
-ghost use Rattle.model.specs.Limits.{largest_image};
-ghost use Rattle.gates_model.specs.Limits.{largest_table};
+ghost use Rattle.std.specs.Prelude.{◌≡◌};
+ghost use Rattle.cases.specs.Rooms.{image_room, registers_room, targets_room, table_room, flipflops_room, journal_room};
 
 mod area_records;
 mod buffer;
@@ -74,9 +73,15 @@ const FLIPFLOPS: usize = 520;
 
 const JOURNAL: usize = 1024;
 
-// An image and a gate table that are one byte too long still come to the calls, which refuse them.
+// Each buffer has the room that its record may take. An image and a gate table that are one byte too long still
+// come to the calls, which refuse them.
 fn rooms()
-    ensures { (IMAGE ≡ largest_image + 1) × (TABLE ≡ largest_table + 1) }
+    ensures image { IMAGE ≡ image_room }
+    ensures registers { REGISTERS ≡ registers_room }
+    ensures targets { TARGETS ≡ targets_room }
+    ensures table { TABLE ≡ table_room }
+    ensures flipflops { FLIPFLOPS ≡ flipflops_room }
+    ensures journal { JOURNAL ≡ journal_room }
 {}
 
 // The head of a record.
