@@ -61,39 +61,35 @@ fn judge_port(judged: Judging, i: usize, register: u32, value: u32) -> Answer
 }
 
 // A record in its order that names a port and fits it.
-fn supersede(judged: Judging, cycle: u32, register: usize) -> Judging
+fn supersede(mut judged: Judging, cycle: u32, register: usize) -> Judging
     requires { (cycle + 1 < 2 ^ 32) × (register < 64) × (judged.superseded + 1 < 2 ^ 64) }
     ensures { result ≡ superseding judged cycle register }
 {
-    let mut next = judged;
-    next.last[register] = cycle + 1;
-    next.previous = cycle;
-    if judged.last[register] == cycle + 1 {
-        next.superseded = judged.superseded + 1;
-        return next;
+    let before = judged.last[register];
+    judged.last[register] = cycle + 1;
+    judged.previous = cycle;
+    if before == cycle + 1 {
+        judged.superseded += 1;
+        return judged;
     }
-    next
+    judged
 }
 
 // A record in its order, behind one that 13 or 17 refuses or refused by them itself.
-fn refuse(judged: Judging, cycle: u32, answer: Answer) -> Judging
+fn refuse(mut judged: Judging, cycle: u32, answer: Answer) -> Judging
     ensures { result ≡ answering judged cycle answer }
 {
-    Judging {
-        previous: cycle,
-        answer,
-        ..judged
-    }
+    judged.previous = cycle;
+    judged.answer = answer;
+    judged
 }
 
 // Record i is out of its order.
-fn refuse_order(judged: Judging, i: usize) -> Judging
+fn refuse_order(mut judged: Judging, i: usize) -> Judging
     ensures { result ≡ unordered_at judged i }
 {
-    Judging {
-        unordered: Some(i),
-        ..judged
-    }
+    judged.unordered = Some(i);
+    judged
 }
 
 // A record in its order.

@@ -81,22 +81,21 @@ fn prepare_on(image: &Image, registers: &[u8], targets: &[u8], count: u32) -> Pr
     requires { Keeps image.now.bytes.now × (length registers.now ≡ word_length * image.now.design.registers) × (length targets.now ≡ target_length * image.now.design.states) }
     ensures { PreparingOn image.now.bytes.now (lends registers.now targets.now) count result }
 {
-    let tables = Tables::of(image);
-    if let Err(why) = judge(image, &tables.defaults, registers, targets) {
+    let mut prepared = Prepared {
+        answer: Ok(count as usize),
+        count,
+        design: image.design,
+        tables: Tables::of(image),
+        largest: [0u32; Design::REGISTERS],
+    };
+    if let Err(why) = judge(image, &prepared.tables.defaults, registers, targets) {
         return refused(why, count);
     }
     if !count_kept(count) {
         return refused(Refusal::CycleCount.at(0), count);
     }
-    let mut largest = [0u32; Design::REGISTERS];
-    largest_values(image, &mut largest);
-    Prepared {
-        answer: Ok(count as usize),
-        count,
-        design: image.design,
-        tables,
-        largest,
-    }
+    largest_values(image, &mut prepared.largest);
+    prepared
 }
 
 // On an image that keeps the rules.

@@ -2,9 +2,9 @@ use Rattle.replay_steps.specs.Judging.{superseding}
 use borrow.Author.Rules.{rules}
 use Rattle.replay_steps.proofs.judging.supersede.Goals as goal
 
-pub returns-then-judged-register : goal.returns-then-judged-register
+pub returns-then-before-cycle : goal.returns-then-before-cycle
 unfolding superseding
-returns-then-judged-register c = search rules
+returns-then-before-cycle c = search rules
 
 pub returns : goal.returns
 unfolding superseding
