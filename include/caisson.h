@@ -495,7 +495,7 @@ caisson_answer caisson_run(const uint8_t *image, size_t image_len,
  *
  * Whether it is refused is known before the first cycle, so that a refusal changes nothing, whichever record
  * it is of. Time is linear in the cycles and the records together, however many of these one cycle has. The
- * call takes some 2,100 bytes of stack more than caisson_run, measured as above. No journal is kept. Refusals:
+ * call takes some 2,000 bytes of stack more than caisson_run, measured as above. No journal is kept. Refusals:
  * those of caisson_run in their order, 15 last; then 23 at the lowest record whose cycle is below that of the
  * record before it, or not below `cycles`; then 13 and 17 in one pass, at the lowest record that names no port
  * (13), or whose value is too large for its port (17). The place of all three is the number of the record,
@@ -582,7 +582,7 @@ caisson_answer caisson_step_back(const uint8_t *image, size_t image_len,
  * image and does not overlap it. What it held before does not matter: on acceptance every byte of it is
  * written, on a refusal none. The call goes over the bodies at most CAISSON_REGISTERS * CAISSON_LABELS =
  * 1,024 times, again only where some label has risen, which on most designs is a few times. It takes
- * about as much stack as caisson_check, measured: 7,880 bytes on the lease design and 14,080 on the
+ * about as much stack as caisson_check, measured: 7,664 bytes on the lease design and 11,568 on the
  * deepest one. Refusals: the image checks 1 to 8, 16, 19 and 9, then 20, then 14 for the length of `out`,
  * then 18, all three with place 0.
  */
@@ -745,7 +745,7 @@ caisson_answer caisson_gates_reset(const uint8_t *table, size_t table_len,
  * `inputs` has one value byte for each input of the table, and the marks of the inputs are never lent.
  * A value is 0 or 1, a mark CAISSON_TRUSTED or CAISSON_UNTRUSTED, else the wire is refused by 26, inputs
  * before flip-flops. Time is linear in the table. The values and marks of all wires lie on the call's own
- * stack: it takes 4,768 bytes of it, measured as above. Refusals: 25, then 26 for the table,
+ * stack: it takes 4,760 bytes of it, measured as above. Refusals: 25, then 26 for the table,
  * then 14 for the length of `inputs` or of the area, then 26 for the lent bytes.
  */
 CAISSON_LOOK_AT_ANSWER
